@@ -9,4 +9,3 @@ pub mod BackLawLemmas
 pub mod TogetherLawLemmas
 pub mod MixLawLemmas
 pub mod AbsentLawLemmas
-pub mod LawUses

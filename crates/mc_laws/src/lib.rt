@@ -6,12 +6,10 @@
 //! lost. Each is the contract of a function that does nothing; none is cited by the code of another
 //! crate, so no program waits for their proofs.
 //!
-//! Begin with `specs/Laws.antt` and `src/laws.rt`; `src/law_tests.rt` tells the laws of callers that
-//! meet.
+//! Begin with `specs/Laws.antt` and `src/laws.rt`; the tests (`mc_shared_tests`) tell the laws of callers
+//! that meet.
 #![tactic(auto)]
 
-#[cfg(test)]
-mod law_tests;
 mod laws;
 
 pub use laws::{

@@ -1,10 +1,9 @@
 //! Joins to items of several pages, which are copied when the desk is given back.
 
-use crate::tests::Trial;
+use crate::trial::Trial;
 use mc_command::Verb;
 use mc_rows::{Ask, Row, Want, filled_block, first_unlike, set};
 use mc_shelf::Settings;
-use std::process::Abort;
 use std::test::*;
 
 /// A store of few pages, whose items may take eight.

@@ -1,8 +1,10 @@
 //! Replies that are told, as one caller hears them. If an allocation is refused it asks again.
 
-use crate::tests::{LARGE, Trial};
+use crate::stores::{LARGE, SOME, shared_store};
 use mc_command::{Answer, Block, Bytes, KeyStep, Reply, StepFault, Steps, Unanswered, Verb};
+use mc_hop::Fnv;
 use mc_rows::{Ask, Row, Want, filled_block, first_unlike, set, step_of};
+use mc_shared::{Asking, NoGate};
 use mc_time::Moment;
 use std::alloc::{AllocError, Global};
 use std::marker::Model;
@@ -79,10 +81,10 @@ impl Answer for Deaf {
     }
 }
 
-/// A store whose one caller hears its replies. Contracts see which store it is.
+/// A caller that hears its replies. Contracts see whose it is.
 #[derive(Drop)]
 struct Heard<'a, R: Wait> {
-    trial: Trial<'a, R>,
+    asking: Asking<'a, R, Fnv, NoGate>,
 }
 
 impl<'a, R: Wait> Model for Heard<'a, R> {
@@ -92,7 +94,7 @@ impl<'a, R: Wait> Model for Heard<'a, R> {
 
     ghost coded = { table_id_coded };
 
-    ghost view = { λ h. h.trial };
+    ghost view = { λ h. h.asking.table };
 }
 
 impl<'a, R: Wait> Steps for Heard<'a, R> {
@@ -108,7 +110,7 @@ impl<'a, R: Wait> Steps for Heard<'a, R> {
 
     fn step(&mut self, alloc: Global, step: &KeyStep<'_>, now: Moment) -> Result<Reply, StepFault> {
         let mut keeper = Keeper { alloc, kept: None };
-        match self.trial.tell(alloc, step, now, &mut keeper) {
+        match self.asking.step_telling(alloc, step, now, &mut keeper) {
             Ok(()) => Ok(keeper.kept.unwrap_or(Reply::Exists)),
             Err(Unanswered::NumbersSpent) => Err(StepFault::NumbersSpent),
             Err(Unanswered::NoMemory | Unanswered::Untold) => Err(StepFault::NoMemory),
@@ -119,8 +121,9 @@ impl<'a, R: Wait> Steps for Heard<'a, R> {
 #[test]
 fn replies_are_told_as_they_are_given(rt: HostRuntime) -> Result<(), Fail> {
     let alloc = rt.alloc();
+    let (shared, caller) = shared_store(alloc, SOME)?;
     let mut heard = Heard {
-        trial: Trial::open(&rt, alloc)?,
+        asking: Asking::new(&rt, &shared, caller, &NoGate),
     };
     let rows: &[Row<'_>] = &[
         (1000, b"a", Ask::Get, Want::Hit(1, b"x")),
@@ -142,7 +145,7 @@ fn replies_are_told_as_they_are_given(rt: HostRuntime) -> Result<(), Fail> {
 
 /// Names what came of a step that nobody heard.
 fn unheard<R: Wait>(
-    trial: &mut Trial<'_, R>,
+    asking: &mut Asking<'_, R, Fnv, NoGate>,
     alloc: Global,
     key: &[u8],
     ask: Ask<'_>,
@@ -152,7 +155,7 @@ fn unheard<R: Wait>(
     }
     let step = step_of(key, ask);
     let now = Moment::from_seconds_at_most(1000);
-    match trial.tell(alloc, &step, now, &mut Deaf) {
+    match asking.step_telling(alloc, &step, now, &mut Deaf) {
         Ok(()) => "told",
         Err(Unanswered::NoMemory) => "not taken",
         Err(Unanswered::NumbersSpent) => "numbers spent",
@@ -165,18 +168,19 @@ fn unheard<R: Wait>(
 #[test]
 fn a_hit_that_is_not_heard_is_not_taken(rt: HostRuntime) -> Result<(), Fail> {
     let alloc = rt.alloc();
-    let mut trial = Trial::open(&rt, alloc)?;
-    assert_eq!(rt; unheard(&mut trial, alloc, b"k", Ask::Gat(10)), "not taken");
-    assert_eq!(rt; unheard(&mut trial, alloc, b"zz", Ask::Gat(10)), "taken");
+    let (shared, caller) = shared_store(alloc, SOME)?;
+    let mut asking = Asking::new(&rt, &shared, caller, &NoGate);
+    assert_eq!(rt; unheard(&mut asking, alloc, b"k", Ask::Gat(10)), "not taken");
+    assert_eq!(rt; unheard(&mut asking, alloc, b"zz", Ask::Gat(10)), "taken");
     let set = Ask::Store(Verb::Set, 0, b"z");
-    let first = unheard(&mut trial, alloc, b"a", set);
-    let taken = first == "taken" || unheard(&mut trial, alloc, b"a", set) == "taken";
+    let first = unheard(&mut asking, alloc, b"a", set);
+    let taken = first == "taken" || unheard(&mut asking, alloc, b"a", set) == "taken";
     assert!(rt; taken);
     let rows: &[Row<'_>] = &[
         (1010, b"k", Ask::Get, Want::Hit(2, b"y")),
         (1010, b"a", Ask::Get, Want::Hit(3, b"z")),
     ];
-    assert_eq!(rt; first_unlike(&mut trial, alloc, rows)?, None);
+    assert_eq!(rt; first_unlike(&mut asking, alloc, rows)?, None);
     Ok(())
 }
 
@@ -226,8 +230,9 @@ fn large_block(alloc: Global) -> Result<Vec<u8>, AllocError> {
 fn an_item_of_several_pages_is_told_where_it_lies(rt: HostRuntime) -> Result<(), Fail> {
     let alloc = rt.alloc();
     let block = large_block(alloc)?;
+    let (shared, caller) = shared_store(alloc, LARGE)?;
     let mut heard = Heard {
-        trial: Trial::open_so(&rt, alloc, LARGE)?,
+        asking: Asking::new(&rt, &shared, caller, &NoGate),
     };
     let rows: &[Row<'_>] = &[
         set(1000, b"a", 0, block.as_slice(), "stored"),
@@ -238,7 +243,7 @@ fn an_item_of_several_pages_is_told_where_it_lies(rt: HostRuntime) -> Result<(),
     let mut counter = Counter { parts: 0, bytes: 0 };
     let step = step_of(b"a", Ask::Gat(20));
     let now = Moment::from_seconds_at_most(1009);
-    let told = heard.trial.tell(alloc, &step, now, &mut counter);
+    let told = heard.asking.step_telling(alloc, &step, now, &mut counter);
     assert!(rt; told.is_ok());
     assert_eq!(rt; (counter.parts, counter.bytes), (3, 2_500_000));
     Ok(())

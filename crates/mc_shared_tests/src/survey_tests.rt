@@ -2,12 +2,12 @@
 
 ghost use Rattle.std.specs.Prelude.{◌≡◌};
 
-use crate::absent_tests::{Act, Row, Sole};
-use crate::store::{Caller, Shared};
-use crate::tests::{MANY, ONE, SOME};
+use crate::sole::{Act, Row, Sole};
+use crate::stores::{MANY, ONE, SOME};
 use mc_command::Verb;
 use mc_hop::Fnv;
 use mc_rows::{Ask, filled_block};
+use mc_shared::{Caller, Shared};
 use mc_shelf::{Settings, ShelfCounts};
 use mc_slab::{Account, Class, class_of};
 use std::alloc::Global;

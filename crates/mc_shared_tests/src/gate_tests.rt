@@ -1,9 +1,11 @@
 //! How often a gate is called: once while a step's shelf is held, and never by what holds none.
 
-use crate::patience::{Gate, Waiting};
-use crate::tests::Trial;
-use mc_command::{Answer, Bytes, KeyStep, Reply, Verb};
+use crate::stores::{SOME, shared_store};
+use crate::trial::Trial;
+use mc_command::{Answer, Bytes, Reply, Steps, Verb};
+use mc_hop::Fnv;
 use mc_rows::{Ask, step_of};
+use mc_shared::{Asking, Gate};
 use mc_time::Moment;
 use std::alloc::{AllocError, Global};
 use std::sync::Wait;
@@ -55,25 +57,20 @@ fn calls_of_step<R: Wait>(
     calls.load(Ordering::SeqCst)
 }
 
-/// Counts the calls of a gate while a step at a second has its reply told.
+/// Counts the calls of a caller's gate while a step at a second has its reply told.
 fn calls_of_telling<R: Wait>(
-    trial: &mut Trial<'_, R>,
+    asking: &mut Asking<'_, R, Fnv, CallCount<'_>>,
     alloc: Global,
+    calls: &AtomicU64,
     (second, key, ask): (u64, &[u8], Ask<'_>),
 ) -> u64 {
     if key.len() > 250 {
         return u64::MAX;
     }
-    let calls = AtomicU64::new(0);
-    let gate = CallCount { calls: &calls };
-    let now = Moment::from_seconds_at_most(second);
-    let Trial { rt, shared, caller } = trial;
-    let patience = Waiting {
-        rt: *rt,
-        gate: &gate,
-    };
+    calls.store(0, Ordering::SeqCst);
     let step = step_of(key, ask);
-    let _ = shared.step_telling(&patience, alloc, caller, &step, now, &mut Listener);
+    let now = Moment::from_seconds_at_most(second);
+    let _ = asking.step_telling(alloc, &step, now, &mut Listener);
     calls.load(Ordering::SeqCst)
 }
 
@@ -105,12 +102,15 @@ fn a_gate_is_called_once_a_step(rt: HostRuntime) -> Result<(), Fail> {
 #[test]
 fn a_gate_is_called_once_a_telling(rt: HostRuntime) -> Result<(), Fail> {
     let alloc = rt.alloc();
-    let mut trial = Trial::open(&rt, alloc)?;
+    let calls = AtomicU64::new(0);
+    let gate = CallCount { calls: &calls };
+    let (shared, caller) = shared_store(alloc, SOME)?;
+    let mut asking = Asking::new(&rt, &shared, caller, &gate);
     for step in STEPS {
-        assert_eq!(rt; calls_of_telling(&mut trial, alloc, step), 1);
+        assert_eq!(rt; calls_of_telling(&mut asking, alloc, &calls, step), 1);
     }
     assert_eq!(rt;
-        calls_of_telling(&mut trial, alloc, (1010, b"none", Ask::Get)),
+        calls_of_telling(&mut asking, alloc, &calls, (1010, b"none", Ask::Get)),
         0
     );
     Ok(())

@@ -1,7 +1,7 @@
 //! Which keys one caller is told to be absent, after steps, purges and flushes. If an allocation is
 //! refused it asks again.
 
-use crate::tests::Trial;
+use crate::trial::Trial;
 use mc_command::Verb;
 use mc_rows::{Ask, ask_step, step_of, told_of};
 use mc_time::Moment;

@@ -1,7 +1,7 @@
 //! Items that a flush lays aside: their chunks are free at once, and a page goes to a class only if
 //! too few are. If an allocation is refused the steps are asked again.
 
-use crate::tests::Trial;
+use crate::trial::Trial;
 use mc_rows::{Ask, Row, Want, filled_block, first_unlike, set};
 use mc_shelf::Settings;
 use std::test::*;

@@ -1,0 +1,36 @@
+//! Tests of the store for many threads (`mc_shared`) and of its laws (`mc_laws`). No program uses it.
+//!
+//! They are a crate of their own, as a crate with tests is proved a second time with them.
+//!
+//! Stores are set up by `src/stores.rt`. A store with its one caller is one value, so that tests need no
+//! clauses: a `Trial` (`src/trial.rt`) takes steps as every store does, and a `Sole` (`src/sole.rt`) is
+//! asked by rows which keys are absent.
+#![tactic(auto)]
+
+#[cfg(test)]
+mod absent_tests;
+#[cfg(test)]
+mod busy_tests;
+#[cfg(test)]
+mod flush_tests;
+#[cfg(test)]
+mod gate_tests;
+#[cfg(test)]
+mod growth_tests;
+#[cfg(test)]
+mod join_tests;
+#[cfg(test)]
+mod law_tests;
+#[cfg(test)]
+mod presence_tests;
+mod sole;
+#[cfg(test)]
+mod step_tests;
+mod stores;
+#[cfg(test)]
+mod survey_tests;
+#[cfg(test)]
+mod telling_tests;
+#[cfg(test)]
+mod thread_tests;
+mod trial;

@@ -1,0 +1,311 @@
+//! Callers of one store in two threads. If an allocation is refused they ask again.
+
+ghost use Rattle.std.specs.Prelude.{◌≡◌};
+
+use crate::stores::{SOME, closed, empty_store, shared_store, stepped};
+use mc_command::{Reply, StepFault, Verb};
+use mc_hop::{Constant, Fnv, KeyHash};
+use mc_rows::{Ask, ask_step, filled_block, step_of, told_of};
+use mc_shared::{Caller, Shared};
+use mc_shelf::Settings;
+use mc_time::Moment;
+use std::alloc::Global;
+use std::sync::Wait;
+use std::test::*;
+use std::thread;
+use std::thread::Threads;
+
+/// What a caller does in a thread of its own.
+#[derive(Clone, Copy)]
+enum Errand {
+    /// It reads `a` and `k` in turn, 1000 times each.
+    Reads,
+    /// It sets this key to 600000 bytes.
+    Sets(u8),
+    /// It sets 150 keys, from this number on each second, and deletes those of each third number.
+    Keys(u16),
+}
+
+/// What came of it.
+#[derive(Clone, Copy, Debug, PartialEq, Eq)]
+enum Came {
+    Hits(u32),
+    Stored,
+    NoChunk,
+    /// So many were stored, and so many deleted.
+    Keys(u32, u32),
+    Other,
+}
+
+/// Reads `a` and `k` in turn, 1000 times each, and counts the hits.
+fn reads<R: Wait, K: KeyHash + Drop>(
+    rt: &R,
+    shared: &Shared<K>,
+    alloc: Global,
+    caller: Caller,
+) -> (Caller, u32)
+    requires { caller.table ≡ shared.now.table }
+    ensures { result.0.table ≡ shared.now.table }
+{
+    let mut caller = caller;
+    let mut hits = 0u32;
+    let now = Moment::from_seconds_at_most(1000);
+    for turn in 0..2000u32 {
+        let key: &[u8] = if turn % 2 == 0 { b"a" } else { b"k" };
+        let read = step_of(key, Ask::Get);
+        if told_of(&stepped(rt, shared, alloc, &mut caller, &read, now)) == "hit" {
+            hits = hits.wrapping_add(1);
+        }
+    }
+    (caller, hits)
+}
+
+/// Sets a key to 600000 bytes.
+fn sets<R: Wait, K: KeyHash + Drop>(
+    rt: &R,
+    shared: &Shared<K>,
+    alloc: Global,
+    caller: &mut Caller,
+    key: u8,
+) -> Came
+    requires { caller.old.table ≡ shared.now.table }
+    ensures { caller.new.table ≡ caller.old.table }
+{
+    let Ok(block) = filled_block(alloc, 600000) else {
+        return Came::Other;
+    };
+    let key = [key];
+    let set = step_of(&key, Ask::Store(Verb::Set, 0, block.as_slice()));
+    let now = Moment::from_seconds_at_most(1000);
+    match stepped(rt, shared, alloc, caller, &set, now) {
+        Ok(Reply::Stored) => Came::Stored,
+        Ok(Reply::NoChunk) => Came::NoChunk,
+        _ => Came::Other,
+    }
+}
+
+/// What is done with each of some keys.
+#[derive(Clone, Copy)]
+enum Doing {
+    Set,
+    Delete,
+    Get,
+}
+
+/// So many numbers of keys, from the first on in steps of so many.
+#[derive(Clone, Copy)]
+struct Numbers {
+    first: u16,
+    apart: u16,
+    count: u16,
+}
+
+/// The three digits of a number below 1000.
+fn digits_of(number: u16) -> [u8; 3] {
+    [
+        (number / 100 % 10) as u8 + b'0',
+        (number / 10 % 10) as u8 + b'0',
+        (number % 10) as u8 + b'0',
+    ]
+}
+
+/// Returns whether a step on the key of a number was answered as it should be. A key of each third
+/// number was deleted, and each other has its digits.
+fn is_right(doing: Doing, number: u16, taken: &Result<Reply, StepFault>) -> bool {
+    match (doing, taken) {
+        (Doing::Set, Ok(Reply::Stored)) => true,
+        (Doing::Delete, Ok(Reply::Deleted)) => true,
+        (Doing::Get, Ok(Reply::Miss)) => number % 3 == 0,
+        (Doing::Get, Ok(Reply::Hit { block, .. })) => {
+            number % 3 != 0 && block.bytes() == digits_of(number).as_slice()
+        }
+        _ => false,
+    }
+}
+
+/// Does this with the key of a number, `k` and its digits, and returns whether it was answered as
+/// it should be.
+fn does<R: Wait, K: KeyHash + Drop>(
+    rt: &R,
+    shared: &Shared<K>,
+    alloc: Global,
+    caller: &mut Caller,
+    doing: Doing,
+    number: u16,
+) -> bool
+    requires { caller.old.table ≡ shared.now.table }
+    ensures { caller.new.table ≡ caller.old.table }
+{
+    let digits = digits_of(number);
+    let key = [b'k', digits[0], digits[1], digits[2]];
+    let ask = match doing {
+        Doing::Set => Ask::Store(Verb::Set, 0, &digits),
+        Doing::Delete => Ask::Delete,
+        Doing::Get => Ask::Get,
+    };
+    let step = step_of(&key, ask);
+    let now = Moment::from_seconds_at_most(1000);
+    let taken = stepped(rt, shared, alloc, caller, &step, now);
+    let _ = shared.grow(rt, caller, shared.shelf_of(&key), 8);
+    is_right(doing, number, &taken)
+}
+
+/// Does this with the keys of these numbers one after another, asks for growth after each, and counts those that were answered as
+/// they should be.
+fn done<R: Wait, K: KeyHash + Drop>(
+    rt: &R,
+    shared: &Shared<K>,
+    alloc: Global,
+    caller: Caller,
+    doing: Doing,
+    numbers: Numbers,
+) -> (Caller, u32)
+    requires { caller.table ≡ shared.now.table }
+    ensures { result.0.table ≡ shared.now.table }
+{
+    let mut caller = caller;
+    let mut right = 0u32;
+    let mut number = numbers.first;
+    for _turn in 0..numbers.count {
+        if does(rt, shared, alloc, &mut caller, doing, number) {
+            right = right.wrapping_add(1);
+        }
+        number = number.wrapping_add(numbers.apart);
+    }
+    (caller, right)
+}
+
+/// Sets 150 keys, from this number on each second, and deletes those of each third number.
+fn keys<R: Wait, K: KeyHash + Drop>(
+    rt: &R,
+    shared: &Shared<K>,
+    alloc: Global,
+    caller: Caller,
+    first: u16,
+) -> (Caller, Came)
+    requires { caller.table ≡ shared.now.table }
+    ensures { result.0.table ≡ shared.now.table }
+{
+    let all = Numbers {
+        first,
+        apart: 2,
+        count: 150,
+    };
+    let thirds = Numbers {
+        first: first.wrapping_mul(3),
+        apart: 6,
+        count: 50,
+    };
+    let (caller, stored) = done(rt, shared, alloc, caller, Doing::Set, all);
+    let (caller, deleted) = done(rt, shared, alloc, caller, Doing::Delete, thirds);
+    (caller, Came::Keys(stored, deleted))
+}
+
+/// A caller goes on its errand.
+fn goes<R: Wait, K: KeyHash + Drop>(
+    rt: &R,
+    shared: &Shared<K>,
+    alloc: Global,
+    caller: Caller,
+    errand: Errand,
+) -> (Caller, Came)
+    requires { caller.table ≡ shared.now.table }
+    ensures { result.0.table ≡ shared.now.table }
+{
+    match errand {
+        Errand::Reads => {
+            let (caller, hits) = reads(rt, shared, alloc, caller);
+            (caller, Came::Hits(hits))
+        }
+        Errand::Sets(key) => {
+            let mut caller = caller;
+            let came = sets(rt, shared, alloc, &mut caller, key);
+            (caller, came)
+        }
+        Errand::Keys(first) => keys(rt, shared, alloc, caller, first),
+    }
+}
+
+/// Two callers go on their errands, each in a thread of its own. The second goes on with what both know.
+fn both<R: Threads + Wait + Sync, K: KeyHash + Drop + Sync>(
+    rt: &R,
+    shared: &Shared<K>,
+    alloc: Global,
+    me: Caller,
+    errands: (Errand, Errand),
+) -> (Caller, (Came, Came))
+    requires { me.table ≡ shared.now.table }
+    ensures { result.0.table ≡ shared.now.table }
+{
+    let mut me = me;
+    let other = shared.caller(&mut me);
+    let (mine, theirs) = thread::join(
+        rt,
+        || -> (Caller, Came)
+            requires { me.table ≡ shared.now.table }
+            ensures { result.0.table ≡ shared.entry.now.table }
+        { goes(rt, shared, alloc, me, errands.0) },
+        || -> (Caller, Came)
+            requires { other.table ≡ shared.now.table }
+            ensures { result.0.table ≡ shared.entry.now.table }
+        { goes(rt, shared, alloc, other, errands.1) },
+    );
+    let (me, first) = mine;
+    let (mut other, second) = theirs;
+    shared.join(&mut other, me);
+    (other, (first, second))
+}
+
+#[test]
+fn two_threads_read_at_once(rt: HostRuntime) -> Result<(), Fail> {
+    let alloc = rt.alloc();
+    let (shared, me) = shared_store(alloc, SOME)?;
+    let (_, came) = both(&rt, &shared, alloc, me, (Errand::Reads, Errand::Reads));
+    assert_eq!(rt; came, (Came::Hits(2000), Came::Hits(2000)));
+    Ok(())
+}
+
+#[test]
+fn one_of_two_sets_gets_the_one_page(rt: HostRuntime) -> Result<(), Fail> {
+    let alloc = rt.alloc();
+    let small = Settings {
+        pages: 1,
+        greatest: Settings::GREATEST,
+        shelves: 64,
+    };
+    let (shared, me) = empty_store(alloc, small, Fnv)?;
+    let errands = (Errand::Sets(b'b'), Errand::Sets(b'c'));
+    let (me, came) = both(&rt, &shared, alloc, me, errands);
+    let Some(mut store) = closed(shared, alloc, me) else {
+        panic!(rt; "a bay is held")
+    };
+    let now = Moment::from_seconds_at_most(1000);
+    let b = told_of(&ask_step(&mut store, alloc, &step_of(b"b", Ask::Get), now));
+    let c = told_of(&ask_step(&mut store, alloc, &step_of(b"c", Ask::Get), now));
+    let held = match came {
+        (Came::Stored, Came::NoChunk) => ("hit", "miss"),
+        (Came::NoChunk, Came::Stored) => ("miss", "hit"),
+        _ => ("neither", "neither"),
+    };
+    assert_eq!(rt; (b, c), held);
+    Ok(())
+}
+
+/// The keys `k001` to `k300`, which have one hash, are set by two threads at once, and each third is deleted. What one of them
+/// wrote the other's caller reads, once they are joined.
+#[test]
+fn two_threads_use_three_hundred_keys_of_one_hash(rt: HostRuntime) -> Result<(), Fail> {
+    let alloc = rt.alloc();
+    let (shared, me) = empty_store(alloc, SOME, Constant(0))?;
+    let errands = (Errand::Keys(1), Errand::Keys(2));
+    let (other, came) = both(&rt, &shared, alloc, me, errands);
+    assert_eq!(rt; came, (Came::Keys(150, 50), Came::Keys(150, 50)));
+    let all = Numbers {
+        first: 1,
+        apart: 1,
+        count: 300,
+    };
+    let (_, right) = done(&rt, &shared, alloc, other, Doing::Get, all);
+    assert_eq!(rt; right, 300);
+    Ok(())
+}
