@@ -44,7 +44,7 @@ fn deaths_are_told(
     alloc: Global,
     settings: Settings,
 ) -> Result<(), Fail> {
-    let mut sole = Sole::open(rt, alloc, settings, (Fnv, Fnv))?;
+    let mut sole = Sole::open(rt, alloc, settings, Fnv)?;
     assert_eq!(rt; sole.first_untold(alloc, &DEATHS), None);
     Ok(())
 }
@@ -61,7 +61,7 @@ fn a_key_is_absent_before_it_is_set_and_when_it_is_gone(rt: HostRuntime) -> Resu
 #[test]
 fn a_key_of_the_number_of_another_is_not_absent(rt: HostRuntime) -> Result<(), Fail> {
     let alloc = rt.alloc();
-    let mut sole = Sole::open(&rt, alloc, SOME, (Constant(0), Constant(0)))?;
+    let mut sole = Sole::open(&rt, alloc, SOME, Constant(0))?;
     assert_eq!(rt; sole.first_untold(alloc, &ONE_NUMBER), None);
     Ok(())
 }
@@ -74,7 +74,7 @@ fn a_key_that_finds_no_chunk_is_absent(rt: HostRuntime) -> Result<(), Fail> {
         greatest: Settings::GREATEST,
         shelves: 64,
     };
-    let mut sole = Sole::open(&rt, alloc, small, (Fnv, Fnv))?;
+    let mut sole = Sole::open(&rt, alloc, small, Fnv)?;
     let block = match filled_block(alloc, 600000) {
         Err(_) => filled_block(alloc, 600000)?,
         Ok(block) => block,

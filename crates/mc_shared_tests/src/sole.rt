@@ -1,6 +1,7 @@
 //! A store that begins empty, with its one caller, and rows of what the caller is told. If an allocation
 //! is refused it asks again.
 
+use crate::stores::empty_store;
 use mc_command::{Reply, StepFault, Verb};
 use mc_hop::KeyHash;
 use mc_rows::{Ask, step_of, told_of};
@@ -46,22 +47,20 @@ impl<'a, R: Wait, K: KeyHash + Drop> Model for Sole<'a, R, K> {
     ghost invariant = { λ t. t.caller.table ≡ t.shared.table };
 }
 
-impl<'a, R: Wait, K: KeyHash + Drop> Sole<'a, R, K> {
-    /// Makes an empty store that is set up so, with the second hasher if memory is refused.
+impl<'a, R: Wait, K: KeyHash + Drop + Copy> Sole<'a, R, K> {
+    /// Makes an empty store that is set up so.
     pub(crate) fn open(
         rt: &'a R,
         alloc: Global,
         settings: Settings,
-        hashers: (K, K),
+        hasher: K,
     ) -> Result<Sole<'a, R, K>, AllocError> {
-        let (hasher, again) = hashers;
-        let (shared, caller) = match Shared::new(alloc, settings, hasher) {
-            Err(_) => Shared::new(alloc, settings, again)?,
-            Ok(made) => made,
-        };
+        let (shared, caller) = empty_store(alloc, settings, hasher)?;
         Ok(Sole { rt, shared, caller })
     }
+}
 
+impl<'a, R: Wait, K: KeyHash + Drop> Sole<'a, R, K> {
     /// Takes a step, once more if memory is refused.
     fn taken(
         &mut self,

@@ -116,7 +116,7 @@ fn told_by<R: Wait>(
     alloc: Global,
     settings: Settings,
 ) -> Result<Option<(Told, Told)>, Fail> {
-    let mut sole = Sole::open(rt, alloc, settings, (Fnv, Fnv))?;
+    let mut sole = Sole::open(rt, alloc, settings, Fnv)?;
     told_twice(&mut sole, alloc)
 }
 

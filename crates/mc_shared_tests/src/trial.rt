@@ -1,7 +1,5 @@
 //! A store with the caller that asks it.
 
-ghost use Rattle.std.specs.Prelude.{◌≡◌};
-
 use crate::stores::{SOME, closed, last_store, shared_store};
 use mc_command::{KeyStep, Reply, StepFault, Steps};
 use mc_hop::Fnv;
