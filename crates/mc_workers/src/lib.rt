@@ -7,7 +7,8 @@
 //! A [`Worker`] makes rounds of its guests for as long as links come: it takes their steps as one
 //! caller of the store, lets the step's shelf grow a little behind each, tidies shelves in turn when
 //! the clock has risen, opens the door for those that come, keeps guests waiting that want much
-//! memory when others hold it, and lets a tally hear of each step.
+//! memory when others hold it, and lets a tally hear of each step. The last is [`Counting`], over
+//! any store that takes steps.
 //!
 //! A worker gives its caller back under further calls alone, and contracts tell its rounds one by
 //! one: who was visited, which shelves were tidied, who went.
@@ -15,21 +16,10 @@
 //! Begin with `specs/Rounds.antt` and `src/worker.rt`.
 #![tactic(auto)]
 
-#[cfg(test)]
-mod calls;
 mod counting;
-#[cfg(test)]
-mod counting_tests;
-#[cfg(test)]
-mod gate_tests;
-#[cfg(test)]
-mod held;
 mod tending;
-#[cfg(test)]
-mod tending_tests;
-#[cfg(test)]
-mod tests;
 mod worker;
 
+pub use counting::Counting;
 pub use mc_shared::{Gate, NoGate};
 pub use worker::{Worker, work};

@@ -9,7 +9,8 @@
 //!
 //! A [`World`] runs such lists: `run` until memory is refused ([`Refused`]), `run_through` past
 //! refusals, which it counts ([`Ended`]). [`serve_one`] serves one session of a world over a reader
-//! and a writer, by the loop of `mc_session`; it is what the program runs with `--stdin`.
+//! and a writer, by the loop of `mc_session`; it is what the program runs with `--stdin`. [`Parts`]
+//! are what a world has, for who makes it of a store and has something to ask the store itself.
 //!
 //! The definitions have a plain world beside it: for each session the stream so far and the turns
 //! taken, and the plain machine's state. `World::run` promises that for every list of events the
@@ -23,25 +24,11 @@
 #![tactic(auto)]
 
 mod event;
-#[cfg(test)]
-mod hostile_tests;
-#[cfg(test)]
-mod large_tests;
 mod laws;
 mod parts;
-#[cfg(test)]
-mod refusal_tests;
 mod seat;
 mod serving;
-#[cfg(test)]
-mod serving_tests;
 mod sessions;
-#[cfg(test)]
-mod set_ups;
-#[cfg(test)]
-mod tests;
-#[cfg(test)]
-mod through_tests;
 mod world;
 
 pub use event::{Ended, Event, Refused};
@@ -49,5 +36,7 @@ pub use laws::{
     a_piece_may_be_cut, a_plain_world_stands_one_way, a_session_follows_its_own_answers,
     a_turn_is_due_of_both, growth_never_shows, sessions_may_change_places,
 };
+pub use parts::Parts;
 pub use serving::{serve_one, written_output_never_shows};
+pub use sessions::Sessions;
 pub use world::World;

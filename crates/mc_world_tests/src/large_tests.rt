@@ -1,9 +1,11 @@
 //! Items of several pages, in worlds of stores of few. If memory is refused a test ends early.
 
-use crate::World;
-use crate::tests::{NO_CHUNK, ask, opened_with, tells};
+use crate::texts::NO_CHUNK;
+use crate::told::tells;
+use crate::worlds::{ask, opened_with};
 use mc_hop::Fnv;
 use mc_shelf::Settings;
+use mc_world::World;
 use std::alloc::{AllocError, Global};
 use std::process::Abort;
 use std::test::Fail;

@@ -3,12 +3,12 @@
 ghost use Rattle.std.specs.Prelude.{◌≡◌, IfOk};
 
 use crate::held::{HeldLink, HeldLinks, Seen};
-use crate::worker::work;
 use mc_guests::WorkEnd;
 use mc_hop::Fnv;
 use mc_shared::{Caller, Gate, NoGate, Shared};
 use mc_shelf::{Settings, Store};
 use mc_time::{Fixed, Moment};
+use mc_workers::work;
 use std::alloc::{AllocError, Global};
 use std::sync::Wait;
 use std::sync::atomic::{AtomicU64, Ordering};

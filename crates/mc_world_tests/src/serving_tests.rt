@@ -1,11 +1,11 @@
 //! Whole runs of sessions of a world. A test may refuse one growth.
 
-use super::*;
 use mc_hop::Fnv;
 use mc_session::ServeFault;
 use mc_shelf::Settings;
 use mc_testing::{Drip, SESSIONS, Sip};
 use mc_time::{Fixed, Moment};
+use mc_world::{World, serve_one};
 use std::alloc::{AllocError, Global};
 use std::io::ErrorKind;
 use std::process::Abort;

@@ -2,7 +2,7 @@ use Rattle.std.proofs.Common.{◌<◌, ℕ, List, length, take, get_or, ap, ◌�
 use Rattle.std.proofs.Math.ListN.{set}
 use Rattle.mc_guests.proofs.LinkLemmas.{given_one, some_set}
 use Rattle.mc_guests.specs.Links.{LinkState, asked, gave}
-use Rattle.mc_workers.proofs.held.HeldLink.give.Goals as goal
+use Rattle.mc_workers_tests.proofs.held.HeldLink.give.Goals as goal
 
 pub returns : goal.returns
 returns c =

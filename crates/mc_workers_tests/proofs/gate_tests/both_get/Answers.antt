@@ -3,12 +3,12 @@ use denote.Param.Send.{IsSync, sendable}
 use Rattle.std.proofs.Crossing as crossing
 use Rattle.mc_hop.specs.contracts.hash.Fnv as fnv
 use Rattle.mc_shared.proofs.Sent.{Lent, tuple_send, lent, heap_lent, shared_lent, caller_send}
-use Rattle.mc_workers.specs.contracts.held.Seen as seen
-use Rattle.mc_workers.proofs.held.Seen.TheSendSync as seens
+use Rattle.mc_workers_tests.specs.contracts.held.Seen as seen
+use Rattle.mc_workers_tests.proofs.held.Seen.TheSendSync as seens
 use Rattle.mc_guests.proofs.guests.WorkEnd.TheSendSync as ends
-use Rattle.mc_workers.specs.contracts.gate_tests.HoldsShelf as gate
-use Rattle.mc_workers.proofs.gate_tests.HoldsShelf.TheSendSync as gates
-use Rattle.mc_workers.proofs.gate_tests.both_get.Goals as goal
+use Rattle.mc_workers_tests.specs.contracts.gate_tests.HoldsShelf as gate
+use Rattle.mc_workers_tests.proofs.gate_tests.HoldsShelf.TheSendSync as gates
+use Rattle.mc_workers_tests.proofs.gate_tests.both_get.Goals as goal
 
 hasher_sync : IsSync fnv.the_row
 hasher_sync = search sendable

@@ -1,7 +1,6 @@
 //! Workers over links in memory, in one thread.
 
 use crate::held::{HeldLink, HeldLinks, Seen};
-use crate::worker::work;
 use mc_command::{KeyStep, Reply, StepFault};
 use mc_guests::WorkEnd;
 use mc_hop::Fnv;
@@ -10,6 +9,7 @@ use mc_shared::{NoGate, Shared};
 use mc_shelf::{Settings, Store};
 use mc_testing::SESSIONS;
 use mc_time::{Fixed, Moment};
+use mc_workers::work;
 use std::alloc::Global;
 use std::sync::Wait;
 use std::test::*;

@@ -1,13 +1,12 @@
 //! Runs that go on past refusals. A test that compares a whole run ends early if memory is
 //! refused.
 
-use crate::tests::{
-    HIT, MISS, get_of, hit_of, is_told, large_set, opened_twice, run, second_finds, set_of, world,
-    world_of,
-};
-use crate::{Event, World};
+use crate::texts::{HIT, MISS, get_of, hit_of, large_set, set_of};
+use crate::told::{is_told, second_finds};
+use crate::worlds::{opened_twice, run, world, world_of};
 use mc_command::Bytes;
 use mc_hop::{Constant, Fnv, KeyHash};
+use mc_world::{Event, World};
 use std::alloc::{AllocError, Global};
 use std::process::Abort;
 use std::test::*;

@@ -1,12 +1,13 @@
 //! What peers may send who mean no good: one hash, bytes one by one, and so many writes that the
 //! unique numbers end. If memory is refused a test ends early.
 
-use crate::tests::{answers, answers_and_grows, is_told, opened, run, take_turns};
-use crate::{Event, World};
+use crate::told::{answers, answers_and_grows, is_told};
+use crate::worlds::{opened, run, take_turns};
 use mc_command::Bytes;
 use mc_hop::{Constant, Fnv};
 use mc_shelf::Settings;
 use mc_time::Moment;
+use mc_world::{Event, World};
 use std::alloc::{AllocError, Global};
 use std::process::Abort;
 use std::test::Fail;

@@ -1,8 +1,6 @@
 //! What a tally hears.
 
-use crate::counting::Counting;
 use crate::held::{HeldLink, HeldLinks, Seen};
-use crate::worker::Worker;
 use mc_command::{Answer, Bytes, KeyStep, Reply, StepFault, Steps, Verb};
 use mc_guests::{Outcome, Tally};
 use mc_hop::Fnv;
@@ -10,6 +8,7 @@ use mc_rows::{Ask, filled_block, step_of};
 use mc_shared::{NoGate, Shared};
 use mc_shelf::{Settings, Store};
 use mc_time::{Fixed, Moment};
+use mc_workers::{Counting, Worker};
 use std::alloc::{AllocError, Global};
 use std::cell::Cell;
 use std::sync::Wait;

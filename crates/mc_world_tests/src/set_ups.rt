@@ -41,3 +41,11 @@ pub(crate) const MANY_SMALL: Settings = Settings {
     greatest: Settings::GREATEST,
     shelves: 256,
 };
+
+/// The shelf of `a`, and that of `b`, of 64.
+pub(crate) const SHELF_OF_A: u32 = 12;
+
+pub(crate) const SHELF_OF_B: u32 = 37;
+
+/// The shelf of `b`, of 256.
+pub(crate) const SHELF_OF_B_OF_MANY: u32 = 165;

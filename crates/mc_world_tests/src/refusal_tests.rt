@@ -5,12 +5,12 @@
 
 ghost use Rattle.std.specs.Prelude.{◌≤◌};
 
-use super::*;
-use crate::tests::{get_of, hit_of, set_of};
+use crate::texts::{get_of, hit_of, set_of};
 use mc_command::Bytes;
 use mc_hop::{Constant, Fnv, KeyHash};
 use mc_shelf::Settings;
 use mc_time::Moment;
+use mc_world::{Event, Refused, World};
 use std::alloc::{AllocError, Global};
 use std::process::Abort;
 use std::test::Fail;

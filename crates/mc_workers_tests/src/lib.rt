@@ -1,0 +1,23 @@
+//! Tests of `mc_workers`: workers over links in memory.
+//!
+//! A link in memory gives its input and takes output a byte at a time, and may fail at a call, so what
+//! a worker's guests wrote can be compared byte by byte. Tests ask for what no contract says: that a
+//! call succeeds, that a fault ends one session alone, that a step on one shelf holds up no other, what
+//! a tally hears, and in which turn a shelf is tidied.
+//!
+//! They are a crate of their own, so that the library isn't proved a second time with them. No program
+//! uses it.
+//!
+//! Begin with `src/held.rt` and `src/worker_tests.rt`.
+#![tactic(auto)]
+
+mod calls;
+#[cfg(test)]
+mod counting_tests;
+#[cfg(test)]
+mod gate_tests;
+mod held;
+#[cfg(test)]
+mod tidying_tests;
+#[cfg(test)]
+mod worker_tests;

@@ -1,0 +1,47 @@
+//! Events that a table of a test may have.
+
+use crate::worlds::run;
+use mc_command::Bytes;
+use mc_hop::Fnv;
+use mc_time::Moment;
+use mc_world::{Event, World};
+use std::alloc::{AllocError, Global};
+
+/// An event, as a constant may have it.
+#[derive(Clone, Copy)]
+pub(crate) enum Act {
+    Open,
+    Piece(u32, &'static str),
+    Turn(u32),
+    /// The second.
+    Clock(u64),
+    Purge(u32),
+    Close(u32),
+}
+
+/// Builds the event of an act.
+fn event_of(act: Act) -> Event<'static> {
+    match act {
+        Act::Open => Event::Open,
+        Act::Piece(session, piece) => Event::Piece(session, Bytes::of(piece.as_bytes())),
+        Act::Turn(session) => Event::Turn(session),
+        Act::Clock(seconds) => Event::Clock(Moment::from_seconds_at_most(seconds)),
+        Act::Purge(shelf) => Event::Purge(shelf),
+        Act::Close(session) => Event::Close(session),
+    }
+}
+
+/// Builds the events of acts.
+fn events_of(alloc: Global, acts: &[Act]) -> Result<Vec<Event<'static>>, AllocError> {
+    let mut events = Vec::new(alloc);
+    for act in acts {
+        events.push(event_of(*act))?;
+    }
+    Ok(events)
+}
+
+/// Runs the events of acts.
+pub(crate) fn run_acts(world: &mut World<Fnv>, alloc: Global, acts: &[Act]) -> Result<(), AllocError> {
+    let events = events_of(alloc, acts)?;
+    run(world, alloc, &events)
+}

@@ -1,0 +1,34 @@
+//! Tests of `mc_world`: what sessions of a world are told.
+//!
+//! Lists of events are tables of data, whose outputs were written down by hand. Tests ask for what no
+//! contract says: that a call succeeds, what a text is in bytes, that a run goes on where memory is
+//! refused or a device fails.
+//!
+//! They are a crate of their own, so that the library isn't proved a second time with them. No program
+//! uses it.
+//!
+//! Begin with `src/worlds.rt` and `src/event_tests.rt`.
+#![tactic(auto)]
+
+mod acts;
+#[cfg(test)]
+mod event_tests;
+#[cfg(test)]
+mod growth_tests;
+#[cfg(test)]
+mod hostile_tests;
+#[cfg(test)]
+mod large_tests;
+#[cfg(test)]
+mod refusal_tests;
+#[cfg(test)]
+mod room_tests;
+#[cfg(test)]
+mod serving_tests;
+mod set_ups;
+mod texts;
+#[cfg(test)]
+mod through_tests;
+#[cfg(test)]
+mod told;
+mod worlds;

@@ -1,0 +1,100 @@
+//! What makes room in a store of one page. If memory is refused a test ends early.
+
+use crate::acts::{Act, run_acts};
+use crate::set_ups::{MANY_SMALL, ONE_SMALL, SHELF_OF_A, SHELF_OF_B, SHELF_OF_B_OF_MANY, SOME_SMALL};
+use crate::texts::{NO_CHUNK, large_set};
+use crate::told::tells;
+use crate::worlds::{ask, run, world_with};
+use mc_hop::Fnv;
+use mc_shelf::Settings;
+use mc_world::{Event, World};
+use std::alloc::Global;
+use std::process::Abort;
+use std::test::Fail;
+
+/// Session 1 sets a key to 600000 bytes at a second, and is answered that.
+fn large_set_answers(
+    rt: &impl Abort,
+    alloc: Global,
+    world: &mut World<Fnv>,
+    large: (u64, char, u32),
+    output: &str,
+) -> Result<(), Fail> {
+    let (seconds, key, exptime) = large;
+    let set = large_set(alloc, key, exptime, b'x')?;
+    ask(alloc, world, seconds, &set)?;
+    tells(rt, world, output);
+    Ok(())
+}
+
+/// Fills a page at 1000 with an item that is dead at 1001, and so another key finds no room then.
+fn fill(rt: &impl Abort, alloc: Global, world: &mut World<Fnv>) -> Result<(), Fail> {
+    run(world, alloc, &[Event::Open])?;
+    large_set_answers(rt, alloc, world, (1000, 'b', 1), "STORED\r\n")?;
+    large_set_answers(rt, alloc, world, (1001, 'c', 0), NO_CHUNK)
+}
+
+/// Fills a page, and runs acts. Then a key of 600000 bytes is set, and session 1 was told that.
+fn room_is_made_in(
+    rt: &impl Abort,
+    alloc: Global,
+    world: &mut World<Fnv>,
+    acts: &[Act],
+    key: char,
+    output: &str,
+) -> Result<(), Fail> {
+    fill(rt, alloc, world)?;
+    run_acts(world, alloc, acts)?;
+    large_set_answers(rt, alloc, world, (1001, key, 0), output)
+}
+
+/// The same, in a new world whose store is set up so, of one page.
+fn room_is_made(
+    rt: &impl Abort,
+    alloc: Global,
+    settings: Settings,
+    acts: &[Act],
+    key: char,
+    output: &str,
+) -> Result<(), Fail> {
+    let mut world = world_with(alloc, Fnv, settings)?;
+    room_is_made_in(rt, alloc, &mut world, acts, key, output)
+}
+
+/// How a store is set up, which shelf of it is purged, and what a set is told then.
+type Purged = (Settings, u32, &'static str);
+
+#[test]
+fn a_purge_of_the_shelf_makes_room(rt: HostRuntime) -> Result<(), Fail> {
+    const ROWS: [Purged; 7] = [
+        (SOME_SMALL, SHELF_OF_B, "STORED\r\n"),
+        (SOME_SMALL, SHELF_OF_A, NO_CHUNK),
+        (ONE_SMALL, 0, "STORED\r\n"),
+        (ONE_SMALL, 1, NO_CHUNK),
+        (MANY_SMALL, SHELF_OF_B_OF_MANY, "STORED\r\n"),
+        (MANY_SMALL, SHELF_OF_B, NO_CHUNK),
+        (MANY_SMALL, 256, NO_CHUNK),
+    ];
+    for (settings, shelf, output) in &ROWS {
+        room_is_made(
+            &rt,
+            rt.alloc(),
+            *settings,
+            &[Act::Purge(*shelf)],
+            'c',
+            output,
+        )?;
+    }
+    Ok(())
+}
+
+#[test]
+fn a_get_of_a_dead_item_makes_room(rt: HostRuntime) -> Result<(), Fail> {
+    const ACTS: [Act; 2] = [Act::Piece(1, "get b\r\n"), Act::Turn(1)];
+    room_is_made(&rt, rt.alloc(), SOME_SMALL, &ACTS, 'c', "END\r\nSTORED\r\n")
+}
+
+#[test]
+fn a_dead_item_gives_its_chunk_to_its_own_key(rt: HostRuntime) -> Result<(), Fail> {
+    room_is_made(&rt, rt.alloc(), SOME_SMALL, &[], 'b', "STORED\r\n")
+}

@@ -1,0 +1,68 @@
+//! What sessions are told, compared.
+
+use crate::worlds::{ask, run};
+use mc_command::Bytes;
+use mc_hop::{Constant, Fnv, KeyHash};
+use mc_world::{Event, World};
+use std::alloc::Global;
+use std::process::Abort;
+use std::test::Fail;
+
+/// This is what is to be written of a session.
+pub(crate) fn is_told<K: KeyHash + Drop>(
+    rt: &impl Abort,
+    world: &World<K>,
+    session: u32,
+    output: &[u8],
+) {
+    assert_eq!(rt; world.out(session), output, "of session {session}");
+}
+
+/// Session 1 is idle and is told this, which is then written.
+pub(crate) fn tells<K: KeyHash + Drop>(rt: &impl Abort, world: &mut World<K>, output: &str) {
+    assert!(rt; world.is_idle(1));
+    is_told(rt, world, 1, output.as_bytes());
+    let written = world.out(1).len();
+    world.drop_sent(1, written);
+    assert!(rt; world.out(1).is_empty());
+}
+
+/// A piece of session 1, so many turns of it at a moment, and what they are answered.
+pub(crate) fn answers<K: KeyHash + Drop>(
+    rt: &impl Abort,
+    alloc: Global,
+    world: &mut World<K>,
+    moment: u64,
+    piece: &str,
+    output: &str,
+) -> Result<(), Fail> {
+    ask(alloc, world, moment, piece.as_bytes())?;
+    tells(rt, world, output);
+    Ok(())
+}
+
+/// Asks a world of one hash for a key, and grows its shelf.
+pub(crate) fn answers_and_grows(
+    rt: &impl Abort,
+    alloc: Global,
+    world: &mut World<Constant>,
+    input: &str,
+    output: &str,
+) -> Result<(), Fail> {
+    answers(rt, alloc, world, 1000, input, output)?;
+    run(world, alloc, &[Event::Grow(0)])?;
+    Ok(())
+}
+
+/// Session 2 gets `a`, and finds that.
+pub(crate) fn second_finds(
+    rt: &impl Abort,
+    alloc: Global,
+    world: &mut World<Fnv>,
+    found: &[u8],
+) -> Result<(), Fail> {
+    let get = Event::Piece(2, Bytes::of(b"get a\r\n"));
+    run(world, alloc, &[get, Event::Turn(2)])?;
+    is_told(rt, world, 2, found);
+    Ok(())
+}

@@ -1,0 +1,100 @@
+//! Worlds of tests, and what they are asked.
+
+ghost use Rattle.std.specs.Prelude.{◌≤◌};
+
+use crate::set_ups::SOME;
+use mc_command::Bytes;
+use mc_hop::{Fnv, KeyHash};
+use mc_shelf::Settings;
+use mc_time::Moment;
+use mc_world::{Event, World};
+use std::alloc::{AllocError, Global};
+
+/// A world at 1000 whose store is set up so.
+pub(crate) fn world_with<K: KeyHash + Drop>(
+    alloc: Global,
+    hasher: K,
+    settings: Settings,
+) -> Result<World<K>, AllocError> {
+    World::new(alloc, settings, hasher, Moment::from_seconds(1000))
+}
+
+/// A world at 1000.
+pub(crate) fn world<K: KeyHash + Drop>(alloc: Global, hasher: K) -> Result<World<K>, AllocError> {
+    world_of(alloc, hasher, 64)
+}
+
+/// The same, of so many pages.
+pub(crate) fn world_of<K: KeyHash + Drop>(
+    alloc: Global,
+    hasher: K,
+    pages: u32,
+) -> Result<World<K>, AllocError>
+    requires { (1 ≤ pages) × (pages ≤ 65536) }
+{
+    let settings = Settings {
+        pages,
+        greatest: Settings::GREATEST,
+        shelves: 64,
+    };
+    world_with(alloc, hasher, settings)
+}
+
+/// A world at 1000 of which session 1 is open.
+pub(crate) fn opened<K: KeyHash + Drop>(alloc: Global, hasher: K) -> Result<World<K>, AllocError> {
+    opened_with(alloc, hasher, SOME)
+}
+
+/// The same, whose store is set up so.
+pub(crate) fn opened_with<K: KeyHash + Drop>(
+    alloc: Global,
+    hasher: K,
+    settings: Settings,
+) -> Result<World<K>, AllocError> {
+    let mut world = world_with(alloc, hasher, settings)?;
+    run(&mut world, alloc, &[Event::Open])?;
+    Ok(world)
+}
+
+/// The same, of which session 2 is open too.
+pub(crate) fn opened_twice(alloc: Global) -> Result<World<Fnv>, AllocError> {
+    let mut world = opened(alloc, Fnv)?;
+    run(&mut world, alloc, &[Event::Open])?;
+    Ok(world)
+}
+
+/// Takes all events, and tells that memory ran out if one was refused.
+pub(crate) fn run<K: KeyHash + Drop>(
+    world: &mut World<K>,
+    alloc: Global,
+    events: &[Event<'_>],
+) -> Result<(), AllocError> {
+    if world.run(alloc, events).is_err() {
+        return Err(AllocError);
+    }
+    Ok(())
+}
+
+/// Takes so many turns of session 1.
+pub(crate) fn take_turns<K: KeyHash + Drop>(
+    alloc: Global,
+    world: &mut World<K>,
+    turns: usize,
+) -> Result<(), AllocError> {
+    for _ in 0..turns {
+        run(world, alloc, &[Event::Turn(1)])?;
+    }
+    Ok(())
+}
+
+/// Brings a piece to session 1 at a second, and takes as many turns as any piece here has.
+pub(crate) fn ask<K: KeyHash + Drop>(
+    alloc: Global,
+    world: &mut World<K>,
+    seconds: u64,
+    piece: &[u8],
+) -> Result<(), AllocError> {
+    let clock = Event::Clock(Moment::from_seconds_at_most(seconds));
+    run(world, alloc, &[clock, Event::Piece(1, Bytes::of(piece))])?;
+    take_turns(alloc, world, 100)
+}
