@@ -1,20 +1,13 @@
+//! A slab's pages and chunks, and what charges need.
+
 ghost use Rattle.std.specs.Prelude.{◌≤◌};
 
-use super::*;
+use crate::slabs::slab_of;
+use mc_slab::{Account, Chunks, Class, Need, Pages, Slab, TakeFault, class_of, need_of};
 use std::alloc::Global;
 use std::mem::size_of;
 use std::process::Abort;
 use std::test::*;
-
-/// A slab of so many pages. A run may refuse one allocation, so it is asked for twice.
-fn slab_of(alloc: Global, pages: u32) -> Result<Slab, Fail>
-    requires { (1 ≤ pages) × (pages ≤ 65536) }
-{
-    match Slab::new(alloc, pages) {
-        Ok(slab) => Ok(slab),
-        Err(_) => Ok(Slab::new(alloc, pages)?),
-    }
-}
 
 /// The chunks of the need. Refused memory, the slab is as it was, and answers when it is asked again.
 fn take(rt: &impl Abort, alloc: Global, slab: &mut Slab, need: Need) -> Result<Chunks, TakeFault> {

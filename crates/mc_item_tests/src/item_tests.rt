@@ -1,8 +1,11 @@
+//! An item in its chunks: what is written is what it gives back, and what changes in place.
+
 ghost use Rattle.std.specs.Prelude.{◌≡◌, ◌≤◌, [], length, vec_capacity, IfOk};
 ghost use Rattle.mc_slab.specs.Needs.{size_in};
 
-use super::*;
-use mc_slab::{Chunks, Need, Slab, need_of};
+use crate::slabs::slab_of;
+use mc_item::{Head, Item, Parts};
+use mc_slab::{Chunks, Need, need_of};
 use mc_time::{Expiry, Moment};
 use std::alloc::{AllocError, Global};
 use std::mem::size_of;
@@ -14,10 +17,7 @@ fn chunks_for(rt: &impl Abort, alloc: Global, charge: u64) -> Result<Chunks, Fai
     ensures { IfOk result (λ chunks. charge ≤ length chunks.bytes) }
 {
     let need = need_of(charge).expect(rt, "a need");
-    let mut slab = match Slab::new(alloc, 8) {
-        Ok(slab) => slab,
-        Err(_) => Slab::new(alloc, 8)?,
-    };
+    let mut slab = slab_of(alloc, 8)?;
     match slab.take_all(alloc, need) {
         Ok(chunks) => Ok(chunks),
         Err(_) => Ok(slab.take_all(alloc, need)?),
