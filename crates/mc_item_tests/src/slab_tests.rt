@@ -9,6 +9,11 @@ use std::mem::size_of;
 use std::process::Abort;
 use std::test::*;
 
+/// What a charge needs.
+fn needed(rt: &impl Abort, charge: u64) -> Need {
+    need_of(charge).expect(rt, "a need")
+}
+
 /// The chunks of the need. Refused memory, the slab is as it was, and answers when it is asked again.
 fn take(rt: &impl Abort, alloc: Global, slab: &mut Slab, need: Need) -> Result<Chunks, TakeFault> {
     let account = slab.account(need.class());
@@ -88,6 +93,71 @@ fn is_marked(chunk: &Chunks, number: u32) -> bool {
     chunk.first().starts_with(&mark) && chunk.first().ends_with(&mark)
 }
 
+/// Finds a need refused.
+fn is_refused(rt: &impl Abort, alloc: Global, slab: &mut Slab, need: Need) {
+    let refused = take(rt, alloc, slab, need).is_err();
+    assert!(rt; refused);
+}
+
+/// Finds the class of the need with that account, and so many pages left.
+fn stands(rt: &impl Abort, slab: &Slab, need: Need, account: Account, left: u32) {
+    assert!(rt; slab.account(need.class()) == account);
+    assert_eq!(rt; slab.pages_left(), left);
+}
+
+/// Finds chunks of the need while its class has that account and so many pages are left, and gives them back.
+fn stand_and_go(
+    rt: &impl Abort,
+    slab: &mut Slab,
+    need: Need,
+    chunks: Chunks,
+    account: Account,
+    left: u32,
+) {
+    assert!(rt; chunks.need() == need);
+    stands(rt, slab, need, account, left);
+    give(rt, slab, chunks);
+}
+
+/// Takes a chunk of the need's class, and writes a number at both ends of it.
+fn take_marked(
+    rt: &impl Abort,
+    alloc: Global,
+    slab: &mut Slab,
+    need: Need,
+    number: u32,
+) -> Result<Chunks, Fail> {
+    let mut chunk = take(rt, alloc, slab, need)?;
+    assert!(rt; chunk.need() == need);
+    mark(rt, &mut chunk, number);
+    Ok(chunk)
+}
+
+/// Takes so many chunks of the need's class, each with its number at both ends.
+fn fill(
+    rt: &impl Abort,
+    alloc: Global,
+    slab: &mut Slab,
+    need: Need,
+    count: u32,
+) -> Result<Vec<Chunks>, Fail> {
+    let mut held = list_for(alloc, count)?;
+    for number in 0..count {
+        held.push(take_marked(rt, alloc, slab, need, number)?)?;
+    }
+    Ok(held)
+}
+
+/// Finds each chunk's number where it was written, and gives the chunks back.
+fn empty(rt: &impl Abort, slab: &mut Slab, held: Vec<Chunks>) {
+    let mut number = 0u32;
+    for chunk in held {
+        assert!(rt; is_marked(&chunk, number));
+        give(rt, slab, chunk);
+        number = number.wrapping_add(1);
+    }
+}
+
 /// Takes every chunk of the need's class, writes its number at both ends of each, and finds the class full with that account and
 /// each number where it was written, then gives all back.
 fn fill_and_empty(
@@ -97,22 +167,10 @@ fn fill_and_empty(
     need: Need,
     full: Account,
 ) -> Result<(), Fail> {
-    let mut held = list_for(alloc, full.out)?;
-    for number in 0..full.out {
-        let mut chunk = take(rt, alloc, slab, need)?;
-        assert!(rt; chunk.need() == need);
-        mark(rt, &mut chunk, number);
-        held.push(chunk)?;
-    }
+    let held = fill(rt, alloc, slab, need, full.out)?;
     assert!(rt; slab.account(need.class()) == full);
-    let refused = take(rt, alloc, slab, need).is_err();
-    assert!(rt; refused);
-    let mut number = 0u32;
-    for chunk in held {
-        assert!(rt; is_marked(&chunk, number));
-        give(rt, slab, chunk);
-        number = number.wrapping_add(1);
-    }
+    is_refused(rt, alloc, slab, need);
+    empty(rt, slab, held);
     Ok(())
 }
 
@@ -120,27 +178,29 @@ fn fill_and_empty(
 fn filling_and_emptying_leaves_the_same_account(rt: HostRuntime) -> Result<(), Fail> {
     let alloc = rt.alloc();
     let mut slab = slab_of(alloc, 2)?;
-    let need = need_of(100000).expect(&rt, "a need");
+    let need = needed(&rt, 100000);
     for _ in 0..100 {
-        let full = Account { pages: 2, out: 20 };
-        fill_and_empty(&rt, alloc, &mut slab, need, full)?;
-        let empty = Account { pages: 2, out: 0 };
-        assert!(rt; slab.account(need.class()) == empty);
+        fill_and_empty(&rt, alloc, &mut slab, need, Account { pages: 2, out: 20 })?;
+        stands(&rt, &slab, need, Account { pages: 2, out: 0 }, 0);
         assert_eq!(rt; slab.unused_chunks(need.class()), 20);
-        assert_eq!(rt; slab.pages_left(), 0);
     }
     Ok(())
 }
 
+/// Pages of 33 runs of at most 341 chunks, of 38 runs of 2 or 1, of 60 runs of 1, and of one chunk: the size of a chunk, and how
+/// many a page has.
+const PAGES: [(u64, u32); 4] = [(96, 10922), (13880, 75), (17352, 60), (1048576, 1)];
+
 #[test]
 fn chunks_of_a_page_lie_apart(rt: HostRuntime) -> Result<(), Fail> {
-    let alloc = rt.alloc();
-    // Pages of 33 runs of at most 341 chunks, of 38 runs of 2 or 1, of 60 runs of 1, and of one
-    // chunk.
-    for (size, out) in [(96, 10922), (13880, 75), (17352, 60), (1048576, 1)] {
-        let mut slab = slab_of(alloc, 1)?;
-        let need = need_of(size).expect(&rt, "a need");
-        fill_and_empty(&rt, alloc, &mut slab, need, Account { pages: 1, out })?;
+    for row in &PAGES {
+        let mut slab = slab_of(rt.alloc(), 1)?;
+        let need = needed(&rt, row.0);
+        let full = Account {
+            pages: 1,
+            out: row.1,
+        };
+        fill_and_empty(&rt, rt.alloc(), &mut slab, need, full)?;
     }
     Ok(())
 }
@@ -155,32 +215,41 @@ fn pages_of(alloc: Global, class: Class, count: u32) -> Result<Pages, Fail>
     }
 }
 
-/// The chunks of the need, where pages are brought.
-fn take_with(
+/// The chunks of the need, where so many pages of the class are brought, 1 to 8.
+fn take_of(
     alloc: Global,
     slab: &mut Slab,
     need: Need,
-    pages: Pages,
-) -> Result<Chunks, TakeFault> {
+    class: Class,
+    count: u32,
+) -> Result<Chunks, Fail>
+    requires { (1 ≤ count) × (count ≤ 8) }
+{
+    let pages = pages_of(alloc, class, count)?;
     match slab.take_all_with(alloc, need, Some(pages)) {
-        Err(TakeFault::NoMemory) => slab.take_all(alloc, need),
-        taken => taken,
+        Err(TakeFault::NoMemory) => Ok(slab.take_all(alloc, need)?),
+        taken => Ok(taken?),
     }
 }
+
+/// A page of the class that asks for one, and one of another class, which is let go: the size of a chunk, that of the page's, and
+/// how many a page has.
+const BROUGHT: [(u64, u64, u32); 3] = [(96, 96, 10922), (17352, 17352, 60), (13880, 1048576, 75)];
 
 #[test]
 fn a_page_may_be_brought(rt: HostRuntime) -> Result<(), Fail> {
     let alloc = rt.alloc();
-    // A page of the class that asks for one, and one of another class, which is let go.
-    for (size, brought, out) in [(96, 96, 10922), (17352, 17352, 60), (13880, 1048576, 75)] {
+    for row in &BROUGHT {
         let mut slab = slab_of(alloc, 1)?;
-        let need = need_of(size).expect(&rt, "a need");
-        let pages = pages_of(alloc, class_of(brought).expect(&rt, "a class"), 1)?;
-        let chunk = take_with(alloc, &mut slab, need, pages)?;
-        assert!(rt; slab.account(need.class()) == Account { pages: 1, out: 1 });
-        assert_eq!(rt; slab.pages_left(), 0);
-        give(&rt, &mut slab, chunk);
-        fill_and_empty(&rt, alloc, &mut slab, need, Account { pages: 1, out })?;
+        let need = needed(&rt, row.0);
+        let class = class_of(row.1).expect(&rt, "a class");
+        let chunk = take_of(alloc, &mut slab, need, class, 1)?;
+        stand_and_go(&rt, &mut slab, need, chunk, Account { pages: 1, out: 1 }, 0);
+        let full = Account {
+            pages: 1,
+            out: row.2,
+        };
+        fill_and_empty(&rt, alloc, &mut slab, need, full)?;
     }
     Ok(())
 }
@@ -190,12 +259,9 @@ fn take_two_of(rt: &impl Abort, alloc: Global, class: Class, count: u32) -> Resu
     requires { (1 ≤ count) × (count ≤ 8) }
 {
     let mut slab = slab_of(alloc, 3)?;
-    let need = need_of(2097152).expect(rt, "a need");
-    let pages = pages_of(alloc, class, count)?;
-    let chunks = take_with(alloc, &mut slab, need, pages)?;
-    assert!(rt; slab.account(class) == Account { pages: 2, out: 2 });
-    assert_eq!(rt; slab.pages_left(), 1);
-    give(rt, &mut slab, chunks);
+    let need = needed(rt, 2097152);
+    let chunks = take_of(alloc, &mut slab, need, class, count)?;
+    stand_and_go(rt, &mut slab, need, chunks, Account { pages: 2, out: 2 }, 1);
     Ok(())
 }
 
@@ -210,15 +276,27 @@ fn pages_that_are_brought_are_a_hint(rt: HostRuntime) -> Result<(), Fail> {
 
 #[test]
 fn a_page_stays_with_its_class(rt: HostRuntime) -> Result<(), Fail> {
-    let alloc = rt.alloc();
-    let mut slab = slab_of(alloc, 1)?;
-    let large = need_of(1048576).expect(&rt, "a need");
-    let small = need_of(96).expect(&rt, "a need");
-    let chunk = take(&rt, alloc, &mut slab, large)?;
+    let mut slab = slab_of(rt.alloc(), 1)?;
+    let large = needed(&rt, 1048576);
+    let chunk = take(&rt, rt.alloc(), &mut slab, large)?;
     assert_eq!(rt; chunk.first().len(), 1048576);
     give(&rt, &mut slab, chunk);
-    let refused = take(&rt, alloc, &mut slab, small).is_err();
-    assert!(rt; refused);
+    is_refused(&rt, rt.alloc(), &mut slab, needed(&rt, 96));
+    Ok(())
+}
+
+/// Takes the chunks of the need, finds its class with that account and so many pages left, gives them back, and finds none out.
+fn come_and_go(
+    rt: &impl Abort,
+    alloc: Global,
+    slab: &mut Slab,
+    need: Need,
+    account: Account,
+    left: u32,
+) -> Result<(), Fail> {
+    let chunks = take(rt, alloc, slab, need)?;
+    stand_and_go(rt, slab, need, chunks, account, left);
+    stands(rt, slab, need, Account { out: 0, ..account }, left);
     Ok(())
 }
 
@@ -226,50 +304,43 @@ fn a_page_stays_with_its_class(rt: HostRuntime) -> Result<(), Fail> {
 fn chunks_of_a_need_come_all_or_none(rt: HostRuntime) -> Result<(), Fail> {
     let alloc = rt.alloc();
     let mut slab = slab_of(alloc, 3)?;
-    let one = need_of(1048576).expect(&rt, "a need");
-    let three = need_of(3145728).expect(&rt, "a need");
-    let four = need_of(3145729).expect(&rt, "a need");
-    let chunk = take(&rt, alloc, &mut slab, one)?;
-    give(&rt, &mut slab, chunk);
+    let one = needed(&rt, 1048576);
+    come_and_go(&rt, alloc, &mut slab, one, Account { pages: 1, out: 1 }, 2)?;
     // One is unused, and two pages are left.
-    let refused = take(&rt, alloc, &mut slab, four).is_err();
-    assert!(rt; refused);
-    assert!(rt; slab.account(one.class()) == Account { pages: 1, out: 0 });
-    let chunks = take(&rt, alloc, &mut slab, three)?;
-    assert!(rt; slab.account(one.class()) == Account { pages: 3, out: 3 });
-    assert_eq!(rt; slab.pages_left(), 0);
-    give(&rt, &mut slab, chunks);
-    assert!(rt; slab.account(one.class()) == Account { pages: 3, out: 0 });
-    Ok(())
+    is_refused(&rt, alloc, &mut slab, needed(&rt, 3145729));
+    stands(&rt, &slab, one, Account { pages: 1, out: 0 }, 2);
+    let three = needed(&rt, 3145728);
+    come_and_go(&rt, alloc, &mut slab, three, Account { pages: 3, out: 3 }, 0)
 }
 
 #[test]
 fn chunks_that_come_back_serve_what_was_made_ready(rt: HostRuntime) -> Result<(), Fail> {
     let alloc = rt.alloc();
     let mut slab = slab_of(alloc, 3)?;
-    let two = need_of(2097152).expect(&rt, "a need");
-    let three = need_of(3145728).expect(&rt, "a need");
+    let two = needed(&rt, 2097152);
+    let three = needed(&rt, 3145728);
     let chunks = take(&rt, alloc, &mut slab, two)?;
     ready(&rt, alloc, &mut slab, three, 2)?;
-    assert!(rt; slab.account(two.class()) == Account { pages: 3, out: 2 });
-    give(&rt, &mut slab, chunks);
+    stand_and_go(&rt, &mut slab, two, chunks, Account { pages: 3, out: 2 }, 0);
     let others = slab.take_all(alloc, three)?;
-    assert!(rt; slab.account(two.class()) == Account { pages: 3, out: 3 });
-    give(&rt, &mut slab, others);
+    stand_and_go(&rt, &mut slab, three, others, Account { pages: 3, out: 3 }, 0);
     Ok(())
+}
+
+/// Writes over the border of the first chunk of three and at the end of the last, and finds there what was written.
+fn write_across(rt: &impl Abort, chunks: &mut Chunks) {
+    put(rt, chunks, 1048573, b"abcdefgh");
+    put(rt, chunks, 3145724, b"last");
+    assert!(rt; part(rt, chunks, 0).ends_with(b"abc"));
+    assert!(rt; part(rt, chunks, 1).starts_with(b"defgh"));
+    assert!(rt; part(rt, chunks, 2).ends_with(b"last"));
 }
 
 #[test]
 fn a_part_is_written_across_chunks(rt: HostRuntime) -> Result<(), Fail> {
-    let alloc = rt.alloc();
-    let mut slab = slab_of(alloc, 3)?;
-    let need = need_of(3145728).expect(&rt, "a need");
-    let mut chunks = take(&rt, alloc, &mut slab, need)?;
-    put(&rt, &mut chunks, 1048573, b"abcdefgh");
-    put(&rt, &mut chunks, 3145724, b"last");
-    assert!(rt; part(&rt, &chunks, 0).ends_with(b"abc"));
-    assert!(rt; part(&rt, &chunks, 1).starts_with(b"defgh"));
-    assert!(rt; part(&rt, &chunks, 2).ends_with(b"last"));
+    let mut slab = slab_of(rt.alloc(), 3)?;
+    let mut chunks = take(&rt, rt.alloc(), &mut slab, needed(&rt, 3145728))?;
+    write_across(&rt, &mut chunks);
     give(&rt, &mut slab, chunks);
     Ok(())
 }
@@ -295,27 +366,30 @@ const NEEDS: [(u64, u8, u32); 8] = [
 #[test]
 fn edges_of_the_needs(rt: HostRuntime) {
     for row in &NEEDS {
-        let need = need_of(row.0).expect(&rt, "a need");
+        let need = needed(&rt, row.0);
         assert_eq!(rt; need.class().number(), row.1);
         assert_eq!(rt; need.count(), row.2);
     }
     assert!(rt; need_of(8388609).is_none());
 }
 
+/// What class holds a charge: its number, its size, and how many of its chunks a page has.
+const CLASSES: [(u64, u8, u32, u32); 6] = [
+    (0, 1, 96, 10922),
+    (96, 1, 96, 10922),
+    (97, 2, 120, 8738),
+    (493552, 39, 493552, 2),
+    (493553, 40, 1048576, 1),
+    (1048576, 40, 1048576, 1),
+];
+
 #[test]
 fn edges_of_the_classes(rt: HostRuntime) {
-    for (charge, number, size, chunks) in [
-        (0, 1, 96, 10922),
-        (96, 1, 96, 10922),
-        (97, 2, 120, 8738),
-        (493552, 39, 493552, 2),
-        (493553, 40, 1048576, 1),
-        (1048576, 40, 1048576, 1),
-    ] {
-        let class = class_of(charge).expect(&rt, "a class");
-        assert_eq!(rt; class.number(), number);
-        assert_eq!(rt; class.size(), size);
-        assert_eq!(rt; class.chunks_a_page(), chunks);
+    for row in &CLASSES {
+        let class = class_of(row.0).expect(&rt, "a class");
+        assert_eq!(rt; class.number(), row.1);
+        assert_eq!(rt; class.size(), row.2);
+        assert_eq!(rt; class.chunks_a_page(), row.3);
     }
     assert!(rt; class_of(1048577).is_none());
 }
