@@ -18,7 +18,5 @@
 #![tactic(auto)]
 
 mod displace;
-#[cfg(test)]
-mod tests;
 
 pub use displace::bring_near;

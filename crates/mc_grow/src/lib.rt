@@ -26,20 +26,10 @@
 #![tactic(auto)]
 
 mod adding;
-#[cfg(test)]
-mod growth_tests;
 mod index;
-#[cfg(test)]
-mod lag_tests;
-#[cfg(test)]
-mod marked;
 mod moving;
 mod parts;
-#[cfg(test)]
-mod random_tests;
 mod strays;
-#[cfg(test)]
-mod tests;
 mod trying;
 
 pub use index::{Index, Place};

@@ -29,8 +29,6 @@ mod hash;
 mod laws;
 mod reads;
 mod table;
-#[cfg(test)]
-mod tests;
 
 pub use bits::lowest;
 pub use hash::{Constant, Fnv, KeyHash, Keyed};

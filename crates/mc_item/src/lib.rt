@@ -24,6 +24,3 @@ mod item;
 mod run;
 
 pub use item::{Head, Item, Parts};
-
-#[cfg(test)]
-mod tests;

@@ -41,6 +41,3 @@ pub use need::{Need, need_of};
 pub use run::Pages;
 pub use slab::{Slab, TakeFault};
 pub use stock::Account;
-
-#[cfg(test)]
-mod tests;

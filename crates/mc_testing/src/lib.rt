@@ -10,8 +10,8 @@
 //! [`Dice`] are a sequence of numbers that is the same in each run. [`SESSIONS`] are inputs with
 //! their outputs. A [`Mark`] is an entry of a hash and a key, for tables and indexes.
 //!
-//! It has next to no contracts, and is proved safe as all else is. It stands on mc_hop alone, so
-//! that the crates of tables wait for no other; rows of steps over a store are in `mc_rows`.
+//! It has next to no contracts, and is proved safe as all else is. It stands on mc_hop alone; rows of
+//! steps over a store are in `mc_rows`.
 //!
 //! Begin with `src/streams.rt` and `src/marks.rt`.
 #![tactic(auto)]
@@ -20,8 +20,6 @@ mod dice;
 mod marks;
 mod sessions;
 mod streams;
-#[cfg(test)]
-mod tests;
 
 pub use dice::Dice;
 pub use marks::{Mark, add_mark, fill_marks, marks_table};

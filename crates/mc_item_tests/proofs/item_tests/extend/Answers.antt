@@ -1,7 +1,7 @@
 use Rattle.std.proofs.Common.{◌≡◌, ◌∙◌, ap, arith}
 use Rattle.mc_slab.specs.Needs.{NeedState, size_in}
 use Rattle.mc_item.specs.Items.{charge_of, item_need}
-use Rattle.mc_item.proofs.tests.extend.Goals as goal
+use Rattle.mc_item_tests.proofs.item_tests.extend.Goals as goal
 
 pub extend-requires : goal.extend-requires
 extend-requires g c =

@@ -1,7 +1,7 @@
 //! An index in the middle of a growth: entries in its old table, in its table and among its strays.
 
-use super::*;
 use crate::marked::{add, count_at, counted, opened, take};
+use mc_grow::Index;
 use mc_hop::Reads;
 use mc_testing::Mark;
 use std::alloc::{AllocError, Global};

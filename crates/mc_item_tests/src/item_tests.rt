@@ -1,8 +1,11 @@
+//! An item in its chunks: what is written is what it gives back, and what changes in place.
+
 ghost use Rattle.std.specs.Prelude.{◌≡◌, ◌≤◌, [], length, vec_capacity, IfOk};
 ghost use Rattle.mc_slab.specs.Needs.{size_in};
 
-use super::*;
-use mc_slab::{Chunks, Need, Slab, need_of};
+use crate::slabs::slab_of;
+use mc_item::{Head, Item, Parts};
+use mc_slab::{Chunks, Need, need_of};
 use mc_time::{Expiry, Moment};
 use std::alloc::{AllocError, Global};
 use std::mem::size_of;
@@ -14,10 +17,7 @@ fn chunks_for(rt: &impl Abort, alloc: Global, charge: u64) -> Result<Chunks, Fai
     ensures { IfOk result (λ chunks. charge ≤ length chunks.bytes) }
 {
     let need = need_of(charge).expect(rt, "a need");
-    let mut slab = match Slab::new(alloc, 8) {
-        Ok(slab) => slab,
-        Err(_) => Slab::new(alloc, 8)?,
-    };
+    let mut slab = slab_of(alloc, 8)?;
     match slab.take_all(alloc, need) {
         Ok(chunks) => Ok(chunks),
         Err(_) => Ok(slab.take_all(alloc, need)?),
@@ -62,6 +62,14 @@ const ZEROS: Numbers = Numbers {
     expiry: Expiry::Never,
     unique: 0,
     updated: 0,
+};
+
+const SOME: Numbers = Numbers {
+    hash: 11,
+    flags: 7,
+    expiry: Expiry::At(5),
+    unique: 3,
+    updated: 4,
 };
 
 /// The item of those parts, in the smallest chunks that hold it.
@@ -153,34 +161,37 @@ fn an_item_gives_back_its_parts(rt: HostRuntime) -> Result<(), Fail> {
     Ok(())
 }
 
+/// Numbers at their limits, and such that tell their bytes' places.
+const NUMBERS: [Numbers; 4] = [
+    ZEROS,
+    Numbers {
+        hash: 18446744073709551615,
+        flags: 4294967295,
+        expiry: Expiry::At(0),
+        unique: 18446744073709551615,
+        updated: 4611686018427387904,
+    },
+    Numbers {
+        hash: 1,
+        flags: 1,
+        expiry: Expiry::At(18446744073709551615),
+        unique: 4294967296,
+        updated: 1,
+    },
+    Numbers {
+        hash: 4294967296,
+        flags: 16909060,
+        expiry: Expiry::At(1),
+        unique: 1,
+        updated: 1700000000,
+    },
+];
+
 #[test]
 fn an_item_gives_back_its_numbers(rt: HostRuntime) -> Result<(), Fail> {
-    let alloc = rt.alloc();
-    for (hash, flags, expiry, unique, updated) in [
-        (0, 0, Expiry::Never, 0, 0),
-        (
-            18446744073709551615,
-            4294967295,
-            Expiry::At(0),
-            18446744073709551615,
-            4611686018427387904,
-        ),
-        (1, 1, Expiry::At(18446744073709551615), 4294967296, 1),
-        (4294967296, 16909060, Expiry::At(1), 1, 1700000000),
-    ] {
-        let numbers = Numbers {
-            hash,
-            flags,
-            expiry,
-            unique,
-            updated,
-        };
-        let item = item_of(&rt, alloc, b"key", b"block", b"", numbers)?;
-        assert_eq!(rt; item.hash(), hash);
-        assert_eq!(rt; item.flags(), flags);
-        assert!(rt; item.expiry() == expiry);
-        assert_eq!(rt; item.unique(), unique);
-        assert_eq!(rt; item.updated_at().seconds(), updated);
+    for row in &NUMBERS {
+        let item = item_of(&rt, rt.alloc(), b"key", b"block", b"", *row)?;
+        has_head(&rt, &item, b"key", *row);
     }
     Ok(())
 }
@@ -249,13 +260,6 @@ fn has_head(rt: &impl Abort, item: &Item, key: &[u8], numbers: Numbers) {
 fn an_item_is_begun_and_then_filled(rt: HostRuntime) -> Result<(), Fail> {
     let alloc = rt.alloc();
     let longest = [b'k'; 250];
-    let numbers = Numbers {
-        hash: 11,
-        flags: 7,
-        expiry: Expiry::At(5),
-        unique: 3,
-        updated: 4,
-    };
     for (key, block, class) in [
         (b"".as_slice(), b"".as_slice(), 1),
         (b"key", b"block", 1),
@@ -263,11 +267,11 @@ fn an_item_is_begun_and_then_filled(rt: HostRuntime) -> Result<(), Fail> {
         (b"eightkey", &longest[..41], 2),
         (&longest, b"ab", 6),
     ] {
-        let mut item = begun_of(&rt, alloc, key, block.len(), numbers)?;
-        has_head(&rt, &item, key, numbers);
+        let mut item = begun_of(&rt, alloc, key, block.len(), SOME)?;
+        has_head(&rt, &item, key, SOME);
         assert_eq!(rt; item.class().number(), class);
         item.fill(0, block);
-        has_head(&rt, &item, key, numbers);
+        has_head(&rt, &item, key, SOME);
         is_block(&rt, &item, block);
     }
     Ok(())
@@ -277,15 +281,8 @@ fn an_item_is_begun_and_then_filled(rt: HostRuntime) -> Result<(), Fail> {
 fn other_parts_take_the_place_of_an_item(rt: HostRuntime) -> Result<(), Fail> {
     let alloc = rt.alloc();
     let mut item = item_of(&rt, alloc, b"key", b"a longer ", b"block", ZEROS)?;
-    let numbers = Numbers {
-        hash: 11,
-        flags: 7,
-        expiry: Expiry::At(5),
-        unique: 3,
-        updated: 4,
-    };
-    write_whole(&rt, &mut item, b"another", b"block", numbers);
-    has_head(&rt, &item, b"another", numbers);
+    write_whole(&rt, &mut item, b"another", b"block", SOME);
+    has_head(&rt, &item, b"another", SOME);
     is_block(&rt, &item, b"block");
     assert_eq!(rt; item.class().number(), 1);
     Ok(())
@@ -309,46 +306,30 @@ fn a_number_takes_the_place_of_a_block(rt: HostRuntime) -> Result<(), Fail> {
         (b"", 0, b"0"),
         (b"1", 18446744073709551615, b"18446744073709551615"),
     ] {
-        let numbers = Numbers {
-            hash: 11,
-            flags: 7,
-            expiry: Expiry::At(5),
-            ..ZEROS
-        };
-        let mut item = item_of(&rt, alloc, b"number", block, b"", numbers)?;
+        let mut item = item_of(&rt, alloc, b"number", block, b"", SOME)?;
         rewrite(&rt, &mut item, number);
         is_block(&rt, &item, digits);
-        assert!(rt; item.key() == b"number".as_slice());
-        assert_eq!(rt; item.hash(), 11);
-        assert_eq!(rt; item.flags(), 7);
-        assert_eq!(rt; item.unique(), 2);
-        assert_eq!(rt; item.updated_at().seconds(), 9);
+        let numbers = Numbers {
+            unique: 2,
+            updated: 9,
+            ..SOME
+        };
+        has_head(&rt, &item, b"number", numbers);
     }
     Ok(())
 }
 
 #[test]
 fn an_expiry_is_set_alone(rt: HostRuntime) -> Result<(), Fail> {
-    let alloc = rt.alloc();
-    let numbers = Numbers {
-        hash: 11,
-        flags: 7,
-        expiry: Expiry::At(5),
-        unique: 3,
-        updated: 4,
-    };
-    let mut item = item_of(&rt, alloc, b"key", b"blo", b"ck", numbers)?;
+    let mut item = item_of(&rt, rt.alloc(), b"key", b"blo", b"ck", SOME)?;
     for expiry in [
         Expiry::Never,
         Expiry::At(0),
         Expiry::At(18446744073709551615),
     ] {
         item.set_expiry(expiry);
-        assert!(rt; item.expiry() == expiry);
+        has_head(&rt, &item, b"key", Numbers { expiry, ..SOME });
         is_block(&rt, &item, b"block");
-        assert_eq!(rt; item.hash(), 11);
-        assert_eq!(rt; item.unique(), 3);
-        assert_eq!(rt; item.updated_at().seconds(), 4);
     }
     Ok(())
 }

@@ -2,7 +2,7 @@ use Rattle.std.proofs.Common.{◌≡◌, ◌≤◌, ◌∙◌, length, decimal, 
 use Rattle.std.proofs.lemmas.Fmt.{length-decimal-le}
 use Rattle.mc_slab.specs.Needs.{NeedState, size_in}
 use Rattle.mc_item.specs.Items.{item_need}
-use Rattle.mc_item.proofs.tests.rewrite.Goals as goal
+use Rattle.mc_item_tests.proofs.item_tests.rewrite.Goals as goal
 
 pub rewrite_number-requires : goal.rewrite_number-requires
 rewrite_number-requires g c =

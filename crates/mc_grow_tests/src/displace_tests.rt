@@ -1,6 +1,6 @@
 //! The two tables of a displacement: one where an entry can be moved, and one where none can.
 
-use super::*;
+use mc_displace::bring_near;
 use mc_hop::Hop;
 use mc_testing::{Mark, fill_marks, marks_table};
 use std::test::*;

@@ -3,7 +3,7 @@
 
 ghost use Rattle.std.specs.Prelude.{◌≡◌};
 
-use super::*;
+use mc_hop::{Hop, Keyed, Reads};
 use std::alloc::{AllocError, Global};
 use std::test::*;
 

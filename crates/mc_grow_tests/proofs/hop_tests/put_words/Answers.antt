@@ -1,4 +1,4 @@
-use Rattle.mc_hop.proofs.tests.put_words.Goals as goal
+use Rattle.mc_grow_tests.proofs.hop_tests.put_words.Goals as goal
 
 pub put_within-requires-clause-new : goal.put_within-requires-clause-new
 put_within-requires-clause-new c =

@@ -1,4 +1,6 @@
-use super::*;
+//! Readers and writers that give and take little at a time.
+
+use mc_testing::{Drip, Sip};
 use std::io::{ErrorKind, Read, Write};
 use std::test::Fail;
 

@@ -1,14 +1,14 @@
-//! What tests do with an index of marks.
+//! What tests of an index share; most have one of marks.
 
 ghost use Rattle.std.specs.Prelude.{◌≡◌};
 
-use super::*;
+use mc_grow::{Index, Place};
 use mc_hop::Keyed;
 use mc_testing::Mark;
 use std::alloc::{AllocError, Global};
 
 /// Makes an index of 64 homes, asked for again if memory is refused.
-pub(crate) fn opened(alloc: Global) -> Result<Index<Mark>, AllocError> {
+pub(crate) fn opened<T: Keyed + Drop>(alloc: Global) -> Result<Index<T>, AllocError> {
     match Index::new(alloc, 6) {
         Err(_) => Index::new(alloc, 6),
         made => made,

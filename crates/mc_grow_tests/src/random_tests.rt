@@ -2,8 +2,8 @@
 //! are well spread, of eight values, of one home, and all one. If memory is refused a step asks
 //! again.
 
-use super::*;
 use crate::marked::{add, count_at, count_more, opened, take};
+use mc_grow::{Index, Place};
 use mc_hop::{Fnv, KeyHash};
 use mc_testing::{Dice, Mark};
 use std::alloc::{AllocError, Global};

@@ -2,7 +2,8 @@
 
 ghost use Rattle.std.specs.Prelude.{◌≡◌};
 
-use super::*;
+use crate::marked::opened;
+use mc_grow::Index;
 use mc_hop::{Keyed, Reads};
 use std::alloc::{AllocError, Global};
 use std::test::*;
@@ -26,14 +27,6 @@ impl Keyed for Mark {
 
     fn key(&self) -> &[u8] {
         &[]
-    }
-}
-
-/// An index of 64 homes, asked for again if memory is refused.
-fn opened(alloc: Global) -> Result<Index<Mark>, AllocError> {
-    match Index::new(alloc, 6) {
-        Err(_) => Index::new(alloc, 6),
-        made => made,
     }
 }
 

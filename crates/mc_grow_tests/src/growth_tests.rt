@@ -1,7 +1,7 @@
 //! When a growth begins, how it goes on and when it ends, in an index where all keys have one hash.
 
-use super::*;
 use crate::marked::{add, opened};
+use mc_grow::Place;
 use std::test::*;
 
 #[test]

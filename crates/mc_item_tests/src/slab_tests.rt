@@ -1,0 +1,395 @@
+//! A slab's pages and chunks, and what charges need.
+
+ghost use Rattle.std.specs.Prelude.{◌≤◌};
+
+use crate::slabs::slab_of;
+use mc_slab::{Account, Chunks, Class, Need, Pages, Slab, TakeFault, class_of, need_of};
+use std::alloc::Global;
+use std::mem::size_of;
+use std::process::Abort;
+use std::test::*;
+
+/// What a charge needs.
+fn needed(rt: &impl Abort, charge: u64) -> Need {
+    need_of(charge).expect(rt, "a need")
+}
+
+/// The chunks of the need. Refused memory, the slab is as it was, and answers when it is asked again.
+fn take(rt: &impl Abort, alloc: Global, slab: &mut Slab, need: Need) -> Result<Chunks, TakeFault> {
+    let account = slab.account(need.class());
+    let left = slab.pages_left();
+    let taken = slab.take_all(alloc, need);
+    let Err(TakeFault::NoMemory) = taken else {
+        return taken;
+    };
+    assert!(rt; slab.account(need.class()) == account);
+    assert!(rt; slab.pages_left() == left);
+    slab.take_all(alloc, need)
+}
+
+/// Gives the chunks back.
+fn give(rt: &impl Abort, slab: &mut Slab, chunks: Chunks) {
+    let need = chunks.need();
+    let account = slab.account(need.class());
+    assert!(rt; account.out >= need.count());
+    slab.give_all(chunks);
+}
+
+/// Makes the class of the need ready for it once so many chunks came back. A run may refuse one
+/// allocation, so it is asked for twice.
+fn ready(
+    rt: &impl Abort,
+    alloc: Global,
+    slab: &mut Slab,
+    need: Need,
+    back: u32,
+) -> Result<(), TakeFault> {
+    let account = slab.account(need.class());
+    assert!(rt; account.out >= back);
+    match slab.ready(alloc, need, u64::from(back)) {
+        Err(TakeFault::NoMemory) => {
+            let same = slab.account(need.class());
+            assert!(rt; same == account);
+            slab.ready(alloc, need, u64::from(back))
+        }
+        told => told,
+    }
+}
+
+/// A list with room for so many chunks. A run may refuse one allocation, so it is asked for twice.
+fn list_for(alloc: Global, count: u32) -> Result<Vec<Chunks>, Fail> {
+    match Vec::with_capacity(alloc, count as usize) {
+        Ok(list) => Ok(list),
+        Err(_) => Ok(Vec::with_capacity(alloc, count as usize)?),
+    }
+}
+
+/// Writes a part to a place of the chunks.
+fn put(rt: &impl Abort, chunks: &mut Chunks, at: usize, part: &[u8]) {
+    let need = chunks.need();
+    let room = need.count() as usize * need.class().size() as usize;
+    assert!(rt; at <= room);
+    assert!(rt; part.len() <= room - at);
+    chunks.write_at(at, part);
+}
+
+/// The bytes of the chunk at a place.
+fn part<'a>(rt: &impl Abort, chunks: &'a Chunks, at: usize) -> &'a [u8] {
+    let need = chunks.need();
+    assert!(rt; at < need.count() as usize);
+    chunks.part(at)
+}
+
+/// Writes a number at both ends of the chunk.
+fn mark(rt: &impl Abort, chunk: &mut Chunks, number: u32) {
+    let size = chunk.need().class().size() as usize;
+    put(rt, chunk, 0, &number.to_le_bytes());
+    put(rt, chunk, size - 4, &number.to_le_bytes());
+}
+
+/// Returns whether the number stands at both ends of the chunk.
+fn is_marked(chunk: &Chunks, number: u32) -> bool {
+    let mark = number.to_le_bytes();
+    chunk.first().starts_with(&mark) && chunk.first().ends_with(&mark)
+}
+
+/// Finds a need refused.
+fn is_refused(rt: &impl Abort, alloc: Global, slab: &mut Slab, need: Need) {
+    let refused = take(rt, alloc, slab, need).is_err();
+    assert!(rt; refused);
+}
+
+/// Finds the class of the need with that account, and so many pages left.
+fn stands(rt: &impl Abort, slab: &Slab, need: Need, account: Account, left: u32) {
+    assert!(rt; slab.account(need.class()) == account);
+    assert_eq!(rt; slab.pages_left(), left);
+}
+
+/// Finds chunks of the need while its class has that account and so many pages are left, and gives them back.
+fn stand_and_go(
+    rt: &impl Abort,
+    slab: &mut Slab,
+    need: Need,
+    chunks: Chunks,
+    account: Account,
+    left: u32,
+) {
+    assert!(rt; chunks.need() == need);
+    stands(rt, slab, need, account, left);
+    give(rt, slab, chunks);
+}
+
+/// Takes a chunk of the need's class, and writes a number at both ends of it.
+fn take_marked(
+    rt: &impl Abort,
+    alloc: Global,
+    slab: &mut Slab,
+    need: Need,
+    number: u32,
+) -> Result<Chunks, Fail> {
+    let mut chunk = take(rt, alloc, slab, need)?;
+    assert!(rt; chunk.need() == need);
+    mark(rt, &mut chunk, number);
+    Ok(chunk)
+}
+
+/// Takes so many chunks of the need's class, each with its number at both ends.
+fn fill(
+    rt: &impl Abort,
+    alloc: Global,
+    slab: &mut Slab,
+    need: Need,
+    count: u32,
+) -> Result<Vec<Chunks>, Fail> {
+    let mut held = list_for(alloc, count)?;
+    for number in 0..count {
+        held.push(take_marked(rt, alloc, slab, need, number)?)?;
+    }
+    Ok(held)
+}
+
+/// Finds each chunk's number where it was written, and gives the chunks back.
+fn empty(rt: &impl Abort, slab: &mut Slab, held: Vec<Chunks>) {
+    let mut number = 0u32;
+    for chunk in held {
+        assert!(rt; is_marked(&chunk, number));
+        give(rt, slab, chunk);
+        number = number.wrapping_add(1);
+    }
+}
+
+/// Takes every chunk of the need's class, writes its number at both ends of each, and finds the class full with that account and
+/// each number where it was written, then gives all back.
+fn fill_and_empty(
+    rt: &impl Abort,
+    alloc: Global,
+    slab: &mut Slab,
+    need: Need,
+    full: Account,
+) -> Result<(), Fail> {
+    let held = fill(rt, alloc, slab, need, full.out)?;
+    assert!(rt; slab.account(need.class()) == full);
+    is_refused(rt, alloc, slab, need);
+    empty(rt, slab, held);
+    Ok(())
+}
+
+#[test]
+fn filling_and_emptying_leaves_the_same_account(rt: HostRuntime) -> Result<(), Fail> {
+    let alloc = rt.alloc();
+    let mut slab = slab_of(alloc, 2)?;
+    let need = needed(&rt, 100000);
+    for _ in 0..100 {
+        fill_and_empty(&rt, alloc, &mut slab, need, Account { pages: 2, out: 20 })?;
+        stands(&rt, &slab, need, Account { pages: 2, out: 0 }, 0);
+        assert_eq!(rt; slab.unused_chunks(need.class()), 20);
+    }
+    Ok(())
+}
+
+/// Pages of 33 runs of at most 341 chunks, of 38 runs of 2 or 1, of 60 runs of 1, and of one chunk: the size of a chunk, and how
+/// many a page has.
+const PAGES: [(u64, u32); 4] = [(96, 10922), (13880, 75), (17352, 60), (1048576, 1)];
+
+#[test]
+fn chunks_of_a_page_lie_apart(rt: HostRuntime) -> Result<(), Fail> {
+    for row in &PAGES {
+        let mut slab = slab_of(rt.alloc(), 1)?;
+        let need = needed(&rt, row.0);
+        let full = Account {
+            pages: 1,
+            out: row.1,
+        };
+        fill_and_empty(&rt, rt.alloc(), &mut slab, need, full)?;
+    }
+    Ok(())
+}
+
+/// Pages of the class, 1 to 8. A run may refuse one allocation, so they are asked for twice.
+fn pages_of(alloc: Global, class: Class, count: u32) -> Result<Pages, Fail>
+    requires { (1 ≤ count) × (count ≤ 8) }
+{
+    match Pages::new(alloc, class, count) {
+        Ok(pages) => Ok(pages),
+        Err(_) => Ok(Pages::new(alloc, class, count)?),
+    }
+}
+
+/// The chunks of the need, where so many pages of the class are brought, 1 to 8.
+fn take_of(
+    alloc: Global,
+    slab: &mut Slab,
+    need: Need,
+    class: Class,
+    count: u32,
+) -> Result<Chunks, Fail>
+    requires { (1 ≤ count) × (count ≤ 8) }
+{
+    let pages = pages_of(alloc, class, count)?;
+    match slab.take_all_with(alloc, need, Some(pages)) {
+        Err(TakeFault::NoMemory) => Ok(slab.take_all(alloc, need)?),
+        taken => Ok(taken?),
+    }
+}
+
+/// A page of the class that asks for one, and one of another class, which is let go: the size of a chunk, that of the page's, and
+/// how many a page has.
+const BROUGHT: [(u64, u64, u32); 3] = [(96, 96, 10922), (17352, 17352, 60), (13880, 1048576, 75)];
+
+#[test]
+fn a_page_may_be_brought(rt: HostRuntime) -> Result<(), Fail> {
+    let alloc = rt.alloc();
+    for row in &BROUGHT {
+        let mut slab = slab_of(alloc, 1)?;
+        let need = needed(&rt, row.0);
+        let class = class_of(row.1).expect(&rt, "a class");
+        let chunk = take_of(alloc, &mut slab, need, class, 1)?;
+        stand_and_go(&rt, &mut slab, need, chunk, Account { pages: 1, out: 1 }, 0);
+        let full = Account {
+            pages: 1,
+            out: row.2,
+        };
+        fill_and_empty(&rt, alloc, &mut slab, need, full)?;
+    }
+    Ok(())
+}
+
+/// Takes two pages where so many are brought.
+fn take_two_of(rt: &impl Abort, alloc: Global, class: Class, count: u32) -> Result<(), Fail>
+    requires { (1 ≤ count) × (count ≤ 8) }
+{
+    let mut slab = slab_of(alloc, 3)?;
+    let need = needed(rt, 2097152);
+    let chunks = take_of(alloc, &mut slab, need, class, count)?;
+    stand_and_go(rt, &mut slab, need, chunks, Account { pages: 2, out: 2 }, 1);
+    Ok(())
+}
+
+#[test]
+fn pages_that_are_brought_are_a_hint(rt: HostRuntime) -> Result<(), Fail> {
+    let alloc = rt.alloc();
+    let class = class_of(1048576).expect(&rt, "a class");
+    take_two_of(&rt, alloc, class, 1)?;
+    take_two_of(&rt, alloc, class, 2)?;
+    take_two_of(&rt, alloc, class, 3)
+}
+
+#[test]
+fn a_page_stays_with_its_class(rt: HostRuntime) -> Result<(), Fail> {
+    let mut slab = slab_of(rt.alloc(), 1)?;
+    let large = needed(&rt, 1048576);
+    let chunk = take(&rt, rt.alloc(), &mut slab, large)?;
+    assert_eq!(rt; chunk.first().len(), 1048576);
+    give(&rt, &mut slab, chunk);
+    is_refused(&rt, rt.alloc(), &mut slab, needed(&rt, 96));
+    Ok(())
+}
+
+/// Takes the chunks of the need, finds its class with that account and so many pages left, gives them back, and finds none out.
+fn come_and_go(
+    rt: &impl Abort,
+    alloc: Global,
+    slab: &mut Slab,
+    need: Need,
+    account: Account,
+    left: u32,
+) -> Result<(), Fail> {
+    let chunks = take(rt, alloc, slab, need)?;
+    stand_and_go(rt, slab, need, chunks, account, left);
+    stands(rt, slab, need, Account { out: 0, ..account }, left);
+    Ok(())
+}
+
+#[test]
+fn chunks_of_a_need_come_all_or_none(rt: HostRuntime) -> Result<(), Fail> {
+    let alloc = rt.alloc();
+    let mut slab = slab_of(alloc, 3)?;
+    let one = needed(&rt, 1048576);
+    come_and_go(&rt, alloc, &mut slab, one, Account { pages: 1, out: 1 }, 2)?;
+    // One is unused, and two pages are left.
+    is_refused(&rt, alloc, &mut slab, needed(&rt, 3145729));
+    stands(&rt, &slab, one, Account { pages: 1, out: 0 }, 2);
+    let three = needed(&rt, 3145728);
+    come_and_go(&rt, alloc, &mut slab, three, Account { pages: 3, out: 3 }, 0)
+}
+
+#[test]
+fn chunks_that_come_back_serve_what_was_made_ready(rt: HostRuntime) -> Result<(), Fail> {
+    let alloc = rt.alloc();
+    let mut slab = slab_of(alloc, 3)?;
+    let two = needed(&rt, 2097152);
+    let three = needed(&rt, 3145728);
+    let chunks = take(&rt, alloc, &mut slab, two)?;
+    ready(&rt, alloc, &mut slab, three, 2)?;
+    stand_and_go(&rt, &mut slab, two, chunks, Account { pages: 3, out: 2 }, 0);
+    let others = slab.take_all(alloc, three)?;
+    stand_and_go(&rt, &mut slab, three, others, Account { pages: 3, out: 3 }, 0);
+    Ok(())
+}
+
+/// Writes over the border of the first chunk of three and at the end of the last, and finds there what was written.
+fn write_across(rt: &impl Abort, chunks: &mut Chunks) {
+    put(rt, chunks, 1048573, b"abcdefgh");
+    put(rt, chunks, 3145724, b"last");
+    assert!(rt; part(rt, chunks, 0).ends_with(b"abc"));
+    assert!(rt; part(rt, chunks, 1).starts_with(b"defgh"));
+    assert!(rt; part(rt, chunks, 2).ends_with(b"last"));
+}
+
+#[test]
+fn a_part_is_written_across_chunks(rt: HostRuntime) -> Result<(), Fail> {
+    let mut slab = slab_of(rt.alloc(), 3)?;
+    let mut chunks = take(&rt, rt.alloc(), &mut slab, needed(&rt, 3145728))?;
+    write_across(&rt, &mut chunks);
+    give(&rt, &mut slab, chunks);
+    Ok(())
+}
+
+#[test]
+fn chunks_take_sixteen_bytes(rt: HostRuntime) -> Result<(), Fail> {
+    assert_eq!(rt; size_of::<Chunks>(), 16);
+    Ok(())
+}
+
+/// What a charge needs: the class, and the count.
+const NEEDS: [(u64, u8, u32); 8] = [
+    (0, 1, 1),
+    (96, 1, 1),
+    (97, 2, 1),
+    (1048576, 40, 1),
+    (1048577, 40, 2),
+    (2097152, 40, 2),
+    (2097153, 40, 3),
+    (8388608, 40, 8),
+];
+
+#[test]
+fn edges_of_the_needs(rt: HostRuntime) {
+    for row in &NEEDS {
+        let need = needed(&rt, row.0);
+        assert_eq!(rt; need.class().number(), row.1);
+        assert_eq!(rt; need.count(), row.2);
+    }
+    assert!(rt; need_of(8388609).is_none());
+}
+
+/// What class holds a charge: its number, its size, and how many of its chunks a page has.
+const CLASSES: [(u64, u8, u32, u32); 6] = [
+    (0, 1, 96, 10922),
+    (96, 1, 96, 10922),
+    (97, 2, 120, 8738),
+    (493552, 39, 493552, 2),
+    (493553, 40, 1048576, 1),
+    (1048576, 40, 1048576, 1),
+];
+
+#[test]
+fn edges_of_the_classes(rt: HostRuntime) {
+    for row in &CLASSES {
+        let class = class_of(row.0).expect(&rt, "a class");
+        assert_eq!(rt; class.number(), row.1);
+        assert_eq!(rt; class.size(), row.2);
+        assert_eq!(rt; class.chunks_a_page(), row.3);
+    }
+    assert!(rt; class_of(1048577).is_none());
+}
