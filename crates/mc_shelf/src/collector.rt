@@ -1,8 +1,5 @@
 //! The slab of a desk, some of whose free chunks are collected later.
 
-#[cfg(test)]
-pub(crate) mod tests;
-
 ghost use Rattle.std.specs.Prelude.{◌≡◌, ◌+◌, ◌-◌, ◌<◌, ◌≤◌, ℕ, List, [], true, false, slice_index, vec_len, IfOk};
 ghost use Rattle.mc_slab.specs.Classes.{IsClass};
 ghost use Rattle.mc_slab.specs.Slabs.{

@@ -1,8 +1,5 @@
 //! What the shelves of a store share.
 
-#[cfg(test)]
-mod tests;
-
 ghost use Rattle.std.specs.Prelude.{◌≡◌, ◌+◌, ◌-◌, ◌^◌, ◌<◌, ◌≤◌, true, false, None, IfOk, IfErr, IfSome, OnOk, OnErr};
 ghost use Rattle.std.specs.Prelude.{ℕ, List};
 ghost use Rattle.mc_slab.specs.Needs.{IsNeed};

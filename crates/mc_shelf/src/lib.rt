@@ -26,8 +26,6 @@
 mod aside;
 mod begun;
 mod collector;
-#[cfg(test)]
-mod compare_tests;
 mod counts;
 mod desk;
 mod entry;

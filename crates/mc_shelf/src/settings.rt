@@ -1,8 +1,5 @@
 //! How a store is set up.
 
-#[cfg(test)]
-mod tests;
-
 ghost use Rattle.std.specs.Prelude.{◌≡◌, ◌↔◌, IfSome, IsSome};
 ghost use Rattle.mc_shelf.specs.Ranges.{
   AreInRange,

@@ -1,17 +1,6 @@
 //! The store of one thread, as callers see it: how it is set up, its hasher, and the plain
 //! machine's state.
 
-#[cfg(test)]
-mod lag_tests;
-#[cfg(test)]
-mod number_tests;
-#[cfg(test)]
-mod overwrite_tests;
-#[cfg(test)]
-mod paged_tests;
-#[cfg(test)]
-mod tests;
-
 ghost use Rattle.std.specs.Prelude.{◌≡◌, ◌↔◌, ◌-◌, ◌≤◌, min, length, replicate, slice_index, slice_set, IfOk, OnErr, Err, refl};
 ghost use Rattle.mc_command.specs.Commands.{key_of, longest_key};
 ghost use Rattle.mc_command.specs.Plain.{Plain, opening, starting, plain, Answered, Spent, MayFail};

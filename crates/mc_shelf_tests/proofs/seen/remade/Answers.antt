@@ -1,4 +1,4 @@
-use Rattle.mc_shelf.proofs.store.tests.remade.Goals as goal
+use Rattle.mc_shelf_tests.proofs.seen.remade.Goals as goal
 
 pub returns : goal.returns
 returns c = c.from_parts.ensures.plain c.args.store.plain c.into_parts.ensures.set_up c.into_parts.ensures.parts

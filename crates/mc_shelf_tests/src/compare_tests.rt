@@ -5,10 +5,10 @@
 ghost use Rattle.std.specs.Prelude.{◌<◌, ◌≤◌, length};
 ghost use Rattle.mc_command.specs.Commands.{key_of};
 
-use crate::{Settings, Store};
 use mc_command::{Bytes, KeyStep, KeyTest, PlainStore, StepFault, Verb};
 use mc_hop::{Constant, Fnv, KeyHash};
 use mc_rows::{ask_step, is_same};
+use mc_shelf::{Settings, Store};
 use mc_testing::Dice;
 use mc_time::Moment;
 use std::alloc::{AllocError, Global};

@@ -1,6 +1,6 @@
 //! Numbers that a store may be set up by, and others.
 
-use super::*;
+use mc_shelf::Settings;
 use std::test::*;
 
 /// Pages, a greatest charge and shelves, and whether a store may be set up so.

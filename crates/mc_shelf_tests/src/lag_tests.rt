@@ -1,53 +1,19 @@
 //! A shelf to which all keys go, and whose growth gets no turn.
 
-ghost use Rattle.std.specs.Prelude.{◌≡◌, ◌≤◌, length};
-
-use super::*;
-use crate::counts::ShelfCounts;
+use crate::lengths::{ByLength, front};
+use crate::seen::counts;
+use crate::stores::open_with;
 use mc_command::Verb;
 use mc_rows::{Ask, ask_step, filled_block, step_of};
+use mc_shelf::{ShelfCounts, Store};
+use mc_time::Moment;
+use std::alloc::{AllocError, Global};
 use std::test::*;
-
-/// Gives keys of each length another hash. All of them go to the first shelf, and each to a home of
-/// its own, if there are that many homes.
-#[derive(Clone, Copy, Drop)]
-struct ByLength;
-
-impl KeyHash for ByLength {
-    ghost use Rattle.std.specs.Prelude.{◌*◌, ◌%◌, length};
-
-    ghost hash_of = { λ hasher key. length key % 256 * 256 };
-
-    fn hash(&self, key: &[u8]) -> u64 {
-        key.len() as u64 % 256 * 256
-    }
-}
-
-/// A store of 64 pages, asked for again if memory is refused.
-fn open(alloc: Global) -> Result<Store<ByLength>, AllocError> {
-    let settings = Settings {
-        pages: 64,
-        greatest: 1048576,
-        shelves: 64,
-    };
-    match Store::new(alloc, settings, ByLength) {
-        Err(_) => Store::new(alloc, settings, ByLength),
-        made => made,
-    }
-}
-
-/// Lends the first bytes, as many as are asked for, at most 250 and at most all.
-fn front(bytes: &[u8], len: usize) -> &[u8]
-    ensures { length result.now ≤ 250 }
-{
-    let (front, _) = bytes.split_at(len.min(bytes.len()).min(250));
-    front
-}
 
 /// A store with keys of each length from 1 to that, at most 250.
 fn store_of(alloc: Global, keys: usize) -> Result<Store<ByLength>, AllocError> {
     let long = filled_block(alloc, 250)?;
-    let mut store = open(alloc)?;
+    let mut store = open_with(alloc, 64, ByLength)?;
     let now = Moment::from_seconds_at_most(1000);
     for before in 0..keys {
         let key = front(long.as_slice(), before + 1);
@@ -55,14 +21,6 @@ fn store_of(alloc: Global, keys: usize) -> Result<Store<ByLength>, AllocError> {
         let _ = ask_step(&mut store, alloc, &step, now);
     }
     Ok(store)
-}
-
-/// What is counted of the first shelf.
-fn counts(store: &Store<ByLength>) -> Option<ShelfCounts> {
-    match store.parts.shelves.first() {
-        Some(shelf) => Some(shelf.counts()),
-        None => None,
-    }
 }
 
 /// The table of 64 homes grows before the 49th key comes. The growth lags from the 97th key on, when there are more than three
@@ -109,7 +67,7 @@ fn a_shelf_counts_what_its_table_has(rt: HostRuntime) -> Result<(), Fail> {
             left,
             strays: 0,
         };
-        assert!(rt; counts(&store) == Some(want), "after {keys} keys");
+        assert!(rt; counts(store) == Some(want), "after {keys} keys");
     }
     Ok(())
 }

@@ -2,12 +2,15 @@
 
 ghost use Rattle.std.specs.Prelude.{◌≤◌};
 
-use super::tests::{asked_in_parts, goes_alike};
-use super::*;
+use crate::parted::{Both, asked_in_parts, goes_alike};
+use crate::seen::account;
+use crate::stores::set_up;
 use mc_command::Verb;
 use mc_hop::Fnv;
 use mc_rows::{Ask, Row, Want, ask_step, filled_block, first_unlike, set, step_of};
-use mc_slab::{Account, class_of};
+use mc_shelf::{Settings, Store};
+use mc_time::Moment;
+use std::alloc::{AllocError, Global};
 use std::process::Abort;
 use std::test::*;
 
@@ -19,6 +22,9 @@ const THREE: usize = 3_000_000;
 /// A block that makes a page with a key of one byte.
 const ONE: usize = 1_048_527;
 
+/// A charge of the last class, whose chunks are pages.
+const PAGE: u64 = 1_048_576;
+
 /// A store of that many pages, whose items may take eight, asked for again if memory is refused.
 fn open(alloc: Global, pages: u32) -> Result<Store<Fnv>, AllocError>
     requires { (1 ≤ pages) × (pages ≤ 65536) }
@@ -28,10 +34,7 @@ fn open(alloc: Global, pages: u32) -> Result<Store<Fnv>, AllocError>
         greatest: 8388608,
         shelves: 64,
     };
-    match Store::new(alloc, settings, Fnv) {
-        Err(_) => Store::new(alloc, settings, Fnv),
-        made => made,
-    }
+    set_up(alloc, settings, Fnv)
 }
 
 /// A new store of that many pages answers each row as it wants, and has so many pages of the last class and chunks of it out
@@ -47,19 +50,9 @@ fn answers(
 {
     let mut store = open(alloc, pages)?;
     assert_eq!(rt; first_unlike(&mut store, alloc, rows)?, None);
-    assert_eq!(rt; account(&store), want);
+    let (_, has) = account(store, PAGE);
+    assert_eq!(rt; has, want);
     Ok(())
-}
-
-/// The pages of the last class, and its chunks that are out.
-fn account(store: &Store<Fnv>) -> (u32, u32) {
-    match class_of(1_048_576) {
-        Some(class) => {
-            let Account { pages, out } = store.parts.desk.account(class);
-            (pages, out)
-        }
-        None => (0, 0),
-    }
 }
 
 /// An item that isn't dead keeps its pages until the new one has its own.
@@ -191,13 +184,20 @@ fn joins_of_pages_go_in_two_parts(rt: HostRuntime) -> Result<(), Fail> {
         join(Verb::Append, b"z"),
         (1000, b"k", Ask::Get, Want::Hit(4, all.as_slice())),
     ];
-    let mut whole = open(alloc, 6)?;
-    let mut parted = open(alloc, 6)?;
+    let mut both = Both {
+        whole: open(alloc, 6)?,
+        parted: open(alloc, 6)?,
+    };
     for row in rows {
-        assert!(rt; goes_alike(alloc, &mut whole, &mut parted, row));
+        let (same, alike) = goes_alike(alloc, both, row);
+        both = same;
+        assert!(rt; alike);
     }
-    assert_eq!(rt; account(&whole), (6, 3));
-    assert_eq!(rt; account(&parted), (6, 3));
+    let Both { whole, parted } = both;
+    for store in [whole, parted] {
+        let (_, has) = account(store, PAGE);
+        assert_eq!(rt; has, (6, 3));
+    }
     Ok(())
 }
 
@@ -224,7 +224,9 @@ fn a_join_of_pages_is_left(rt: HostRuntime) -> Result<(), Fail> {
     for (verb, block, want) in rows {
         let step = step_of(b"k", Ask::Store(verb, 0, block));
         let mut left = false;
-        let _ = asked_in_parts(&mut store, alloc, &step, now, &mut left)?;
+        let (same, answer) = asked_in_parts(store, alloc, &step, now, &mut left);
+        store = same;
+        let _ = answer?;
         assert_eq!(rt; left, want);
     }
     Ok(())

@@ -1,61 +1,15 @@
 //! How many items a shelf has, and how many keys of each number, the hash modulo 4096.
 
-ghost use Rattle.std.specs.Prelude.{◌≡◌, ◌≤◌, length};
-
-use super::*;
-use crate::purge::Purging;
+use crate::lengths::{ByLength, front};
+use crate::seen::{counts, dead_chunks, keys};
+use crate::stores::open_with;
 use mc_command::Verb;
-use mc_hop::Constant;
+use mc_hop::{Constant, KeyHash};
 use mc_rows::{Ask, Row, Want, ask_step, filled_block, first_unlike, set, step_of};
+use mc_shelf::{Shelf, Store};
+use mc_time::Moment;
+use std::alloc::{AllocError, Global};
 use std::test::*;
-
-/// Gives keys of each length another hash, all of the first shelf. Lengths that are alike modulo 16 have one number, 256 times the
-/// rest.
-#[derive(Clone, Copy, Drop)]
-struct ByLength;
-
-impl KeyHash for ByLength {
-    ghost use Rattle.std.specs.Prelude.{◌*◌, ◌%◌, length};
-
-    ghost hash_of = { λ hasher key. length key % 256 * 256 };
-
-    fn hash(&self, key: &[u8]) -> u64 {
-        key.len() as u64 % 256 * 256
-    }
-}
-
-/// A store of 64 pages, asked for again if memory is refused.
-fn open<K: KeyHash + Drop + Copy>(alloc: Global, hasher: K) -> Result<Store<K>, AllocError> {
-    let settings = Settings {
-        pages: 64,
-        greatest: 1048576,
-        shelves: 64,
-    };
-    match Store::new(alloc, settings, hasher) {
-        Err(_) => Store::new(alloc, settings, hasher),
-        made => made,
-    }
-}
-
-/// How many items the first shelf has.
-fn items<K: KeyHash + Drop>(store: &Store<K>) -> usize {
-    match store.parts.shelves.first() {
-        Some(shelf) => shelf.len(),
-        None => 0,
-    }
-}
-
-/// What the place of a number has, where the keys of the first shelf were counted into places of 0.
-fn keys<K: KeyHash + Drop>(store: &Store<K>, number: usize) -> u64 {
-    let mut counts = [0u64; 4096];
-    if let Some(shelf) = store.parts.shelves.first() {
-        shelf.count_numbers(&mut counts);
-    }
-    match counts.get(number) {
-        Some(count) => *count,
-        None => 0,
-    }
-}
 
 /// Drops the dead of the first shelf, if that is asked.
 fn purge_at(store: &mut Store<Constant>, seconds: u64, purges: bool) {
@@ -87,11 +41,12 @@ fn a_shelf_counts_its_items(rt: HostRuntime) -> Result<(), Fail> {
         ((1025, b"a", Ask::Flush(0), Want::Told("flushed")), false, 0),
     ];
     let alloc = rt.alloc();
-    let mut store = open(alloc, Constant(5056))?;
+    let mut store = open_with(alloc, 64, Constant(5056))?;
     for (row, purges, want) in rows {
         assert_eq!(rt; first_unlike(&mut store, alloc, &[row])?, None);
         purge_at(&mut store, row.0, purges);
-        let has = (items(&store), keys(&store, 960));
+        let (same, has) = keys(store, 960);
+        store = same;
         assert!(rt;
             has == (want, want as u64),
             "{} and {} at {}",
@@ -107,14 +62,8 @@ fn a_shelf_counts_its_items(rt: HostRuntime) -> Result<(), Fail> {
 /// that stay. None is counted if it found no memory twice.
 fn begun_at(alloc: Global, shelf: &mut Shelf, seconds: u64) -> Option<(usize, usize)> {
     let now = Moment::from_seconds_at_most(seconds);
-    let purging = match shelf.begin_purge(alloc, now) {
-        Purging::Whole => shelf.begin_purge(alloc, now),
-        begun => begun,
-    };
-    match purging {
-        Purging::Apart(chunks) => Some((chunks.len(), shelf.len())),
-        Purging::Whole => None,
-    }
+    let chunks = dead_chunks(alloc, shelf, now)?;
+    Some((chunks.len(), shelf.len()))
 }
 
 /// Dead items are off the shelf once its purge has begun, and their chunks are kept for the desk.
@@ -128,7 +77,7 @@ fn a_purge_begins_at_the_shelf_alone(rt: HostRuntime) -> Result<(), Fail> {
         set(1000, b"e", 10, b"x", "stored"),
     ];
     let alloc = rt.alloc();
-    let mut store = open(alloc, Constant(5056))?;
+    let mut store = open_with(alloc, 64, Constant(5056))?;
     assert_eq!(rt; first_unlike(&mut store, alloc, &rows)?, None);
     let mut shelves = store.into_parts().shelves;
     // at which second, how many go, and how many stay
@@ -148,14 +97,6 @@ fn a_purge_begins_at_the_shelf_alone(rt: HostRuntime) -> Result<(), Fail> {
     Ok(())
 }
 
-/// Lends the first bytes, as many as are asked for, at most 250 and at most all.
-fn front(bytes: &[u8], len: usize) -> &[u8]
-    ensures { length result.now ≤ 250 }
-{
-    let (front, _) = bytes.split_at(len.min(bytes.len()).min(250));
-    front
-}
-
 /// A store with keys of each length from 1 to that, at most 250. A few entries are moved after each key, so that a growth runs for a while.
 fn store_of<K: KeyHash + Drop + Copy>(
     alloc: Global,
@@ -163,7 +104,7 @@ fn store_of<K: KeyHash + Drop + Copy>(
     many: usize,
 ) -> Result<Store<K>, AllocError> {
     let long = filled_block(alloc, 250)?;
-    let mut store = open(alloc, hasher)?;
+    let mut store = open_with(alloc, 64, hasher)?;
     let now = Moment::from_seconds_at_most(1000);
     for before in 0..many {
         let key = front(long.as_slice(), before + 1);
@@ -194,19 +135,16 @@ fn keys_are_counted_by_their_numbers(rt: HostRuntime) -> Result<(), Fail> {
     ];
     for (many, number, want) in rows {
         let store = store_of(rt.alloc(), ByLength, many)?;
-        let has = keys(&store, number);
+        let (_, (_, has)) = keys(store, number);
         assert!(rt; has == want, "{has} of {number} after {many} keys");
     }
     Ok(())
 }
 
 /// How many entries of the first shelf stand in no table, and how many in an old one.
-fn apart<K: KeyHash + Drop>(store: &Store<K>) -> (u64, u64) {
-    match store.parts.shelves.first() {
-        Some(shelf) => {
-            let counts = shelf.counts();
-            (counts.strays, counts.left)
-        }
+fn apart<K: KeyHash + Drop>(store: Store<K>) -> (u64, u64) {
+    match counts(store) {
+        Some(counts) => (counts.strays, counts.left),
         None => (0, 0),
     }
 }
@@ -218,7 +156,7 @@ fn keys_that_find_no_bucket_are_strays(rt: HostRuntime) -> Result<(), Fail> {
     let rows: [(usize, (u64, u64)); 4] = [(32, (0, 0)), (33, (1, 0)), (34, (1, 30)), (35, (1, 28))];
     for (many, want) in rows {
         let store = store_of(rt.alloc(), Constant(0), many)?;
-        let has = apart(&store);
+        let has = apart(store);
         assert!(rt; has == want, "{} and {} after {many} keys", has.0, has.1);
     }
     Ok(())
@@ -239,9 +177,9 @@ fn strays_are_counted(rt: HostRuntime) -> Result<(), Fail> {
     ];
     for (many, number, want) in rows {
         let store = store_of(rt.alloc(), Constant(0), many)?;
-        let has = (items(&store) as u64, keys(&store, number));
+        let (_, has) = keys(store, number);
         assert!(rt;
-            has == (many as u64, want),
+            has == (many, want),
             "{} of {number} after {many} keys",
             has.1
         );

@@ -2,52 +2,16 @@
 //! class has a free chunk, the new item goes into the chunk of the old one. If an allocation is
 //! refused the store answers as before, and takes the step when it is asked again.
 
-ghost use Rattle.std.specs.Prelude.{◌≤◌, length};
-
-use super::*;
-use mc_command::{Bytes, Verb};
+use crate::seen::account;
+use crate::store_tests::answers;
+use crate::stores::open;
+use mc_command::{Bytes, KeyStep, Reply, Verb};
 use mc_hop::Fnv;
-use mc_rows::{Ask, Row, Want, ask_step, filled_block, first_unlike, set};
-use mc_slab::{Account, class_of};
-use std::process::Abort;
+use mc_rows::{Ask, Row, Want, ask_step, filled_block, set};
+use mc_shelf::Store;
+use mc_time::Moment;
+use std::alloc::Global;
 use std::test::*;
-
-/// A store of that many pages, asked for again if memory is refused.
-fn open(alloc: Global, pages: u32) -> Result<Store<Fnv>, AllocError>
-    requires { (1 ≤ pages) × (pages ≤ 65536) }
-{
-    let settings = Settings {
-        pages,
-        greatest: 1048576,
-        shelves: 64,
-    };
-    match Store::new(alloc, settings, Fnv) {
-        Err(_) => Store::new(alloc, settings, Fnv),
-        made => made,
-    }
-}
-
-/// The store answers each row as it wants.
-fn answers(
-    rt: &impl Abort,
-    alloc: Global,
-    store: &mut Store<Fnv>,
-    rows: &[Row<'_>],
-) -> Result<(), Fail> {
-    assert_eq!(rt; first_unlike(store, alloc, rows)?, None);
-    Ok(())
-}
-
-/// What the class of a charge has.
-fn account(store: &Store<Fnv>, charge: u64) -> (u32, u32) {
-    match class_of(charge) {
-        Some(class) => {
-            let Account { pages, out } = store.parts.desk.account(class);
-            (pages, out)
-        }
-        None => (0, 0),
-    }
-}
 
 /// Expiry, moment and unique number are the new item's: the expiry of the one before is over at 1010, and a flush at 1020 kills
 /// what was written before then.
@@ -120,7 +84,9 @@ fn the_account_of_the_class_stays(rt: HostRuntime) -> Result<(), Fail> {
     let mut store = open(alloc, 1)?;
     for (row, want) in rows {
         answers(&rt, alloc, &mut store, &[row])?;
-        assert_eq!(rt; account(&store, 96), (1, want));
+        let (same, has) = account(store, 96);
+        store = same;
+        assert_eq!(rt; has, (1, want));
     }
     Ok(())
 }
@@ -140,7 +106,8 @@ fn no_chunk_is_free_and_no_page_left(rt: HostRuntime) -> Result<(), Fail> {
     ];
     let mut store = open(rt.alloc(), 1)?;
     answers(&rt, rt.alloc(), &mut store, &rows)?;
-    assert_eq!(rt; account(&store, 600_000), (1, 1));
+    let (_, has) = account(store, 600_000);
+    assert_eq!(rt; has, (1, 1));
     Ok(())
 }
 
@@ -161,7 +128,8 @@ fn no_chunk_is_free_and_a_page_comes(rt: HostRuntime) -> Result<(), Fail> {
     ];
     let mut store = open(rt.alloc(), 2)?;
     answers(&rt, rt.alloc(), &mut store, &rows)?;
-    assert_eq!(rt; account(&store, 600_000), (2, 1));
+    let (_, has) = account(store, 600_000);
+    assert_eq!(rt; has, (2, 1));
     Ok(())
 }
 
@@ -191,8 +159,11 @@ fn joins_end_where_a_chunk_does(rt: HostRuntime) -> Result<(), Fail> {
     let mut store = open(alloc, 2)?;
     for (row, least, next) in rows {
         answers(&rt, alloc, &mut store, &[row])?;
-        assert_eq!(rt; account(&store, 96).1, least);
-        assert_eq!(rt; account(&store, 120).1, next);
+        let (same, (_, of_least)) = account(store, 96);
+        let (same, (_, of_next)) = account(same, 120);
+        store = same;
+        assert_eq!(rt; of_least, least);
+        assert_eq!(rt; of_next, next);
     }
     Ok(())
 }
@@ -233,7 +204,8 @@ fn a_join_wants_a_free_chunk(rt: HostRuntime) -> Result<(), Fail> {
     ];
     let mut store = open(rt.alloc(), 1)?;
     answers(&rt, rt.alloc(), &mut store, &rows)?;
-    assert_eq!(rt; account(&store, 600_000), (1, 1));
+    let (_, has) = account(store, 600_000);
+    assert_eq!(rt; has, (1, 1));
     Ok(())
 }
 
@@ -251,6 +223,7 @@ fn a_join_takes_a_page_once(rt: HostRuntime) -> Result<(), Fail> {
     ];
     let mut store = open(rt.alloc(), 2)?;
     answers(&rt, rt.alloc(), &mut store, &rows)?;
-    assert_eq!(rt; account(&store, 600_000), (2, 1));
+    let (_, has) = account(store, 600_000);
+    assert_eq!(rt; has, (2, 1));
     Ok(())
 }

@@ -2,58 +2,17 @@
 //! 10. If an allocation is refused the store answers as before, and takes the step when it is
 //! asked again.
 
-ghost use Rattle.std.specs.Prelude.{◌≡◌, ◌≤◌, length, IfOk, OnErr};
-ghost use Rattle.mc_command.specs.Commands.{key_of};
-ghost use Rattle.mc_command.specs.Laws.{IsOnKey};
-ghost use Rattle.mc_shelf.specs.States.{CanStandAt};
-ghost use Rattle.mc_shelf.specs.Plans.{CanLook, StepTaken};
-
-use super::*;
-use crate::begun::Begun;
-use crate::exchange::Brought;
-use mc_command::Verb;
+use crate::parted::{Both, goes_alike};
+use crate::seen::{account, may_have_dead, remade};
+use crate::stores::{open, open_with, set_up};
+use mc_command::{Steps, Verb};
 use mc_hop::{Constant, Fnv};
-use mc_rows::{
-    Ask, Row, Want, ask_step, filled_block, first_unlike, is_wanted, set, step_of, told_of,
-};
-use mc_slab::class_of;
+use mc_rows::{Ask, Row, Want, ask_step, filled_block, first_unlike, set, step_of, told_of};
+use mc_shelf::{Settings, Store};
+use mc_time::Moment;
+use std::alloc::{AllocError, Global};
 use std::process::Abort;
 use std::test::*;
-
-/// A store of that many pages, asked for again if memory is refused.
-fn open(alloc: Global, pages: u32) -> Result<Store<Fnv>, AllocError>
-    requires { (1 ≤ pages) × (pages ≤ 65536) }
-{
-    open_with(alloc, pages, Fnv)
-}
-
-/// The same, with a hasher.
-fn open_with<K: KeyHash + Drop + Copy>(
-    alloc: Global,
-    pages: u32,
-    hasher: K,
-) -> Result<Store<K>, AllocError>
-    requires { (1 ≤ pages) × (pages ≤ 65536) }
-{
-    let settings = Settings {
-        pages,
-        greatest: Settings::GREATEST,
-        shelves: 64,
-    };
-    set_up(alloc, settings, hasher)
-}
-
-/// A store that is set up so, asked for again if memory is refused.
-fn set_up<K: KeyHash + Drop + Copy>(
-    alloc: Global,
-    settings: Settings,
-    hasher: K,
-) -> Result<Store<K>, AllocError> {
-    match Store::new(alloc, settings, hasher) {
-        Err(_) => Store::new(alloc, settings, hasher),
-        made => made,
-    }
-}
 
 /// How stores of one shelf, of 64 and of 256 are set up.
 const EACH: [Settings; 3] = [
@@ -89,7 +48,7 @@ fn open_at_the_last(alloc: Global) -> Result<Store<Fnv>, AllocError> {
 }
 
 /// The store answers each row as it wants.
-fn answers(
+pub(crate) fn answers(
     rt: &impl Abort,
     alloc: Global,
     store: &mut Store<Fnv>,
@@ -193,17 +152,9 @@ fn purge_all(store: &mut Store<Fnv>, seconds: u64) {
     }
 }
 
-/// How many chunks of the least class are out.
-fn out(store: &Store<Fnv>) -> u32 {
-    match class_of(96) {
-        Some(class) => store.parts.desk.account(class).out,
-        None => 0,
-    }
-}
-
 #[test]
 fn chunks_of_the_dead_come_back(rt: HostRuntime) -> Result<(), Fail> {
-    // After each row and a purge at its second, how many chunks are out.
+    // After each row and a purge at its second, how many chunks of the least class are out.
     let rows: [(Row<'_>, u32); 14] = [
         (set(1000, b"a", 0, b"1", "stored"), 1),
         (set(1000, b"b", 10, b"2", "stored"), 2),
@@ -225,7 +176,9 @@ fn chunks_of_the_dead_come_back(rt: HostRuntime) -> Result<(), Fail> {
     for (row, want) in rows {
         answers(&rt, alloc, &mut store, &[row])?;
         purge_all(&mut store, row.0);
-        assert!(rt; out(&store) == want, "{} are out", out(&store));
+        let (same, (_, out)) = account(store, 96);
+        store = same;
+        assert!(rt; out == want, "{out} are out");
     }
     Ok(())
 }
@@ -342,15 +295,6 @@ fn a_purge_drops_the_dead_of_one_shelf(rt: HostRuntime) -> Result<(), Fail> {
     answers(&rt, rt.alloc(), &mut store, &free)
 }
 
-/// Returns whether an item of one of the shelves may be dead.
-fn may_have_dead(store: &Store<Fnv>, now: Moment) -> bool {
-    store
-        .parts
-        .shelves
-        .iter()
-        .any(|shelf| shelf.may_have_dead(now))
-}
-
 /// From the soonest expiry on, or a flush, an item may be dead, and not before, until a purge has
 /// dropped those that are.
 #[test]
@@ -393,17 +337,11 @@ fn shelves_tell_whether_one_may_be_dead(rt: HostRuntime) -> Result<(), Fail> {
     for (row, seconds, want) in rows {
         answers(&rt, alloc, &mut store, &[row])?;
         let now = Moment::from_seconds_at_most(seconds);
-        let may = may_have_dead(&store, now);
+        let (same, may) = may_have_dead(store, now);
+        store = same;
         assert!(rt; may == want, "{may} at {seconds}");
     }
     Ok(())
-}
-
-/// The store made again of its parts.
-fn remade(store: Store<Fnv>) -> Store<Fnv>
-    ensures { result.plain ≡ store.plain }
-{
-    Store::from_parts(store.into_parts())
 }
 
 #[test]
@@ -461,113 +399,6 @@ fn entries_are_moved_while_a_table_grows(rt: HostRuntime) -> Result<(), Fail> {
     Ok(())
 }
 
-/// Returns whether something of a step was left.
-fn is_left(begun: &Begun) -> bool {
-    match begun {
-        Begun::Left(_) => true,
-        Begun::Done | Begun::Full => false,
-    }
-}
-
-/// Takes a step on a shelf's key in two parts, with nothing between them, and with pages in exchange for those of an item that it
-/// joins to. Tells whether something was left to the second.
-fn step_in_parts(
-    alloc: Global,
-    shelf: &mut Shelf,
-    desk: &mut Desk,
-    step: &KeyStep<'_>,
-    hash: u64,
-    now: Moment,
-    left: &mut bool,
-) -> Result<Reply, StepFault>
-    requires look { CanLook step.now hash shelf.old.content }
-    requires stands { CanStandAt (key_of step.now) shelf.old.content desk.old }
-    ensures took { IfOk result (λ reply. StepTaken step.now now hash shelf.old.content desk.old
-        reply shelf.new.content desk.new) }
-    ensures err { OnErr result
-        ((shelf.new.content ≡ shelf.old.content) × (desk.new ≡ desk.old)) }
-{
-    let mut plan = shelf.look(alloc, step, hash, now)?;
-    let exchange = shelf.exchange(alloc, &plan)?;
-    let brought = Brought {
-        pages: None,
-        exchange,
-    };
-    let begun = shelf.begin(alloc, &plan, step, desk, brought)?;
-    *left = is_left(&begun);
-    Ok(shelf.finish(&mut plan, begun, step))
-}
-
-/// Takes a step at its key's shelf in two parts. Tells whether something was left to the second.
-fn begin_and_finish<K: KeyHash + Drop>(
-    store: &mut Store<K>,
-    alloc: Global,
-    step: &KeyStep<'_>,
-    now: Moment,
-    left: &mut bool,
-) -> Result<Reply, StepFault>
-    requires on_key { IsOnKey step.now }
-    requires key { length (key_of step.now) ≤ 250 }
-{
-    let hash = store.parts.hasher.hash(step.key());
-    let at = hash % u64::from(store.parts.settings.shelves);
-    let StoreParts { shelves, desk, .. } = &mut store.parts;
-    let shelf = &mut shelves[at as usize];
-    step_in_parts(alloc, shelf, desk, step, hash, now, left)
-}
-
-/// Takes a step on one key in two parts, again if memory is refused, and tells whether something was left to the second. A flush
-/// is taken whole.
-pub(super) fn asked_in_parts(
-    store: &mut Store<Fnv>,
-    alloc: Global,
-    step: &KeyStep<'_>,
-    now: Moment,
-    left: &mut bool,
-) -> Result<Reply, StepFault>
-    requires { length (key_of step.now) ≤ 250 }
-{
-    match step {
-        KeyStep::Flush { .. } => store.step(alloc, step, now),
-        _ => match begin_and_finish(store, alloc, step, now, left) {
-            Err(StepFault::NoMemory) => begin_and_finish(store, alloc, step, now, left),
-            answer => answer,
-        },
-    }
-}
-
-/// Returns whether two desks have the same number next, and as many chunks of the two least classes
-/// out.
-fn are_alike(desk: &Desk, other: &Desk) -> bool {
-    let mut alike = desk.next_unique() == other.next_unique();
-    for charge in [96, 120] {
-        if let Some(class) = class_of(charge) {
-            alike &= desk.account(class).out == other.account(class).out;
-        }
-    }
-    alike
-}
-
-/// Returns whether a row is answered as it wants both whole and in two parts, and leaves the two
-/// stores' desks alike.
-pub(super) fn goes_alike(
-    alloc: Global,
-    whole: &mut Store<Fnv>,
-    parted: &mut Store<Fnv>,
-    row: Row<'_>,
-) -> bool {
-    let (seconds, key, ask, want) = row;
-    if key.len() > 250 {
-        return false;
-    }
-    let now = Moment::from_seconds_at_most(seconds);
-    let step = step_of(key, ask);
-    let mut left = false;
-    is_wanted(&ask_step(whole, alloc, &step, now), want)
-        && is_wanted(&asked_in_parts(parted, alloc, &step, now, &mut left), want)
-        && are_alike(&whole.parts.desk, &parted.parts.desk)
-}
-
 /// A step that is begun and then finished answers and leaves what it does whole: of a new key, of a live item that one of its
 /// class replaces and one of another, of a dead item in whose chunk one is written, of a join and of a number; and of large
 /// blocks, which are copied last.
@@ -605,10 +436,13 @@ fn a_step_in_two_parts_is_the_whole_step(rt: HostRuntime) -> Result<(), Fail> {
         (1020, b"k", Ask::Get, Want::Hit(12, &large[..5999])),
     ];
     let alloc = rt.alloc();
-    let mut whole = open(alloc, 4)?;
-    let mut parted = open(alloc, 4)?;
+    let mut both = Both {
+        whole: open(alloc, 4)?,
+        parted: open(alloc, 4)?,
+    };
     for row in rows {
-        let alike = goes_alike(alloc, &mut whole, &mut parted, row);
+        let (same, alike) = goes_alike(alloc, both, row);
+        both = same;
         assert!(rt; alike, "at {}", row.0);
     }
     Ok(())

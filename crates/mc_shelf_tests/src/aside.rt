@@ -1,0 +1,28 @@
+//! A store that is flushed at once, as a store is that others wait for.
+
+use mc_hop::KeyHash;
+use mc_shelf::{Store, StoreParts};
+use std::alloc::{AllocError, Global};
+
+use crate::stores::set_up;
+
+/// Flushes a store at once: its desk lays its shelves aside, and those of a new store come in their places. No flush waits then.
+pub(crate) fn laid_aside<K: KeyHash + Drop + Copy>(
+    alloc: Global,
+    store: Store<K>,
+) -> Result<Store<K>, AllocError> {
+    let StoreParts {
+        settings,
+        hasher,
+        shelves: aside,
+        mut desk,
+    } = store.into_parts();
+    let StoreParts { shelves, .. } = set_up(alloc, settings, hasher)?.into_parts();
+    desk.lay_aside(aside);
+    Ok(Store::from_parts(StoreParts {
+        settings,
+        hasher,
+        shelves,
+        desk,
+    }))
+}

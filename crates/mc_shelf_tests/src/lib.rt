@@ -1,0 +1,35 @@
+//! The tests of `mc_shelf`: the store of one thread, its shelves, and the desk that they share.
+//!
+//! A crate that has tests is proved twice, without them and with them. So these stand in a crate of
+//! their own, and the library, which the store for many threads waits for, is proved once.
+//!
+//! A test goes through a whole store wherever it can: its invariant is what the calls of shelves and
+//! desk require. What a test sees of the parts it sees by taking the store apart and making it again
+//! of its parts, which changes nothing and takes no memory (`src/seen.rt`). A step in two parts, and
+//! a flush that lays the shelves aside, go the same way (`src/parted.rt`, `src/aside.rt`).
+//!
+//! Begin with `src/store_tests.rt`. `src/compare_tests.rt` has random steps, answered as by the
+//! plain store.
+#![tactic(auto)]
+
+mod aside;
+#[cfg(test)]
+mod aside_tests;
+#[cfg(test)]
+mod compare_tests;
+#[cfg(test)]
+mod lag_tests;
+mod lengths;
+#[cfg(test)]
+mod number_tests;
+#[cfg(test)]
+mod overwrite_tests;
+#[cfg(test)]
+mod paged_tests;
+mod parted;
+mod seen;
+#[cfg(test)]
+mod settings_tests;
+#[cfg(test)]
+mod store_tests;
+mod stores;

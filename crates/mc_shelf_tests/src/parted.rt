@@ -1,0 +1,149 @@
+//! Steps that are taken in two parts, as a store does that others wait for.
+
+ghost use Rattle.std.specs.Prelude.{◌≡◌, ◌≤◌, length, IfOk, OnErr};
+ghost use Rattle.mc_command.specs.Commands.{key_of};
+ghost use Rattle.mc_command.specs.Laws.{IsOnKey};
+ghost use Rattle.mc_shelf.specs.States.{CanStandAt};
+ghost use Rattle.mc_shelf.specs.Plans.{CanLook, StepTaken};
+
+use mc_command::{KeyStep, Reply, StepFault, Steps};
+use mc_hop::{Fnv, KeyHash};
+use mc_rows::{Row, ask_step, is_wanted, step_of};
+use mc_shelf::{Begun, Brought, Desk, Shelf, Store, StoreParts};
+use mc_time::Moment;
+use std::alloc::Global;
+
+use crate::seen::account_at;
+
+/// Returns whether something of a step was left.
+fn is_left(begun: &Begun) -> bool {
+    match begun {
+        Begun::Left(_) => true,
+        Begun::Done | Begun::Full => false,
+    }
+}
+
+/// Takes a step on a shelf's key in two parts, with nothing between them, and with pages in exchange for those of an item that it
+/// joins to. Tells whether something was left to the second.
+fn step_in_parts(
+    alloc: Global,
+    shelf: &mut Shelf,
+    desk: &mut Desk,
+    step: &KeyStep<'_>,
+    hash: u64,
+    now: Moment,
+    left: &mut bool,
+) -> Result<Reply, StepFault>
+    requires look { CanLook step.now hash shelf.old.content }
+    requires stands { CanStandAt (key_of step.now) shelf.old.content desk.old }
+    ensures took { IfOk result (λ reply. StepTaken step.now now hash shelf.old.content desk.old
+        reply shelf.new.content desk.new) }
+    ensures err { OnErr result
+        ((shelf.new.content ≡ shelf.old.content) × (desk.new ≡ desk.old)) }
+{
+    let mut plan = shelf.look(alloc, step, hash, now)?;
+    let exchange = shelf.exchange(alloc, &plan)?;
+    let brought = Brought {
+        pages: None,
+        exchange,
+    };
+    let begun = shelf.begin(alloc, &plan, step, desk, brought)?;
+    *left = is_left(&begun);
+    Ok(shelf.finish(&mut plan, begun, step))
+}
+
+/// Takes a step at its key's shelf in two parts. Tells whether something was left to the second.
+fn begin_and_finish<K: KeyHash + Drop>(
+    store: Store<K>,
+    alloc: Global,
+    step: &KeyStep<'_>,
+    now: Moment,
+    left: &mut bool,
+) -> (Store<K>, Result<Reply, StepFault>)
+    requires on_key { IsOnKey step.now }
+    requires key { length (key_of step.now) ≤ 250 }
+{
+    let mut parts = store.into_parts();
+    let hash = parts.hasher.hash(step.key());
+    let at = hash % u64::from(parts.settings.shelves);
+    let StoreParts { shelves, desk, .. } = &mut parts;
+    let shelf = &mut shelves[at as usize];
+    let answer = step_in_parts(alloc, shelf, desk, step, hash, now, left);
+    (Store::from_parts(parts), answer)
+}
+
+/// Takes a step on one key in two parts, again if memory is refused, and tells whether something was left to the second. A flush
+/// is taken whole.
+pub(crate) fn asked_in_parts(
+    mut store: Store<Fnv>,
+    alloc: Global,
+    step: &KeyStep<'_>,
+    now: Moment,
+    left: &mut bool,
+) -> (Store<Fnv>, Result<Reply, StepFault>)
+    requires { length (key_of step.now) ≤ 250 }
+{
+    match step {
+        KeyStep::Flush { .. } => {
+            let answer = store.step(alloc, step, now);
+            (store, answer)
+        }
+        _ => match begin_and_finish(store, alloc, step, now, left) {
+            (store, Err(StepFault::NoMemory)) => begin_and_finish(store, alloc, step, now, left),
+            answered => answered,
+        },
+    }
+}
+
+/// Returns whether two desks have the same number next, and as many chunks of the two least classes
+/// out.
+fn are_alike(desk: &Desk, other: &Desk) -> bool {
+    let mut alike = desk.next_unique() == other.next_unique();
+    for charge in [96, 120] {
+        alike &= account_at(desk, charge).1 == account_at(other, charge).1;
+    }
+    alike
+}
+
+/// Two stores, of which one takes its steps whole and the other in two parts.
+#[derive(Drop)]
+pub(crate) struct Both {
+    pub(crate) whole: Store<Fnv>,
+    pub(crate) parted: Store<Fnv>,
+}
+
+/// Returns whether the desks of both are alike.
+fn have_alike(both: Both) -> (Both, bool) {
+    let Both { whole, parted } = both;
+    let (whole, parted) = (whole.into_parts(), parted.into_parts());
+    let alike = are_alike(&whole.desk, &parted.desk);
+    let both = Both {
+        whole: Store::from_parts(whole),
+        parted: Store::from_parts(parted),
+    };
+    (both, alike)
+}
+
+/// Returns whether a row is answered as it wants both whole and in two parts.
+fn are_wanted(alloc: Global, both: Both, row: Row<'_>) -> (Both, bool) {
+    let (seconds, key, ask, want) = row;
+    if key.len() > 250 {
+        return (both, false);
+    }
+    let now = Moment::from_seconds_at_most(seconds);
+    let step = step_of(key, ask);
+    let Both { mut whole, parted } = both;
+    let answer = ask_step(&mut whole, alloc, &step, now);
+    let mut left = false;
+    let (parted, parts) = asked_in_parts(parted, alloc, &step, now, &mut left);
+    let wanted = is_wanted(&answer, want) && is_wanted(&parts, want);
+    (Both { whole, parted }, wanted)
+}
+
+/// Returns whether a row is answered as it wants both whole and in two parts, and leaves the two
+/// stores' desks alike.
+pub(crate) fn goes_alike(alloc: Global, both: Both, row: Row<'_>) -> (Both, bool) {
+    let (both, wanted) = are_wanted(alloc, both, row);
+    let (both, alike) = have_alike(both);
+    (both, wanted && alike)
+}

@@ -1,0 +1,86 @@
+//! What tests see of a store's parts. Most give the store back, made again of its parts.
+
+ghost use Rattle.std.specs.Prelude.{◌≡◌};
+
+use mc_hop::{Fnv, KeyHash};
+use mc_shelf::{Desk, Purging, Shelf, ShelfCounts, Store};
+use mc_slab::{Account, Chunks, class_of};
+use mc_time::Moment;
+use std::alloc::Global;
+
+/// Makes a store again of its parts.
+pub(crate) fn remade(store: Store<Fnv>) -> Store<Fnv>
+    ensures { result.plain ≡ store.plain }
+{
+    Store::from_parts(store.into_parts())
+}
+
+/// Tells what the class of a charge has at a desk: its pages, and its chunks that are out.
+pub(crate) fn account_at(desk: &Desk, charge: u64) -> (u32, u32) {
+    match class_of(charge) {
+        Some(class) => {
+            let Account { pages, out } = desk.account(class);
+            (pages, out)
+        }
+        None => (0, 0),
+    }
+}
+
+/// Tells the same of a store.
+pub(crate) fn account<K: KeyHash + Drop>(store: Store<K>, charge: u64) -> (Store<K>, (u32, u32)) {
+    let parts = store.into_parts();
+    let account = account_at(&parts.desk, charge);
+    (Store::from_parts(parts), account)
+}
+
+/// Returns whether an item of one of the shelves may be dead.
+pub(crate) fn may_have_dead<K: KeyHash + Drop>(
+    store: Store<K>,
+    now: Moment,
+) -> (Store<K>, bool) {
+    let parts = store.into_parts();
+    let may = parts.shelves.iter().any(|shelf| shelf.may_have_dead(now));
+    (Store::from_parts(parts), may)
+}
+
+/// Tells what is counted of the first shelf.
+pub(crate) fn counts<K: KeyHash + Drop>(store: Store<K>) -> Option<ShelfCounts> {
+    match store.into_parts().shelves.first() {
+        Some(shelf) => Some(shelf.counts()),
+        None => None,
+    }
+}
+
+/// Counts the items of the first shelf, and its keys of a number, the hash modulo 4096: what the place of that number has, where
+/// the keys were counted into places of 0.
+fn count_keys(shelves: &[Shelf], number: usize) -> (usize, u64) {
+    let Some(shelf) = shelves.first() else {
+        return (0, 0);
+    };
+    let mut counts = [0u64; 4096];
+    shelf.count_numbers(&mut counts);
+    match counts.get(number) {
+        Some(count) => (shelf.len(), *count),
+        None => (shelf.len(), 0),
+    }
+}
+
+/// Tells the same of a store.
+pub(crate) fn keys<K: KeyHash + Drop>(store: Store<K>, number: usize) -> (Store<K>, (usize, u64)) {
+    let parts = store.into_parts();
+    let has = count_keys(&parts.shelves, number);
+    (Store::from_parts(parts), has)
+}
+
+/// Begins a purge of a shelf, again if memory is refused, and gives the chunks of its dead items. There are none if it was refused
+/// twice.
+pub(crate) fn dead_chunks(alloc: Global, shelf: &mut Shelf, now: Moment) -> Option<Vec<Chunks>> {
+    let purging = match shelf.begin_purge(alloc, now) {
+        Purging::Whole => shelf.begin_purge(alloc, now),
+        begun => begun,
+    };
+    match purging {
+        Purging::Apart(chunks) => Some(chunks),
+        Purging::Whole => None,
+    }
+}
