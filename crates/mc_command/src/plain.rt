@@ -3,8 +3,6 @@
 mod item;
 mod purge;
 mod room;
-#[cfg(test)]
-mod tests;
 mod write;
 
 ghost use Rattle.std.specs.Prelude.{◌≡◌, ◌≤◌, length, Err, IfOk, OnErr, refl};

@@ -22,16 +22,8 @@
 #![tactic(auto)]
 
 mod budget;
-#[cfg(test)]
-mod budget_tests;
-#[cfg(test)]
-mod calls;
 mod door;
-#[cfg(test)]
-mod door_tests;
 mod gathering;
-#[cfg(test)]
-mod gathering_tests;
 mod guest;
 mod guests;
 mod laws;
@@ -44,8 +36,6 @@ mod row;
 mod talk;
 mod tally;
 mod tap;
-#[cfg(test)]
-mod visit_tests;
 mod weighed;
 
 pub use budget::Budget;

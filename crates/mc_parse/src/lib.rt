@@ -51,6 +51,3 @@ pub use note::{KeySpan, Noted, Span, lend};
 pub use peek::{Peek, peek_at};
 pub use queue::{FIRST_PIECE, Queue};
 pub use source::Source;
-
-#[cfg(test)]
-mod tests;

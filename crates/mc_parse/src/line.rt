@@ -352,6 +352,3 @@ fn exptime_formed(word: &[u8]) -> Result<i64, LineFault>
 {
     exptime_of(word).ok_or(LineFault::BadFormat)
 }
-
-#[cfg(test)]
-mod tests;

@@ -8,15 +8,13 @@
 //! store that takes steps (`mc_command`'s `Steps`), and tells the first that was answered otherwise.
 //!
 //! It has next to no contracts, and is proved safe as all else is. It stands on mc_time and
-//! mc_command, so their own tests can't use it: the rows of the plain store stand here
-//! (`src/steps_tests.rt`).
+//! mc_command, so that tests of every store can use it. The rows of the plain store stand in
+//! `mc_session_tests` (`src/rows_tests.rt`).
 //!
 //! Begin with `src/steps.rt`.
 #![tactic(auto)]
 
 mod steps;
-#[cfg(test)]
-mod steps_tests;
 
 pub use steps::{
     Ask, Row, Want, ask_step, filled_block, first_unlike, is_same, is_wanted, set, step_of, told_of,

@@ -39,8 +39,3 @@ pub use laws::{
 pub use rounds::{WRITE_AT, piece_buffer, serve_endpoint, write_out};
 pub use serving::{ServeFault, serve};
 pub use session::{Session, Turn, TurnFault};
-
-#[cfg(test)]
-mod hit_tests;
-#[cfg(test)]
-mod tests;

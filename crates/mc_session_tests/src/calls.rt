@@ -1,10 +1,10 @@
-//! How the calls of links in memory go, for tests.
+//! How the calls of links in memory go.
 
 use std::marker::Model;
 
 /// How a call of a link goes.
 #[derive(Clone, Copy, Debug, PartialEq, Eq)]
-pub enum Call {
+pub(crate) enum Call {
     Fails,
     /// The faults can't be counted any more.
     GivesNone,
@@ -16,7 +16,7 @@ pub enum Call {
 
 /// The calls of a link, each other one of which is empty. Contracts see how many failed.
 #[derive(Drop)]
-pub struct Calls {
+pub(crate) struct Calls {
     /// In how many calls from now one fails; none does at 0.
     until_fault: u64,
     faults: u64,

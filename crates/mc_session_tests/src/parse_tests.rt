@@ -1,9 +1,11 @@
+//! Queues and feeds: what unread bytes begin with, and what is held of them.
+
 ghost use Rattle.std.specs.Prelude.{◌≡◌, ◌∷◌, []};
 ghost use Rattle.std.specs.Option.{option_map};
 ghost use Rattle.mc_parse.specs.Peeks.{unit_of};
 
-use super::*;
 use mc_command::{Command, LineFault, Lone, Verb};
+use mc_parse::{Append, FIRST_PIECE, Feed, Peek, Queue, Source, peek_at};
 use std::alloc::{AllocError, Global};
 use std::test::*;
 
@@ -35,6 +37,40 @@ fn is_gats_60(peek: Peek<'_>, left: usize, first: &[u8]) -> bool {
     }
 }
 
+/// What is seen of what was found, and how many bytes spelled it.
+#[derive(Clone, Copy, PartialEq, Eq)]
+enum Seen {
+    Lone(Lone, usize),
+    Get(usize),
+    /// Another command.
+    Other(usize),
+    More,
+    Bad(LineFault, usize),
+    TooLong,
+}
+
+/// A version line as it is mostly written.
+const VERSION: Seen = Seen::Lone(Lone::Version, 9);
+
+/// What is seen of a command that so many bytes spelled.
+fn seen_of(command: Command<'_>, len: usize) -> Seen {
+    match command {
+        Command::Lone(lone) => Seen::Lone(lone, len),
+        Command::Get { .. } => Seen::Get(len),
+        _ => Seen::Other(len),
+    }
+}
+
+/// Returns whether this is seen of what was found.
+fn shows(found: Peek<'_>, seen: Seen) -> bool {
+    match found {
+        Peek::Whole(command, len) => seen_of(command, len) == seen,
+        Peek::More => seen == Seen::More,
+        Peek::Bad(fault, len) => seen == Seen::Bad(fault, len),
+        Peek::TooLong => seen == Seen::TooLong,
+    }
+}
+
 /// How many bytes spell what was found.
 fn len_of(peek: Peek<'_>) -> Option<usize>
     ensures { result ≡ option_map (λ found. found.1) (unit_of peek.entry) }
@@ -63,6 +99,17 @@ fn push_at_last(feed: &mut Feed, piece: &[u8]) -> Result<bool, AllocError> {
     let is_same = feed.held_bytes() == held && len_of(feed.peek()) == found;
     feed.push(piece)?;
     Ok(is_same)
+}
+
+/// Pushes a piece. Returns whether a refusal left the feed as it was, and this is found behind it, and so many bytes are held.
+fn takes(feed: &mut Feed, piece: &[u8], seen: Seen, held: usize) -> Result<bool, AllocError> {
+    let is_same = push_at_last(feed, piece)?;
+    Ok(is_same && shows(feed.peek(), seen) && feed.held_bytes() == held)
+}
+
+/// Passes over the first unit. Returns whether so many bytes spelled it, and so many are held then.
+fn passes(feed: &mut Feed, len: usize, held: usize) -> bool {
+    pass_unit(feed) == Some(len) && feed.held_bytes() == held
 }
 
 /// A text of two bytes.
@@ -118,21 +165,23 @@ fn consume_to(queue: &mut Queue<65536>, n: usize, left: &[u8]) -> bool {
     queue.as_slice() == left && queue.len() == left.len() && queue.filled_bytes() <= 2 * left.len()
 }
 
+/// How many bytes are taken away, and what is left then.
+const TAKEN: [(usize, &[u8]); 5] = [
+    (0, b"abcdefgh"),
+    (3, b"defgh"),
+    (1, b"efgh"),
+    (3, b"h"),
+    (1, b""),
+];
+
 #[test]
 fn a_queue_takes_from_its_front(rt: HostRuntime) -> Result<(), AllocError> {
     let mut queue: Queue<65536> = Queue::new(rt.alloc());
     assert!(rt; queue.is_empty());
     queue.push(b"abcdef")?;
     queue.append(&Pair(b'g', b'h'))?;
-    let steps: [(usize, &[u8]); 5] = [
-        (0, b"abcdefgh"),
-        (3, b"defgh"),
-        (1, b"efgh"),
-        (3, b"h"),
-        (1, b""),
-    ];
-    for (n, left) in steps {
-        assert!(rt; consume_to(&mut queue, n, left));
+    for (n, left) in &TAKEN {
+        assert!(rt; consume_to(&mut queue, *n, left));
     }
     assert!(rt; queue.is_empty());
     Ok(())
@@ -268,75 +317,65 @@ fn a_set_and_what_follows(rt: HostRuntime) {
     }
 }
 
+/// Unread bytes, and what is seen of what they begin with.
+const FRONTS: [(&[u8], Seen); 12] = [
+    (
+        b"set a 0 0 3\r\nabcdef\r\n",
+        Seen::Bad(LineFault::BadChunk, 18),
+    ),
+    (
+        b"set a 0 0 3\r\nabc\nget a\r\n",
+        Seen::Bad(LineFault::BadChunk, 18),
+    ),
+    (b"def\r\n", Seen::Bad(LineFault::Unknown, 5)),
+    (b"\r\n", Seen::Bad(LineFault::Unknown, 2)),
+    (b"get\r\n", Seen::Bad(LineFault::Unknown, 5)),
+    (
+        b"set a 4294967296 0 1\r\n",
+        Seen::Bad(LineFault::BadFormat, 22),
+    ),
+    (b"  version  \r\n", Seen::Lone(Lone::Version, 13)),
+    // A line feed ends a line by itself, and one carriage return before it says nothing.
+    (b"version\n", Seen::Lone(Lone::Version, 8)),
+    (b"version\r\r\n", Seen::Bad(LineFault::Unknown, 10)),
+    (b"set a 0 0 5\r\nab", Seen::More),
+    (b"set a 0 0 5\r\nabcde\r", Seen::More),
+    (b"", Seen::More),
+];
+
 #[test]
 fn faults_and_more(rt: HostRuntime) {
-    let cases: [(&[u8], LineFault, usize); 6] = [
-        (b"set a 0 0 3\r\nabcdef\r\n", LineFault::BadChunk, 18),
-        (b"set a 0 0 3\r\nabc\nget a\r\n", LineFault::BadChunk, 18),
-        (b"def\r\n", LineFault::Unknown, 5),
-        (b"\r\n", LineFault::Unknown, 2),
-        (b"get\r\n", LineFault::Unknown, 5),
-        (b"set a 4294967296 0 1\r\n", LineFault::BadFormat, 22),
-    ];
-    for (unread, fault, len) in cases {
-        assert!(rt;
-            matches!(peek_at(GREATEST, unread), Peek::Bad(found, at) if found == fault && at == len)
-        );
+    for (unread, seen) in &FRONTS {
+        assert!(rt; shows(peek_at(GREATEST, unread), *seen));
     }
-    let version = peek_at(GREATEST, b"  version  \r\n");
-    assert!(rt; matches!(version, Peek::Whole(Command::Lone(Lone::Version), 13)));
-    // A line feed ends a line by itself, and one carriage return before it says nothing.
-    let version = peek_at(GREATEST, b"version\n");
-    assert!(rt; matches!(version, Peek::Whole(Command::Lone(Lone::Version), 8)));
-    let twice = peek_at(GREATEST, b"version\r\r\n");
-    assert!(rt; matches!(twice, Peek::Bad(LineFault::Unknown, 10)));
-    assert!(rt; matches!(peek_at(GREATEST, b"set a 0 0 5\r\nab"), Peek::More));
-    assert!(rt; matches!(peek_at(GREATEST, b"set a 0 0 5\r\nabcde\r"), Peek::More));
-    assert!(rt; matches!(peek_at(GREATEST, b""), Peek::More));
 }
 
 #[test]
 fn the_longest_line(rt: HostRuntime) -> Result<(), AllocError> {
     let mut longest = long_line(rt.alloc(), 65536)?;
-    assert!(rt; matches!(peek_at(GREATEST, &longest), Peek::More));
+    assert!(rt; shows(peek_at(GREATEST, &longest), Seen::More));
     longest.push(b'\n')?;
-    assert!(rt;
-        matches!(
-            peek_at(GREATEST, &longest),
-            Peek::Whole(Command::Lone(Lone::Version), 65537)
-        )
-    );
+    assert!(rt; shows(peek_at(GREATEST, &longest), Seen::Lone(Lone::Version, 65537)));
     let mut longer = long_line(rt.alloc(), 65537)?;
-    assert!(rt; matches!(peek_at(GREATEST, &longer), Peek::TooLong));
+    assert!(rt; shows(peek_at(GREATEST, &longer), Seen::TooLong));
     longer.push(b'\n')?;
-    assert!(rt; matches!(peek_at(GREATEST, &longer), Peek::TooLong));
+    assert!(rt; shows(peek_at(GREATEST, &longer), Seen::TooLong));
     Ok(())
 }
 
 #[test]
 fn a_block_that_is_passed_over(rt: HostRuntime) -> Result<(), AllocError> {
     let mut feed = Feed::new(rt.alloc(), 100);
-    assert!(rt; push_at_last(&mut feed, b"set a 0 0 200\r\nxyz")?);
-    assert!(rt;
-        matches!(
-            feed.peek(),
-            Peek::Bad(LineFault::TooLarge { passed: 202 }, 15)
-        )
-    );
-    assert_eq!(rt; pass_unit(&mut feed), Some(15));
-    assert_eq!(rt; feed.held_bytes(), 0);
+    let too_large = Seen::Bad(LineFault::TooLarge { passed: 202 }, 15);
+    assert!(rt; takes(&mut feed, b"set a 0 0 200\r\nxyz", too_large, 18)?);
+    assert!(rt; passes(&mut feed, 15, 0));
     for _ in 0..199 {
-        assert!(rt; push_at_last(&mut feed, b"x")?);
-        assert!(rt; feed.held_bytes() == 0 && feed.filled_bytes() == 0);
-        assert!(rt; matches!(feed.peek(), Peek::More));
+        assert!(rt; takes(&mut feed, b"x", Seen::More, 0)?);
+        assert_eq!(rt; feed.filled_bytes(), 0);
     }
-    assert!(rt; push_at_last(&mut feed, b"version\r\nqu")?);
-    assert!(rt; matches!(feed.peek(), Peek::Whole(Command::Lone(Lone::Version), 9)));
-    assert_eq!(rt; pass_unit(&mut feed), Some(9));
-    assert_eq!(rt; feed.held_bytes(), 2);
-    assert!(rt; matches!(feed.peek(), Peek::More));
-    assert!(rt; push_at_last(&mut feed, b"it\r\n")?);
-    assert!(rt; matches!(feed.peek(), Peek::Whole(Command::Lone(Lone::Quit), 6)));
+    assert!(rt; takes(&mut feed, b"version\r\nqu", VERSION, 11)?);
+    assert!(rt; passes(&mut feed, 9, 2) && shows(feed.peek(), Seen::More));
+    assert!(rt; takes(&mut feed, b"it\r\n", Seen::Lone(Lone::Quit, 6), 6)?);
     feed.clear();
     assert_eq!(rt; feed.held_bytes(), 0);
     Ok(())
@@ -347,25 +386,15 @@ fn a_block_that_is_passed_over(rt: HostRuntime) -> Result<(), AllocError> {
 fn what_is_passed_over_is_never_held(rt: HostRuntime) -> Result<(), AllocError> {
     let mut feed = Feed::new(rt.alloc(), GREATEST);
     let line = b"set a 0 0 2097152\r\n";
-    assert!(rt; push_at_last(&mut feed, line)?);
-    assert_eq!(rt; feed.held_bytes(), line.len());
-    assert!(rt;
-        matches!(
-            feed.peek(),
-            Peek::Bad(LineFault::TooLarge { passed: 2097154 }, 19)
-        )
-    );
-    assert_eq!(rt; pass_unit(&mut feed), Some(19));
+    let too_large = Seen::Bad(LineFault::TooLarge { passed: 2097154 }, 19);
+    assert!(rt; takes(&mut feed, line, too_large, line.len())?);
+    assert!(rt; passes(&mut feed, 19, 0));
     let piece = [b'x'; 16384];
     for _ in 0..128 {
-        assert!(rt; push_at_last(&mut feed, &piece)?);
-        assert!(rt; feed.held_bytes() == 0 && matches!(feed.peek(), Peek::More));
+        assert!(rt; takes(&mut feed, &piece, Seen::More, 0)?);
     }
-    assert!(rt; push_at_last(&mut feed, b"\r\n")?);
-    assert!(rt; feed.held_bytes() == 0 && matches!(feed.peek(), Peek::More));
-    assert!(rt; push_at_last(&mut feed, b"version\r\n")?);
-    assert_eq!(rt; feed.held_bytes(), 9);
-    assert!(rt; matches!(feed.peek(), Peek::Whole(Command::Lone(Lone::Version), 9)));
+    assert!(rt; takes(&mut feed, b"\r\n", Seen::More, 0)?);
+    assert!(rt; takes(&mut feed, b"version\r\n", VERSION, 9)?);
     Ok(())
 }
 
@@ -373,14 +402,13 @@ fn what_is_passed_over_is_never_held(rt: HostRuntime) -> Result<(), AllocError> 
 fn what_is_passed_over_of_a_source_is_never_held(rt: HostRuntime) -> Result<(), AllocError> {
     let mut feed = Feed::new(rt.alloc(), GREATEST);
     assert!(rt; push_at_last(&mut feed, b"set a 0 0 2097152\r\n")?);
-    assert_eq!(rt; pass_unit(&mut feed), Some(19));
+    assert!(rt; passes(&mut feed, 19, 0));
     let mut well = Well { left: 2097154 };
     for _ in 0..129 {
         assert!(rt; take_at_last(&mut feed, &mut well, 16384)?);
         assert!(rt; feed.held_bytes() == 0 && feed.filled_bytes() == 0);
     }
-    assert!(rt; push_at_last(&mut feed, b"version\r\n")?);
-    assert!(rt; matches!(feed.peek(), Peek::Whole(Command::Lone(Lone::Version), 9)));
+    assert!(rt; takes(&mut feed, b"version\r\n", VERSION, 9)?);
     Ok(())
 }
 
@@ -407,53 +435,51 @@ fn a_block_comes_from_a_source(rt: HostRuntime) -> Result<(), AllocError> {
     assert!(rt; push_at_last(&mut feed, b"set a 0 0 1000000\r\n")?);
     let mut well = Well { left: 1000000 };
     for _ in 0..62 {
-        assert!(rt; take_at_last(&mut feed, &mut well, 16384)?);
-        assert!(rt; matches!(feed.peek(), Peek::More));
+        assert!(rt; take_at_last(&mut feed, &mut well, 16384)? && shows(feed.peek(), Seen::More));
     }
     assert!(rt; push_at_last(&mut feed, b"\r\n")?);
     assert_eq!(rt; len_of(feed.peek()), Some(1000021));
     Ok(())
 }
 
+/// How many turns were taken, the next key, and how many keys are left.
+const TURNS: [(usize, &[u8], usize); 3] = [(0, b"one", 3), (1, b"two", 2), (2, b"three", 1)];
+
 #[test]
 fn a_retrieval_in_turns(rt: HostRuntime) -> Result<(), AllocError> {
     let mut feed = Feed::new(rt.alloc(), GREATEST);
     assert!(rt; push_at_last(&mut feed, b"gats 60 one  two three \r\nquit\r\n")?);
-    for (taken, key, left) in [(0, b"one".as_slice(), 3), (1, b"two", 2), (2, b"three", 1)] {
+    for (taken, key, left) in &TURNS {
         // Found by reading the line from its beginning, and then by the note.
         for _ in 0..2 {
-            assert!(rt; is_gats_60(feed.peek_after(taken), left, key));
-            feed.mark(taken);
+            assert!(rt; is_gats_60(feed.peek_after(*taken), *left, key));
+            feed.mark(*taken);
         }
         // What comes behind changes nothing.
         assert!(rt; push_at_last(&mut feed, b"version\r\n")?);
     }
     assert!(rt; is_gats_60(feed.peek_after(usize::MAX), 0, b""));
-    assert_eq!(rt; pass_unit(&mut feed), Some(25));
-    assert!(rt;
-        matches!(
-            feed.peek_after(1),
-            Peek::Whole(Command::Lone(Lone::Quit), 6)
-        )
-    );
+    assert!(rt; pass_unit(&mut feed) == Some(25));
+    assert!(rt; shows(feed.peek_after(1), Seen::Lone(Lone::Quit, 6)));
     Ok(())
 }
+
+/// A stream in pieces, of which none but the last ends a unit.
+const PIECES: [&[u8]; 4] = [
+    b"set a 0 0 100\r\nxyz",
+    b"0123456789012345678901234567890123456789012345678901234567890123456789",
+    b"012345678901234567890123456",
+    b"\r\nget a\r\n",
+];
 
 #[test]
 fn a_push_that_is_refused(rt: HostRuntime) -> Result<(), AllocError> {
     let mut feed = Feed::new(rt.alloc(), GREATEST);
-    let pieces: [&[u8]; 4] = [
-        b"set a 0 0 100\r\nxyz",
-        b"0123456789012345678901234567890123456789012345678901234567890123456789",
-        b"012345678901234567890123456",
-        b"\r\nget a\r\n",
-    ];
-    for piece in pieces {
-        assert!(rt; matches!(feed.peek(), Peek::More));
+    for piece in &PIECES {
+        assert!(rt; shows(feed.peek(), Seen::More));
         assert!(rt; push_at_last(&mut feed, piece)?);
     }
-    assert_eq!(rt; pass_unit(&mut feed), Some(117));
-    assert!(rt; matches!(feed.peek(), Peek::Whole(Command::Get { .. }, 7)));
+    assert!(rt; passes(&mut feed, 117, 7) && shows(feed.peek(), Seen::Get(7)));
     Ok(())
 }
 
@@ -478,18 +504,11 @@ fn the_longest_line_in_pieces(rt: HostRuntime) -> Result<(), AllocError> {
     let spaces = [b' '; 8191];
     assert!(rt; push_at_last(&mut feed, b"version ")?);
     for _ in 0..8 {
-        assert!(rt; matches!(feed.peek(), Peek::More));
+        assert!(rt; shows(feed.peek(), Seen::More));
         assert!(rt; push_at_last(&mut feed, &spaces)?);
     }
-    assert_eq!(rt; feed.held_bytes(), 65536);
-    assert!(rt; matches!(feed.peek(), Peek::More));
-    assert!(rt; push_at_last(&mut feed, b"\n")?);
-    assert!(rt;
-        matches!(
-            feed.peek(),
-            Peek::Whole(Command::Lone(Lone::Version), 65537)
-        )
-    );
+    assert!(rt; feed.held_bytes() == 65536 && shows(feed.peek(), Seen::More));
+    assert!(rt; takes(&mut feed, b"\n", Seen::Lone(Lone::Version, 65537), 65537)?);
     Ok(())
 }
 
@@ -498,13 +517,11 @@ fn a_line_one_byte_too_long_in_pieces(rt: HostRuntime) -> Result<(), AllocError>
     let mut feed = Feed::new(rt.alloc(), GREATEST);
     let spaces = [b' '; 8192];
     for _ in 0..8 {
-        assert!(rt; matches!(feed.peek(), Peek::More));
+        assert!(rt; shows(feed.peek(), Seen::More));
         assert!(rt; push_at_last(&mut feed, &spaces)?);
     }
-    assert!(rt; matches!(feed.peek(), Peek::More));
-    assert!(rt; push_at_last(&mut feed, b" ")?);
-    assert!(rt; matches!(feed.peek(), Peek::TooLong));
-    assert!(rt; push_at_last(&mut feed, b"\n")?);
-    assert!(rt; matches!(feed.peek(), Peek::TooLong));
+    assert!(rt; shows(feed.peek(), Seen::More));
+    assert!(rt; takes(&mut feed, b" ", Seen::TooLong, 65537)?);
+    assert!(rt; takes(&mut feed, b"\n", Seen::TooLong, 65538)?);
     Ok(())
 }

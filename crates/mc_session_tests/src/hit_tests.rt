@@ -1,15 +1,10 @@
 //! Sessions over a store that tells a hit from where its block lies.
 
-ghost use Rattle.std.specs.Prelude.{◌≡◌, ◌<◌, OnOk, OnErr, length};
-ghost use Rattle.mc_command.specs.Commands.{steps};
+ghost use Rattle.std.specs.Prelude.{◌≡◌, OnOk, OnErr};
 ghost use Rattle.mc_command.specs.declared.reply.Reply.{Reply as Told};
 
-use super::*;
-use crate::teller::{Asked, Teller};
-use crate::text::Output;
-use mc_command::{
-    Answer, Bytes, Command, KeyStep, Keys, PlainStore, Reply, StepFault, Steps, Unanswered,
-};
+use mc_command::{Answer, Bytes, KeyStep, PlainStore, Reply, StepFault, Steps, Unanswered};
+use mc_session::{Session, Turn, TurnFault};
 use mc_testing::SESSIONS;
 use mc_time::Moment;
 use std::alloc::{AllocError, Global};
@@ -22,12 +17,16 @@ const GREATEST: u64 = 100;
 /// More turns than a test takes.
 const TURNS: u64 = 1000;
 
-/// How hits are told: with a block in one part or in three, or not at all, as memory for each is
-/// refused.
+/// How hits are told.
 #[derive(Clone, Copy, PartialEq)]
 enum Telling {
+    /// With a block in one part.
     Whole,
+    /// With a block in three, of which the middle one is empty.
     InParts,
+    /// With a block of two bytes, two bytes and the rest, and once more if memory is refused.
+    Again,
+    /// Not at all, as memory for each is refused.
     Refused,
 }
 
@@ -87,7 +86,7 @@ fn tell<A: Answer>(reply: &Reply, telling: Telling, answer: &mut A) -> Result<()
     }
 }
 
-/// Tells a hit, with a block that is cut in three if it lies in parts: the middle one is empty.
+/// Tells a hit, with a block that is cut in three if it lies in parts.
 fn tell_hit<A: Answer>(
     flags: u32,
     unique: u64,
@@ -105,6 +104,15 @@ fn tell_hit<A: Answer>(
             let (front, back) = block.split_at(block.len() / 2);
             let parts = [Bytes::of(front), Bytes::of(b"".as_slice()), Bytes::of(back)];
             answer.hit(flags, unique, &parts)
+        }
+        Telling::Again => {
+            let (front, rest) = block.split_at(block.len().min(2));
+            let (middle, back) = rest.split_at(rest.len().min(2));
+            let parts = [Bytes::of(front), Bytes::of(middle), Bytes::of(back)];
+            match answer.hit(flags, unique, &parts) {
+                Ok(()) => Ok(()),
+                Err(_) => answer.hit(flags, unique, &parts),
+            }
         }
     }
 }
@@ -227,36 +235,34 @@ fn a_refused_hit_decides_nothing(rt: HostRuntime) -> Result<(), Fail> {
     Ok(())
 }
 
-/// Tells a hit in three parts, of the flags 5 and the unique number 7.
-fn told_in_parts(command: &Command<'_>, out: &mut Output) -> Result<(), AllocError>
-    requires { 0 < length (steps command.now) }
-{
-    let parts = [
-        Bytes::of(b"12".as_slice()),
-        Bytes::of(b"\r\n".as_slice()),
-        Bytes::of(b"3".as_slice()),
-    ];
-    let asked = Asked { command };
-    let mut teller = Teller { asked: &asked, out };
-    teller.hit(5, 7, &parts)
+/// A hit in three parts, of the flags 5 and the unique number 7, is told behind another turn. Where
+/// memory for it is refused the output stays as it was, and the hit is told again.
+fn parts_are_one_text(rt: &impl Abort, alloc: Global) -> Result<(), TurnFault> {
+    let mut store = Lending {
+        store: PlainStore::with_next_number(alloc, 64, 1_048_576, 7)?,
+        telling: Telling::Again,
+    };
+    let set = "set a 5 0 5\r\n12\r\n3\r\n";
+    is_told(rt, alloc, &mut store, set, "STORED\r\n")?;
+    let mut session = Session::new(alloc, GREATEST);
+    take_turns(rt, alloc, &mut session, &mut store, "foo\r\n")?;
+    match take_turns(rt, alloc, &mut session, &mut store, "gets a\r\n") {
+        Ok(()) => {
+            let text = b"ERROR\r\nVALUE a 5 5 7\r\n12\r\n3\r\nEND\r\n".as_slice();
+            assert_eq!(rt; session.out(), text);
+            Ok(())
+        }
+        Err(fault) => {
+            assert_eq!(rt; session.out(), b"ERROR\r\n".as_slice());
+            Err(fault)
+        }
+    }
 }
 
-/// A hit in three parts is told behind other bytes. Refused, it leaves them as they were.
 #[test]
 fn a_hit_in_parts_is_one_text(rt: HostRuntime) -> Result<(), Fail> {
-    let command = Command::Get {
-        keys: Keys::of(b" a"),
-        with_unique: true,
-    };
-    let mut out = Output::new(rt.alloc());
-    if out.push(b"ERROR\r\n").is_err() {
-        out.push(b"ERROR\r\n")?;
+    if parts_are_one_text(&rt, rt.alloc()).is_err() {
+        parts_are_one_text(&rt, rt.alloc())?;
     }
-    if told_in_parts(&command, &mut out).is_err() {
-        assert_eq!(rt; out.as_slice(), b"ERROR\r\n".as_slice());
-        told_in_parts(&command, &mut out)?;
-    }
-    let text = b"ERROR\r\nVALUE a 5 5 7\r\n12\r\n3\r\nEND\r\n".as_slice();
-    assert_eq!(rt; out.as_slice(), text);
     Ok(())
 }

@@ -1,5 +1,7 @@
-use super::*;
+//! Replies and faults as texts.
+
 use mc_command::{Block, Bytes, Command, Keys, LineFault, Lone, Reply, Verb, steps_of};
+use mc_reply::{write, write_fault, write_hit, write_plain, write_spent, write_too_long};
 use std::alloc::{AllocError, Global};
 use std::process::Abort;
 use std::test::Fail;
@@ -18,7 +20,7 @@ struct Found {
     text: &'static str,
 }
 
-/// One call of this crate.
+/// One call of mc_reply.
 #[derive(Drop)]
 enum Call<'a> {
     Step(&'a Command<'a>, usize, &'a Reply),

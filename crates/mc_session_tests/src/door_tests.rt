@@ -1,10 +1,6 @@
 //! How many links are let in between two rounds.
 
-use crate::budget::Budget;
-use crate::door::Door;
-use crate::guests::{Guests, WorkEnd};
-use crate::link::{Got, Link, LinkFault, Took};
-use crate::links::{Links, Next};
+use mc_guests::{Budget, Door, Got, Guests, Link, LinkFault, Links, Next, Took, WorkEnd};
 use std::alloc::Global;
 use std::test::*;
 

@@ -3,42 +3,13 @@
 ghost use Rattle.std.specs.Prelude.{◌≤◌, length};
 
 use crate::calls::{Call, Calls};
-use crate::guest::{Guest, Visit};
-use crate::link::{Got, Link, LinkFault, Took};
-use mc_command::{KeyStep, PlainStore, Reply, StepFault, Steps};
+use crate::counting::Counting;
+use mc_guests::{Got, Guest, Link, LinkFault, Took, Visit};
 use mc_time::Moment;
 use std::alloc::{AllocError, Global};
 use std::cell::Cell;
 use std::sync::atomic::{AtomicU64, Ordering};
 use std::test::*;
-
-/// A store that counts what it is asked for, and may be refused memory for each step.
-#[derive(Drop)]
-struct Counting {
-    store: PlainStore,
-    is_refused: bool,
-    asked: u64,
-}
-
-impl Steps for Counting {
-    ghost use Rattle.std.specs.Prelude.{◌≡◌, refl};
-
-    ghost took = { λ old step now reply new. old ≡ old };
-
-    ghost spent = { λ old step now. old ≡ old };
-
-    ghost same = { λ old new. old ≡ old };
-
-    ghost holds_itself = { λ _. refl };
-
-    fn step(&mut self, alloc: Global, step: &KeyStep<'_>, now: Moment) -> Result<Reply, StepFault> {
-        self.asked = self.asked.saturating_add(1);
-        if self.is_refused {
-            return Err(StepFault::NoMemory);
-        }
-        self.store.step(alloc, step, now)
-    }
-}
 
 /// A link that gives its input and takes output one byte at a time, with an empty call after each, and may fail
 /// at one of its calls. Nobody knows which bytes, but of those that it took is seen how many were as expected at
@@ -233,19 +204,10 @@ fn goes_as(alloc: Global, store: &mut Counting, course: &Course) -> Result<bool,
     Ok(goes_so && store.asked == course.steps)
 }
 
-/// A new store, which is refused no memory, or all.
-fn new_store(alloc: Global, is_refused: bool) -> Result<Counting, AllocError> {
-    Ok(Counting {
-        store: PlainStore::new(alloc, 64, 1048576)?,
-        is_refused,
-        asked: 0,
-    })
-}
-
 #[test]
 fn visits_do_what_is_due(rt: HostRuntime) -> Result<(), Fail> {
     for course in COURSES {
-        let mut store = new_store(rt.alloc(), course.is_refused)?;
+        let mut store = Counting::new(rt.alloc(), course.is_refused)?;
         assert!(rt; goes_as(rt.alloc(), &mut store, &course)?);
     }
     Ok(())
@@ -282,7 +244,7 @@ impl<'a> Link for Flood<'a> {
 #[test]
 fn a_read_that_fills_its_piece_makes_the_next_longer(rt: HostRuntime) -> Result<(), Fail> {
     let now = Moment::from_seconds_at_most(1000);
-    let mut store = new_store(rt.alloc(), false)?;
+    let mut store = Counting::new(rt.alloc(), false)?;
     let length = AtomicU64::new(0);
     let mut guest = Guest::new(
         rt.alloc(),

@@ -1,12 +1,12 @@
-//! A store whose unique numbers are spent answers at once, even if an allocation would be refused.
-//! What else it answers is tested in `mc_rows`, by the rows that any store can be held to.
+//! The plain store when its unique numbers are spent: it answers at once, even if an allocation would
+//! be refused. What else it answers is in `rows_tests`, by rows that any store can be held to.
 
 ghost use Rattle.std.specs.Prelude.{◌≤◌, length};
 ghost use Rattle.mc_command.specs.Commands.{key_of};
 
-use super::*;
-use crate::bytes::Bytes;
-use crate::step::Verb;
+use mc_command::{Bytes, KeyStep, PlainStore, Reply, StepFault, Steps, Verb};
+use mc_time::Moment;
+use std::alloc::Global;
 use std::test::Fail;
 
 /// A storage command's step on `n`.

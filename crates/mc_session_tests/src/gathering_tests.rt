@@ -2,8 +2,7 @@
 //! call, and may fail at one.
 
 use crate::calls::{Call, Calls};
-use crate::gathering::Gathering;
-use crate::link::{Got, Link, LinkFault, Took};
+use mc_guests::{Gathering, Got, Link, LinkFault, Took};
 use std::alloc::{AllocError, Global};
 use std::marker::Model;
 use std::test::*;

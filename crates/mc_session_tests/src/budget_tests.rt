@@ -1,0 +1,350 @@
+//! Guests that want much, within a budget and over it. What a budget counts is seen by who is kept
+//! waiting.
+
+use crate::counting::Counting;
+use mc_command::Verb;
+use mc_guests::{Budget, Got, Guests, Link, LinkFault, Took, WorkEnd};
+use mc_rows::{Ask, ask_step, filled_block, step_of};
+use mc_time::Moment;
+use std::alloc::{AllocError, Global};
+use std::cell::Cell;
+use std::test::*;
+
+/// The greatest charge that a line may announce.
+const GREATEST: u64 = 16_777_216;
+
+/// More rounds than guests are awake in.
+const ROUNDS: u64 = 1000;
+
+// Lines that announce a block: each is so many bytes with its block, which doesn't come.
+
+const OF_131072: &[u8] = b"set b 0 0 131052\r\n";
+const OF_131073: &[u8] = b"set b 0 0 131053\r\n";
+const OF_400000: &[u8] = b"set b 0 0 399980\r\n";
+const OF_400001: &[u8] = b"set b 0 0 399981\r\n";
+const OF_600000: &[u8] = b"set b 0 0 599980\r\n";
+const OF_1000000: &[u8] = b"set b 0 0 999980\r\n";
+const OF_1200000: &[u8] = b"set b 0 0 1199979\r\n";
+const OF_9000000: &[u8] = b"set b 0 0 8999979\r\n";
+
+/// A link that gives its input as fast as it is read, and takes all output. When it is over it gives its end.
+/// Nobody knows which bytes.
+#[derive(Drop)]
+struct Quick<'a> {
+    input: &'a [u8],
+    is_over: &'a Cell<bool>,
+    is_ended: bool,
+    was_read: bool,
+}
+
+impl<'a> Link for Quick<'a> {
+    ghost use Rattle.std.specs.Prelude.{None};
+
+    ghost shown = { λ s. record { given = None; taken = None; faults = 0; is_ended = s.is_ended; was_read = s.was_read } };
+
+    fn try_read(&mut self, piece: &mut [u8]) -> Result<Got, LinkFault> {
+        self.was_read = true;
+        let count = piece.len().min(self.input.len());
+        if count == 0 {
+            if self.is_over.get() {
+                self.is_ended = true;
+                return Ok(Got::End);
+            }
+            return Ok(Got::Later);
+        }
+        let (front, rest) = self.input.split_at(count);
+        let (room, _) = piece.split_at_mut(count);
+        room.copy_from_slice(front);
+        self.input = rest;
+        Ok(Got::Bytes(count))
+    }
+
+    fn try_write(&mut self, bytes: &[u8]) -> Result<Took, LinkFault> {
+        self.was_read = false;
+        Ok(Took::Bytes(bytes.len()))
+    }
+
+    fn faults(&self) -> u64 {
+        0
+    }
+}
+
+/// Makes a store with an item `a` of so many bytes.
+fn store_with(alloc: Global, length: usize) -> Result<Counting, Fail> {
+    let mut store = Counting::new(alloc, false)?;
+    let block = filled_block(alloc, length)?;
+    let step = step_of(b"a", Ask::Store(Verb::Set, 0, block.as_slice()));
+    let now = Moment::from_seconds_at_most(1000);
+    let _ = ask_step(&mut store.store, alloc, &step, now)?;
+    Ok(store)
+}
+
+/// Guests, and the store that they ask.
+#[derive(Drop)]
+struct Hall<'a> {
+    guests: Guests<Quick<'a>>,
+    store: Counting,
+}
+
+/// Makes a hall of no guests, who are to hold so many bytes together at most.
+fn hall_of<'a>(alloc: Global, store: Counting, share: usize) -> Hall<'a> {
+    Hall {
+        guests: Guests::new(alloc, Budget::new(share, GREATEST)),
+        store,
+    }
+}
+
+/// Goes round until nobody is awake.
+fn go_round(alloc: Global, hall: &mut Hall<'_>) {
+    let mut end = WorkEnd {
+        served: 0,
+        broken: 0,
+        refused: 0,
+    };
+    for _round in 0..ROUNDS {
+        if hall.guests.is_quiet() {
+            return;
+        }
+        let now = Moment::from_seconds_at_most(1000);
+        hall.guests.visit_all(alloc, &mut hall.store, now);
+        hall.guests.settle(&mut end);
+    }
+}
+
+/// Lets a guest in whose link has this number, goes round until nobody is awake, and says how many
+/// are kept waiting then.
+fn let_in<'a>(
+    alloc: Global,
+    hall: &mut Hall<'a>,
+    number: u64,
+    input: &'a [u8],
+    is_over: &'a Cell<bool>,
+) -> Result<usize, AllocError> {
+    let link = Quick {
+        input,
+        is_over,
+        is_ended: false,
+        was_read: false,
+    };
+    if !hall.guests.welcome(alloc, link, GREATEST, number) {
+        return Err(AllocError);
+    }
+    go_round(alloc, hall);
+    Ok(hall.guests.waiting_guests())
+}
+
+/// Has the guest go whose link has this number, as that is over, and says how many are kept waiting
+/// then.
+fn let_go(alloc: Global, hall: &mut Hall<'_>, number: u64, is_over: &Cell<bool>) -> usize {
+    is_over.set(true);
+    hall.guests.wake(number);
+    go_round(alloc, hall);
+    hall.guests.waiting_guests()
+}
+
+/// Who has room in a budget of 1000000 bytes.
+#[derive(Clone, Copy, Drop)]
+struct Room {
+    /// What one other announced before, or nothing.
+    one: &'static [u8],
+    /// What another announced behind it, or nothing.
+    other: &'static [u8],
+    /// What is announced then.
+    wanted: &'static [u8],
+    /// How many are kept waiting then.
+    waiting: usize,
+}
+
+/// There is room for a little and for one who is alone in wanting more, however much it is.
+const ROOMS: [Room; 10] = [
+    Room {
+        one: b"",
+        other: b"",
+        wanted: OF_131072,
+        waiting: 0,
+    },
+    Room {
+        one: b"",
+        other: b"",
+        wanted: OF_1000000,
+        waiting: 0,
+    },
+    Room {
+        one: b"",
+        other: b"",
+        wanted: OF_9000000,
+        waiting: 0,
+    },
+    Room {
+        one: OF_600000,
+        other: b"",
+        wanted: OF_131072,
+        waiting: 0,
+    },
+    Room {
+        one: OF_600000,
+        other: b"",
+        wanted: OF_400000,
+        waiting: 0,
+    },
+    Room {
+        one: OF_600000,
+        other: b"",
+        wanted: OF_400001,
+        waiting: 1,
+    },
+    Room {
+        one: OF_600000,
+        other: OF_400000,
+        wanted: OF_131072,
+        waiting: 0,
+    },
+    Room {
+        one: OF_600000,
+        other: OF_400000,
+        wanted: OF_131073,
+        waiting: 1,
+    },
+    Room {
+        one: OF_1200000,
+        other: b"",
+        wanted: OF_131072,
+        waiting: 0,
+    },
+    Room {
+        one: OF_1200000,
+        other: b"",
+        wanted: OF_131073,
+        waiting: 1,
+    },
+];
+
+/// Says how many are kept waiting where a guest came beside others.
+fn waiting_in(alloc: Global, room: &Room) -> Result<usize, AllocError> {
+    let goes_on = Cell::new(false);
+    let mut hall = hall_of(alloc, Counting::new(alloc, false)?, 1_000_000);
+    let_all_in(alloc, &mut hall, room, &goes_on)
+}
+
+/// Lets the guests of a room in, and says how many are kept waiting then.
+fn let_all_in<'a>(
+    alloc: Global,
+    hall: &mut Hall<'a>,
+    room: &Room,
+    goes_on: &'a Cell<bool>,
+) -> Result<usize, AllocError> {
+    let_in(alloc, hall, 0, room.one, goes_on)?;
+    let_in(alloc, hall, 1, room.other, goes_on)?;
+    let_in(alloc, hall, 2, room.wanted, goes_on)
+}
+
+/// Two hold all there is. Says how many steps the store is asked for a get of one key then, or when they
+/// have left, and how many are kept waiting of one that wants much.
+fn asked_beside(alloc: Global, have_left: bool) -> Result<(u64, usize), AllocError> {
+    let goes_on = Cell::new(false);
+    let is_over = Cell::new(false);
+    let mut hall = hall_of(alloc, Counting::new(alloc, false)?, 1_000_000);
+    let_two_in(alloc, &mut hall, &is_over)?;
+    if have_left {
+        let_go(alloc, &mut hall, 1, &is_over);
+        let_go(alloc, &mut hall, 2, &is_over);
+    }
+    asked_in(alloc, &mut hall, &goes_on)
+}
+
+/// Lets two in that want 600000 and 400000 bytes, and says how many are kept waiting then.
+fn let_two_in<'a>(
+    alloc: Global,
+    hall: &mut Hall<'a>,
+    is_over: &'a Cell<bool>,
+) -> Result<usize, AllocError> {
+    let_in(alloc, hall, 1, OF_600000, is_over)?;
+    let_in(alloc, hall, 2, OF_400000, is_over)
+}
+
+/// Lets one in that gets a key, and one that wants much. Says how many steps the store was asked for, and
+/// how many are kept waiting.
+fn asked_in<'a>(
+    alloc: Global,
+    hall: &mut Hall<'a>,
+    goes_on: &'a Cell<bool>,
+) -> Result<(u64, usize), AllocError> {
+    let_in(alloc, hall, 3, b"get a\r\n", goes_on)?;
+    let waiting = let_in(alloc, hall, 4, OF_9000000, goes_on)?;
+    Ok((hall.store.asked, waiting))
+}
+
+/// Where little is left it is asked first how long a block is that is to be told.
+#[test]
+fn there_is_room_for_a_little_and_for_one_alone(rt: HostRuntime) -> Result<(), Fail> {
+    for room in &ROOMS {
+        assert_eq!(rt; waiting_in(rt.alloc(), room)?, room.waiting);
+    }
+    assert!(rt; asked_beside(rt.alloc(), false)? == (2, 1));
+    assert!(rt; asked_beside(rt.alloc(), true)? == (1, 0));
+    Ok(())
+}
+
+/// Another holds more than there is. Says how many are kept waiting of a guest with this input, and how
+/// many when the other has left.
+fn waits_for_another(alloc: Global, input: &[u8], length: usize) -> Result<(usize, usize), Fail> {
+    let goes_on = Cell::new(false);
+    let is_over = Cell::new(false);
+    let mut hall = hall_of(alloc, store_with(alloc, length)?, 1_048_576);
+    let_in(alloc, &mut hall, 0, OF_1200000, &is_over)?;
+    let before = let_in(alloc, &mut hall, 1, input, &goes_on)?;
+    let after = let_go(alloc, &mut hall, 0, &is_over);
+    Ok((before, after))
+}
+
+#[test]
+fn who_wants_more_than_a_little_waits(rt: HostRuntime) -> Result<(), Fail> {
+    let set = b"set b 0 0 200000\r\nx".as_slice();
+    assert!(rt; waits_for_another(rt.alloc(), set, 1)? == (1, 0));
+    assert!(rt; waits_for_another(rt.alloc(), b"get a\r\n", 200_000)? == (1, 0));
+    Ok(())
+}
+
+#[test]
+fn who_wants_a_little_goes_on(rt: HostRuntime) -> Result<(), Fail> {
+    let set = b"set b 0 0 100000\r\nx".as_slice();
+    assert!(rt; waits_for_another(rt.alloc(), set, 1)? == (0, 0));
+    assert!(rt; waits_for_another(rt.alloc(), b"get a\r\n", 100_000)? == (0, 0));
+    Ok(())
+}
+
+/// A guest was told a block of so many bytes and rests, or has left then. Of so many bytes one holds
+/// 600000 beside it. Says how many are kept waiting of one that wants 400000.
+fn waits_for_an_idle_one(
+    alloc: Global,
+    length: usize,
+    share: usize,
+    has_left: bool,
+) -> Result<usize, Fail> {
+    let goes_on = Cell::new(false);
+    let is_over = Cell::new(false);
+    let mut hall = hall_of(alloc, store_with(alloc, length)?, share);
+    let_in(alloc, &mut hall, 0, b"get a\r\n", &is_over)?;
+    if has_left {
+        let_go(alloc, &mut hall, 0, &is_over);
+    }
+    Ok(let_two_in(alloc, &mut hall, &goes_on)?)
+}
+
+/// It is counted for some bytes, 4096 at most, and for none when it has left.
+const IDLE: [(usize, bool, usize); 3] = [
+    (1_004_096, false, 0),
+    (1_000_000, false, 1),
+    (1_000_000, true, 0),
+];
+
+#[test]
+fn an_idle_guest_holds_two_first_pieces(rt: HostRuntime) -> Result<(), Fail> {
+    for length in [1, 60_000, 120_000, 1_000_000] {
+        for (share, has_left, waiting) in &IDLE {
+            let counted = waits_for_an_idle_one(rt.alloc(), length, *share, *has_left)?;
+            assert_eq!(rt; counted, *waiting);
+        }
+    }
+    Ok(())
+}

@@ -1,0 +1,44 @@
+//! A store that counts what it is asked for.
+
+use mc_command::{KeyStep, PlainStore, Reply, StepFault, Steps};
+use mc_time::Moment;
+use std::alloc::{AllocError, Global};
+
+/// A plain store that counts the steps that it is asked for, and may be refused memory for each.
+#[derive(Drop)]
+pub(crate) struct Counting {
+    pub(crate) store: PlainStore,
+    pub(crate) is_refused: bool,
+    pub(crate) asked: u64,
+}
+
+impl Counting {
+    /// Makes a store of no items, which is refused no memory, or all.
+    pub fn new(alloc: Global, is_refused: bool) -> Result<Counting, AllocError> {
+        Ok(Counting {
+            store: PlainStore::new(alloc, 64, 1_048_576)?,
+            is_refused,
+            asked: 0,
+        })
+    }
+}
+
+impl Steps for Counting {
+    ghost use Rattle.std.specs.Prelude.{◌≡◌, refl};
+
+    ghost took = { λ old step now reply new. old ≡ old };
+
+    ghost spent = { λ old step now. old ≡ old };
+
+    ghost same = { λ old new. old ≡ old };
+
+    ghost holds_itself = { λ _. refl };
+
+    fn step(&mut self, alloc: Global, step: &KeyStep<'_>, now: Moment) -> Result<Reply, StepFault> {
+        self.asked = self.asked.saturating_add(1);
+        if self.is_refused {
+            return Err(StepFault::NoMemory);
+        }
+        self.store.step(alloc, step, now)
+    }
+}

@@ -1,0 +1,161 @@
+//! What lines say, and their first faults.
+
+use mc_command::{Command, CommandOf, LineFault};
+use mc_parse::{Noted, lend, line_of};
+use std::process::Abort;
+use std::test::*;
+
+const GREATEST: u64 = 1048576;
+
+const UNKNOWN: Option<LineFault> = Some(LineFault::Unknown);
+const BAD_FORMAT: Option<LineFault> = Some(LineFault::BadFormat);
+const BAD_DELTA: Option<LineFault> = Some(LineFault::BadDelta);
+
+/// Lines, and the first fault of each.
+const FAULTS: [(&[u8], Option<LineFault>); 37] = [
+    (b"", UNKNOWN),
+    (b"  ", UNKNOWN),
+    (b"foo", UNKNOWN),
+    (b"GET a", UNKNOWN),
+    (b"get", UNKNOWN),
+    (b"gat x", UNKNOWN),
+    (b"gat x a", BAD_FORMAT),
+    (b"gats 0 a", None),
+    (b"set a x 0", UNKNOWN),
+    (b"set a x 0 1 x", UNKNOWN),
+    (b"set a x 0 1 noreply x", UNKNOWN),
+    (b"set a x 0 1048528", BAD_FORMAT),
+    (
+        b"set a 0 0 1048528",
+        Some(LineFault::TooLarge { passed: 1048530 }),
+    ),
+    (
+        b"set a 0 0 1048528 noreply",
+        Some(LineFault::TooLarge { passed: 1048530 }),
+    ),
+    (b"set a 0 0 1048527", None),
+    (
+        b"set ab 0 0 1048527",
+        Some(LineFault::TooLarge { passed: 1048529 }),
+    ),
+    (b"cas a 0 0 1", UNKNOWN),
+    (b"cas a 0 0 1 noreply", BAD_FORMAT),
+    (b"cas a 0 0 1048528 x", BAD_FORMAT),
+    (
+        b"cas a 0 0 1048528 7",
+        Some(LineFault::TooLarge { passed: 1048530 }),
+    ),
+    (b"touch a", UNKNOWN),
+    (b"touch a x", BAD_FORMAT),
+    (b"delete", UNKNOWN),
+    (b"delete a 1", UNKNOWN),
+    (b"delete a 0 noreply", None),
+    (b"delete a noreply 0", UNKNOWN),
+    (b"delete a 0 0", UNKNOWN),
+    (b"incr a", UNKNOWN),
+    (b"incr a -1", BAD_DELTA),
+    (b"decr a -1 x", UNKNOWN),
+    (b"flush_all noreply", None),
+    (b"flush_all noreply noreply", BAD_FORMAT),
+    (b"flush_all 5 x", UNKNOWN),
+    (b"flush_all -0", None),
+    (b"flush_all -1", BAD_FORMAT),
+    (b"version x", UNKNOWN),
+    (b"quit noreply", UNKNOWN),
+];
+
+#[test]
+fn the_first_fault_of_a_line(rt: HostRuntime) {
+    for (text, fault) in &FAULTS {
+        assert!(rt; line_of(GREATEST, text).err() == *fault, "at {text:?}");
+    }
+}
+
+/// Lines of numbers at their limits, and whether each is well formed.
+const LIMITS: [(&[u8], bool); 12] = [
+    (b"set a 4294967295 0 1", true),
+    (b"set a 4294967296 0 1", false),
+    (b"set a 0 0 2147483645", true),
+    (b"set a 0 0 2147483646", false),
+    (b"touch a 9223372036854775807", true),
+    (b"touch a 9223372036854775808", false),
+    (b"touch a -9223372036854775807", true),
+    (b"touch a -9223372036854775808", false),
+    (b"cas a 0 0 1 18446744073709551615", true),
+    (b"cas a 0 0 1 18446744073709551616", false),
+    (b"flush_all 9223372036854775807", true),
+    (b"flush_all 9223372036854775808", false),
+];
+
+#[test]
+fn numbers_at_their_limits(rt: HostRuntime) {
+    for (text, good) in &LIMITS {
+        assert!(rt; line_of(u64::MAX, text).is_ok() == *good, "at {text:?}");
+    }
+}
+
+#[test]
+fn keys_of_250_and_of_251_bytes(rt: HostRuntime) {
+    let mut get = [b'k'; 257];
+    get[..4].copy_from_slice(b"get ");
+    assert!(rt; line_of(GREATEST, &get[..254]).is_ok());
+    assert!(rt; line_of(GREATEST, &get[..255]).err() == Some(LineFault::BadFormat));
+    // One malformed key of two.
+    get[255..].copy_from_slice(b" a");
+    assert!(rt; line_of(GREATEST, &get).err() == Some(LineFault::BadFormat));
+    // The key's fault comes before the delta's.
+    let mut incr = [b'k'; 258];
+    incr[..5].copy_from_slice(b"incr ");
+    incr[256..].copy_from_slice(b" x");
+    assert!(rt; line_of(GREATEST, &incr).err() == Some(LineFault::BadFormat));
+    incr[255..].copy_from_slice(b" -1");
+    assert!(rt; line_of(GREATEST, &incr).err() == Some(LineFault::BadDelta));
+}
+
+/// A cas line was read so.
+fn is_a_cas(rt: &impl Abort, noted: &Noted, text: &[u8]) {
+    match noted {
+        CommandOf::Cas {
+            key,
+            flags,
+            exptime,
+            block,
+            unique,
+            quiet,
+        } => {
+            assert_eq!(rt; *block, 3);
+            assert!(rt; key.lend(text).as_slice() == b"key".as_slice());
+            assert!(rt; (*flags, *exptime, *unique, *quiet) == (7, -1, u64::MAX, true));
+        }
+        _ => assert!(rt; false),
+    }
+}
+
+/// A gats line was read so.
+fn is_a_gats(rt: &impl Abort, command: Command<'_>) {
+    match command {
+        Command::GetTouch {
+            exptime,
+            keys,
+            with_unique,
+        } => {
+            assert!(rt; (exptime, keys.len(), with_unique) == (0, 2, true));
+            assert!(rt; keys.get(1) == Some(b"b".as_slice()));
+        }
+        _ => assert!(rt; false),
+    }
+}
+
+#[test]
+fn what_a_line_says(rt: HostRuntime) {
+    let text: &[u8] = b" cas key  7 -1 003 18446744073709551615 noreply ";
+    match line_of(GREATEST, text) {
+        Ok(noted) => is_a_cas(&rt, &noted, text),
+        Err(_) => assert!(rt; false),
+    }
+    let text: &[u8] = b"gats 0 a  b";
+    match line_of(GREATEST, text) {
+        Ok(noted) => is_a_gats(&rt, lend(&noted, text, &[])),
+        Err(_) => assert!(rt; false),
+    }
+}
