@@ -26,8 +26,6 @@ mod clock;
 mod descriptors;
 mod door;
 mod end;
-#[cfg(test)]
-mod tests;
 
 pub use binding::{Listeners, Wanting, bind_listener, bound_all, look_for_descriptors, sockets_of};
 pub use clock::AskedClock;

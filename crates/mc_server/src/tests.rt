@@ -103,3 +103,16 @@ fn tells_each_write_that_fails(rt: HostRuntime) -> Result<(), Fail> {
     }
     Ok(())
 }
+
+#[test]
+fn tells_how_a_session_ended(rt: HostRuntime) -> Result<(), Fail> {
+    for (answer, expected) in [
+        (Ok(()), (0, "")),
+        (Err(ServeFault::Read), (1, "mcserver: read fault")),
+        (Err(ServeFault::Write), (1, "mcserver: write fault")),
+        (Err(ServeFault::NoMemory), (1, "mcserver: out of memory")),
+    ] {
+        assert!(rt; End::Served(answer).ending() == expected);
+    }
+    Ok(())
+}

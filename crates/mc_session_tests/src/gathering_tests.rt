@@ -1,7 +1,7 @@
 //! Links that gather, over a link in memory that takes few bytes at a time, takes none at every other
 //! call, and may fail at one.
 
-use crate::calls::{Call, Calls};
+use mc_testing::{Call, Calls};
 use mc_guests::{Gathering, Got, Link, LinkFault, Took};
 use std::alloc::{AllocError, Global};
 use std::marker::Model;

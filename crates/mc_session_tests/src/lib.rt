@@ -5,13 +5,12 @@
 //! It is a crate of its own so that no library is proved a second time with its tests. A test makes
 //! public calls alone. No program uses it.
 //!
-//! What several files share stands beside them: how the calls of a link in memory go
-//! (`src/calls.rt`), and a store that counts what it is asked for (`src/counting.rt`).
+//! What two files share stands beside them: a store that counts what it is asked for
+//! (`src/counting.rt`).
 #![tactic(auto)]
 
 #[cfg(test)]
 mod budget_tests;
-mod calls;
 mod counting;
 #[cfg(test)]
 mod door_tests;

@@ -2,7 +2,7 @@
 
 ghost use Rattle.std.specs.Prelude.{◌≤◌, length};
 
-use crate::calls::{Call, Calls};
+use mc_testing::{Call, Calls};
 use crate::counting::Counting;
 use mc_guests::{Got, Guest, Link, LinkFault, Took, Visit};
 use mc_time::Moment;

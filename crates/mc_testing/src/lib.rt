@@ -6,7 +6,8 @@
 //! they share stands here, so that a test is a table of data.
 //!
 //! [`Drip`] and [`Sip`] are a reader and a writer of a few bytes at a time, which fail at a call
-//! that is named: with them a test cuts a stream into bytes, and fails at each call in turn.
+//! that is named: with them a test cuts a stream into bytes, and fails at each call in turn. [`Calls`]
+//! say the same of a link.
 //! [`Dice`] are a sequence of numbers that is the same in each run. [`SESSIONS`] are inputs with
 //! their outputs. A [`Mark`] is an entry of a hash and a key, for tables and indexes.
 //!
@@ -16,11 +17,13 @@
 //! Begin with `src/streams.rt` and `src/marks.rt`.
 #![tactic(auto)]
 
+mod calls;
 mod dice;
 mod marks;
 mod sessions;
 mod streams;
 
+pub use calls::{Call, Calls};
 pub use dice::Dice;
 pub use marks::{Mark, add_mark, fill_marks, marks_table};
 pub use sessions::SESSIONS;

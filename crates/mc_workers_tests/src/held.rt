@@ -1,6 +1,6 @@
 //! Links in memory, for tests.
 
-use crate::calls::{Call, Calls};
+use mc_testing::{Call, Calls};
 use mc_guests::{Got, Link, LinkFault, Links, Next, Took};
 use std::alloc::Global;
 use std::marker::Model;

@@ -11,7 +11,6 @@
 //! Begin with `src/held.rt` and `src/worker_tests.rt`.
 #![tactic(auto)]
 
-mod calls;
 #[cfg(test)]
 mod counting_tests;
 #[cfg(test)]

@@ -4,7 +4,7 @@ use std::marker::Model;
 
 /// How a call of a link goes.
 #[derive(Clone, Copy, Debug, PartialEq, Eq)]
-pub(crate) enum Call {
+pub enum Call {
     Fails,
     /// The faults can't be counted any more.
     GivesNone,
@@ -16,7 +16,7 @@ pub(crate) enum Call {
 
 /// The calls of a link, each other one of which is empty. Contracts see how many failed.
 #[derive(Drop)]
-pub(crate) struct Calls {
+pub struct Calls {
     /// In how many calls from now one fails; none does at 0.
     until_fault: u64,
     faults: u64,
