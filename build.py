@@ -27,7 +27,7 @@ SECONDS = {
 USUAL = 30
 PARTS = ("src", "specs", "proofs")
 # How much less the copies' checks count where there are more of them than processors.
-NICE = 10
+NICE = 5
 
 
 def crates_of(root):
@@ -59,6 +59,8 @@ class Build:
         self.waiting = below(top, self.uses)
         self.all = len(self.waiting) + 1
         self.done, self.lanes = [], [ROOT]
+        # whether a crate is being proved here
+        self.busy = False
         self.failed = None
         self.start = time.monotonic()
         self.turn = threading.Condition()
@@ -74,10 +76,12 @@ class Build:
             while self.waiting and not self.failed:
                 ready = [it for it in self.waiting if all(low in self.done for low in self.uses[it])]
                 ready.sort(key=self.chain_above, reverse=True)
-                # what the longest chain begins with is left for here, where it has more processors
-                if lane != ROOT and ready and self.chain_above(ready[0]) == max(map(self.chain_above, self.waiting)):
+                # what the longest chain begins with waits for here, where it has more processors, unless another is being proved here
+                longest = max(map(self.chain_above, self.waiting))
+                if lane != ROOT and not self.busy and ready and self.chain_above(ready[0]) == longest:
                     ready = ready[1:]
                 if ready:
+                    self.busy = self.busy or lane == ROOT
                     self.waiting.remove(ready[0])
                     return ready[0]
                 self.turn.wait(1)
@@ -90,6 +94,7 @@ class Build:
             began = time.monotonic()
             ran = subprocess.run(words, cwd=f"{lane}/crates/{crate}", stdin=subprocess.DEVNULL, capture_output=True, text=True, errors="replace")
             with self.turn:
+                self.busy = self.busy and lane != ROOT
                 if ran.returncode:
                     self.failed = self.failed or (crate, ran.stdout + ran.stderr)
                 else:
