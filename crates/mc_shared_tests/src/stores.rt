@@ -61,7 +61,10 @@ pub(crate) fn last_store(alloc: Global) -> Result<Store<Fnv>, AllocError> {
 }
 
 /// A shared store over one that is set up so, and its first caller.
-pub(crate) fn shared_store(alloc: Global, settings: Settings) -> Result<(Shared<Fnv>, Caller), StepFault>
+pub(crate) fn shared_store(
+    alloc: Global,
+    settings: Settings,
+) -> Result<(Shared<Fnv>, Caller), StepFault>
     ensures { IfOk result (λ made. made.1.table ≡ made.0.table) }
 {
     match Shared::over(alloc, filled_store(alloc, settings)?) {

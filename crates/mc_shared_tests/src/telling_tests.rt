@@ -170,7 +170,10 @@ fn a_hit_that_is_not_heard_is_not_taken(rt: HostRuntime) -> Result<(), Fail> {
     let alloc = rt.alloc();
     let (shared, caller) = shared_store(alloc, SOME)?;
     let mut asking = Asking::new(&rt, &shared, caller, &NoGate);
-    assert_eq!(rt; unheard(&mut asking, alloc, b"k", Ask::Gat(10)), "not taken");
+    assert_eq!(rt;
+        unheard(&mut asking, alloc, b"k", Ask::Gat(10)),
+        "not taken"
+    );
     assert_eq!(rt; unheard(&mut asking, alloc, b"zz", Ask::Gat(10)), "taken");
     let set = Ask::Store(Verb::Set, 0, b"z");
     let first = unheard(&mut asking, alloc, b"a", set);
