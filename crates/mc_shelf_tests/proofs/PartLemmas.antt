@@ -33,7 +33,7 @@ module _ {hash_of : List ℕ → ℕ} {settings : Settings} {state : Plain} {lis
         → OnErr result ((shelf'.content ≡ shelf.content) × (desk' ≡ desk)) → ArePartsOfSome hash_of settings (slice_set list at shelf') desk'
     stepped (Ok reply) took same =
         kept shelf' (goes_by_step step mine (parts.each at shelf here) parts.account on
-          (subst (λ (h : ℕ). StepTaken step now h shelf.content desk reply shelf'.content desk') hashed took)).goes
+        (subst (λ (h : ℕ). StepTaken step now h shelf.content desk reply shelf'.content desk') hashed took)).goes
     stepped (Err fault) took same = kept shelf' (record {
       greatest = refl;
       limit = refl;

@@ -1,10 +1,9 @@
 //! A store that is flushed at once, as a store is that others wait for.
 
+use crate::stores::set_up;
 use mc_hop::KeyHash;
 use mc_shelf::{Store, StoreParts};
 use std::alloc::{AllocError, Global};
-
-use crate::stores::set_up;
 
 /// Flushes a store at once: its desk lays its shelves aside, and those of a new store come in their places. No flush waits then.
 pub(crate) fn laid_aside<K: KeyHash + Drop + Copy>(
@@ -14,11 +13,11 @@ pub(crate) fn laid_aside<K: KeyHash + Drop + Copy>(
     let StoreParts {
         settings,
         hasher,
-        shelves: aside,
+        shelves: old,
         mut desk,
     } = store.into_parts();
     let StoreParts { shelves, .. } = set_up(alloc, settings, hasher)?.into_parts();
-    desk.lay_aside(aside);
+    desk.lay_aside(old);
     Ok(Store::from_parts(StoreParts {
         settings,
         hasher,

@@ -1,5 +1,8 @@
-//! Items that lie aside, of which a need takes chunks. A chunk that was an item's before keeps of it what the next one doesn't write, so
-//! it is seen which chunk comes when.
+//! Items that lie aside, of which a need takes chunks.
+//!
+//! Contracts don't say which chunks are collected when, and no call tells it. But a slab hands out the chunk that came back last, and
+//! one that was an item's keeps of it what the next item there doesn't write. So a test puts items of no block, takes their chunks,
+//! and reads whose they were before.
 
 use crate::aside::laid_aside;
 use crate::seen::{account, dead_chunks};
@@ -20,9 +23,10 @@ const LARGE: usize = 600_000;
 /// How many small items lie aside.
 const SMALL: u8 = 60;
 
-/// Where the second byte of a key stands in an item's chunk, and where a byte of a small item's block does, behind an item of none.
+/// Where the second byte of a key stands in an item's chunk, behind the header of 48 bytes and the first.
 const NUMBER: usize = 49;
 
+/// Where a byte of a small item's block stands, which an item of no block doesn't write.
 const WITHIN: usize = 60;
 
 /// Sets a key of two bytes, the second of them this number, and names the answer.
@@ -38,7 +42,7 @@ fn put(
     told_of(&ask_step(store, alloc, &step, Moment::from_seconds_at_most(1000)))
 }
 
-/// Puts small items of these numbers, each with a block of its number and one.
+/// Puts small items of these numbers. The bytes of the block of each are its number and one.
 fn put_small(store: &mut Store<Constant>, alloc: Global, from: u8, to: u8) {
     for number in from..to {
         let block = [number.saturating_add(1); 20];
@@ -46,7 +50,8 @@ fn put_small(store: &mut Store<Constant>, alloc: Global, from: u8, to: u8) {
     }
 }
 
-/// A store of two pages and one shelf, in which all keys have one hash, of a large item and 60 small ones, so many of them before it.
+/// A store of two pages and one shelf, in which all keys have one hash. It has a large item and 60
+/// small ones, so many of them before it.
 fn store_of(alloc: Global, before: u8, large: &[u8]) -> Result<Store<Constant>, AllocError> {
     let settings = Settings {
         pages: 2,
@@ -60,7 +65,8 @@ fn store_of(alloc: Global, before: u8, large: &[u8]) -> Result<Store<Constant>, 
     Ok(store)
 }
 
-/// Of items of no block, by their numbers, what stood in their chunks before: a number and one, or 0 in a chunk that is new.
+/// Of items of no block, by their numbers, what stood in their chunks before: a small item's number and
+/// one, or 0 in a chunk that is new.
 type Before = [u8; 64];
 
 /// Reads what stood in the chunks of such items before.
@@ -77,7 +83,8 @@ fn read_chunks(chunks: &[Chunks]) -> Before {
     before
 }
 
-/// Puts 63 items of no block, and tells what stood in their chunks before. None is told if there was no memory for a list of them.
+/// Puts 63 items of no block, and tells what stood in their chunks before. Nothing is told if there
+/// was no memory for a list of them.
 fn chunks_that_come(mut store: Store<Constant>, alloc: Global) -> Option<Before> {
     for number in 0..63 {
         let _ = put(&mut store, alloc, number, 1, b"");
@@ -88,7 +95,7 @@ fn chunks_that_come(mut store: Store<Constant>, alloc: Global) -> Option<Before>
     Some(read_chunks(&chunks))
 }
 
-/// The same without chunks that are new, those that were used before in their order.
+/// The same of the chunks alone that were used before, in their order.
 fn used(before: &Before) -> Before {
     let mut used = [0u8; 64];
     let mut count = 0;
@@ -96,8 +103,8 @@ fn used(before: &Before) -> Before {
         if *byte != 0 {
             if let Some(place) = used.get_mut(count) {
                 *place = *byte;
+                count += 1;
             }
-            count += 1;
         }
     }
     used
@@ -115,13 +122,14 @@ fn out(store: Store<Constant>) -> (Store<Constant>, (u32, u32)) {
     (store, (small, large))
 }
 
-/// The chunks that come for small items behind a flush at once, with nothing between.
+/// The chunks that come for items of no block behind a flush at once, with nothing between.
 fn come_alone(alloc: Global, before: u8, large: &[u8]) -> Result<Option<Before>, AllocError> {
     let store = laid_aside(alloc, store_of(alloc, before, large)?)?;
     Ok(chunks_that_come(store, alloc))
 }
 
-/// The chunks that come for them behind a large item, which takes those of the one that lies aside. No page is left for a second one.
+/// The chunks that come for them behind a large item too, which has that of the large one aside. No
+/// page is left for a second one.
 fn come_behind(
     rt: &impl Abort,
     alloc: Global,
@@ -140,15 +148,15 @@ fn come_behind(
     Ok(chunks_that_come(store, alloc))
 }
 
-/// Returns whether the first chunk that comes alone is new, so that a flush at once collects nothing; all of the small items come
-/// behind it; and they come in the same order behind the large one, so that each of them was left aside by it but for one, as by any
-/// write.
+/// Returns whether a large item left the small ones aside. A write collects one item for having drawn a number. So alone the first
+/// chunk is new, and those of the small items come behind it, one with each write; and where a large item was written before, the
+/// same come in the same order. Had that one collected others for its need, these would come before their turn.
 fn are_left(alone: &Before, behind: &Before) -> bool {
     alone[0] == 0 && count_used(alone) == usize::from(SMALL) && used(alone) == *behind
 }
 
-/// Each small item has one chunk, and the large one too. In the table that grows the large one is the second; the 33rd of one hash is a
-/// stray; and the 40th stands in the new table.
+/// Each small item has one chunk, and the large one too. In the table that grows the large one is the second; the 33rd of one hash is
+/// a stray; and the 40th stands in the new table.
 #[test]
 fn a_need_collects_its_own_class_alone(rt: HostRuntime) -> Result<(), Fail> {
     let alloc = rt.alloc();

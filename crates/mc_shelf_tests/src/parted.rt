@@ -6,14 +6,13 @@ ghost use Rattle.mc_command.specs.Laws.{IsOnKey};
 ghost use Rattle.mc_shelf.specs.States.{CanStandAt};
 ghost use Rattle.mc_shelf.specs.Plans.{CanLook, StepTaken};
 
+use crate::seen::account_at;
 use mc_command::{KeyStep, Reply, StepFault, Steps};
 use mc_hop::{Fnv, KeyHash};
 use mc_rows::{Row, ask_step, is_wanted, step_of};
 use mc_shelf::{Begun, Brought, Desk, Shelf, Store, StoreParts};
 use mc_time::Moment;
 use std::alloc::Global;
-
-use crate::seen::account_at;
 
 /// Returns whether something of a step was left.
 fn is_left(begun: &Begun) -> bool {

@@ -3,7 +3,7 @@
 ghost use Rattle.std.specs.Prelude.{◌≡◌};
 
 use mc_hop::{Fnv, KeyHash};
-use mc_shelf::{Desk, Purging, Shelf, ShelfCounts, Store};
+use mc_shelf::{Desk, Purging, Shelf, ShelfCounts, Store, StoreParts};
 use mc_slab::{Account, Chunks, class_of};
 use mc_time::Moment;
 use std::alloc::Global;
@@ -34,10 +34,7 @@ pub(crate) fn account<K: KeyHash + Drop>(store: Store<K>, charge: u64) -> (Store
 }
 
 /// Returns whether an item of one of the shelves may be dead.
-pub(crate) fn may_have_dead<K: KeyHash + Drop>(
-    store: Store<K>,
-    now: Moment,
-) -> (Store<K>, bool) {
+pub(crate) fn may_have_dead<K: KeyHash + Drop>(store: Store<K>, now: Moment) -> (Store<K>, bool) {
     let parts = store.into_parts();
     let may = parts.shelves.iter().any(|shelf| shelf.may_have_dead(now));
     (Store::from_parts(parts), may)
@@ -45,7 +42,8 @@ pub(crate) fn may_have_dead<K: KeyHash + Drop>(
 
 /// Tells what is counted of the first shelf.
 pub(crate) fn counts<K: KeyHash + Drop>(store: Store<K>) -> Option<ShelfCounts> {
-    match store.into_parts().shelves.first() {
+    let StoreParts { shelves, .. } = store.into_parts();
+    match shelves.first() {
         Some(shelf) => Some(shelf.counts()),
         None => None,
     }
