@@ -310,7 +310,14 @@ fn chunks_of_a_need_come_all_or_none(rt: HostRuntime) -> Result<(), Fail> {
     is_refused(&rt, alloc, &mut slab, needed(&rt, 3145729));
     stands(&rt, &slab, one, Account { pages: 1, out: 0 }, 2);
     let three = needed(&rt, 3145728);
-    come_and_go(&rt, alloc, &mut slab, three, Account { pages: 3, out: 3 }, 0)
+    come_and_go(
+        &rt,
+        alloc,
+        &mut slab,
+        three,
+        Account { pages: 3, out: 3 },
+        0,
+    )
 }
 
 #[test]
@@ -323,7 +330,14 @@ fn chunks_that_come_back_serve_what_was_made_ready(rt: HostRuntime) -> Result<()
     ready(&rt, alloc, &mut slab, three, 2)?;
     stand_and_go(&rt, &mut slab, two, chunks, Account { pages: 3, out: 2 }, 0);
     let others = slab.take_all(alloc, three)?;
-    stand_and_go(&rt, &mut slab, three, others, Account { pages: 3, out: 3 }, 0);
+    stand_and_go(
+        &rt,
+        &mut slab,
+        three,
+        others,
+        Account { pages: 3, out: 3 },
+        0,
+    );
     Ok(())
 }
 
