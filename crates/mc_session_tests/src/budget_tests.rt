@@ -19,12 +19,19 @@ const ROUNDS: u64 = 1000;
 // Lines that announce a block: each is so many bytes with its block, which doesn't come.
 
 const OF_131072: &[u8] = b"set b 0 0 131052\r\n";
+
 const OF_131073: &[u8] = b"set b 0 0 131053\r\n";
+
 const OF_400000: &[u8] = b"set b 0 0 399980\r\n";
+
 const OF_400001: &[u8] = b"set b 0 0 399981\r\n";
+
 const OF_600000: &[u8] = b"set b 0 0 599980\r\n";
+
 const OF_1000000: &[u8] = b"set b 0 0 999980\r\n";
+
 const OF_1200000: &[u8] = b"set b 0 0 1199979\r\n";
+
 const OF_9000000: &[u8] = b"set b 0 0 8999979\r\n";
 
 /// A link that gives its input as fast as it is read, and takes all output. When it is over it gives its end.
@@ -145,10 +152,8 @@ fn let_go(alloc: Global, hall: &mut Hall<'_>, number: u64, is_over: &Cell<bool>)
 /// Who has room in a budget of 1000000 bytes.
 #[derive(Clone, Copy, Drop)]
 struct Room {
-    /// What one other announced before, or nothing.
-    one: &'static [u8],
-    /// What another announced behind it, or nothing.
-    other: &'static [u8],
+    /// What others announced before, one after another.
+    others: &'static [&'static [u8]],
     /// What is announced then.
     wanted: &'static [u8],
     /// How many are kept waiting then.
@@ -158,62 +163,52 @@ struct Room {
 /// There is room for a little and for one who is alone in wanting more, however much it is.
 const ROOMS: [Room; 10] = [
     Room {
-        one: b"",
-        other: b"",
+        others: &[],
         wanted: OF_131072,
         waiting: 0,
     },
     Room {
-        one: b"",
-        other: b"",
+        others: &[],
         wanted: OF_1000000,
         waiting: 0,
     },
     Room {
-        one: b"",
-        other: b"",
+        others: &[],
         wanted: OF_9000000,
         waiting: 0,
     },
     Room {
-        one: OF_600000,
-        other: b"",
+        others: &[OF_600000],
         wanted: OF_131072,
         waiting: 0,
     },
     Room {
-        one: OF_600000,
-        other: b"",
+        others: &[OF_600000],
         wanted: OF_400000,
         waiting: 0,
     },
     Room {
-        one: OF_600000,
-        other: b"",
+        others: &[OF_600000],
         wanted: OF_400001,
         waiting: 1,
     },
     Room {
-        one: OF_600000,
-        other: OF_400000,
+        others: &[OF_600000, OF_400000],
         wanted: OF_131072,
         waiting: 0,
     },
     Room {
-        one: OF_600000,
-        other: OF_400000,
+        others: &[OF_600000, OF_400000],
         wanted: OF_131073,
         waiting: 1,
     },
     Room {
-        one: OF_1200000,
-        other: b"",
+        others: &[OF_1200000],
         wanted: OF_131072,
         waiting: 0,
     },
     Room {
-        one: OF_1200000,
-        other: b"",
+        others: &[OF_1200000],
         wanted: OF_131073,
         waiting: 1,
     },
@@ -233,9 +228,10 @@ fn let_all_in<'a>(
     room: &Room,
     goes_on: &'a Cell<bool>,
 ) -> Result<usize, AllocError> {
-    let_in(alloc, hall, 0, room.one, goes_on)?;
-    let_in(alloc, hall, 1, room.other, goes_on)?;
-    let_in(alloc, hall, 2, room.wanted, goes_on)
+    for (number, line) in room.others.iter().enumerate() {
+        let_in(alloc, hall, number as u64, line, goes_on)?;
+    }
+    let_in(alloc, hall, u64::MAX, room.wanted, goes_on)
 }
 
 /// Two hold all there is. Says how many steps the store is asked for a get of one key then, or when they

@@ -8,7 +8,9 @@ use std::test::*;
 const GREATEST: u64 = 1048576;
 
 const UNKNOWN: Option<LineFault> = Some(LineFault::Unknown);
+
 const BAD_FORMAT: Option<LineFault> = Some(LineFault::BadFormat);
+
 const BAD_DELTA: Option<LineFault> = Some(LineFault::BadDelta);
 
 /// Lines, and the first fault of each.

@@ -355,7 +355,12 @@ fn the_longest_line(rt: HostRuntime) -> Result<(), AllocError> {
     let mut longest = long_line(rt.alloc(), 65536)?;
     assert!(rt; shows(peek_at(GREATEST, &longest), Seen::More));
     longest.push(b'\n')?;
-    assert!(rt; shows(peek_at(GREATEST, &longest), Seen::Lone(Lone::Version, 65537)));
+    assert!(rt;
+        shows(
+            peek_at(GREATEST, &longest),
+            Seen::Lone(Lone::Version, 65537)
+        )
+    );
     let mut longer = long_line(rt.alloc(), 65537)?;
     assert!(rt; shows(peek_at(GREATEST, &longer), Seen::TooLong));
     longer.push(b'\n')?;
