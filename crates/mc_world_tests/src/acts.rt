@@ -41,7 +41,11 @@ fn events_of(alloc: Global, acts: &[Act]) -> Result<Vec<Event<'static>>, AllocEr
 }
 
 /// Runs the events of acts.
-pub(crate) fn run_acts(world: &mut World<Fnv>, alloc: Global, acts: &[Act]) -> Result<(), AllocError> {
+pub(crate) fn run_acts(
+    world: &mut World<Fnv>,
+    alloc: Global,
+    acts: &[Act],
+) -> Result<(), AllocError> {
     let events = events_of(alloc, acts)?;
     run(world, alloc, &events)
 }

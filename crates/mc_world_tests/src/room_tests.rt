@@ -1,7 +1,9 @@
 //! What makes room in a store of one page. If memory is refused a test ends early.
 
 use crate::acts::{Act, run_acts};
-use crate::set_ups::{MANY_SMALL, ONE_SMALL, SHELF_OF_A, SHELF_OF_B, SHELF_OF_B_OF_MANY, SOME_SMALL};
+use crate::set_ups::{
+    MANY_SMALL, ONE_SMALL, SHELF_OF_A, SHELF_OF_B, SHELF_OF_B_OF_MANY, SOME_SMALL,
+};
 use crate::texts::{NO_CHUNK, large_set};
 use crate::told::tells;
 use crate::worlds::{ask, run, world_with};
