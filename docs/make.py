@@ -302,11 +302,11 @@ def lost_paths(document, text):
 
 def untold_options():
     """The options of the program that a document for users doesn't tell, and documents that tell another version."""
-    code, faults = read(f"{ROOT}/crates/mc_options/src/options.rt"), []
-    version = re.search(r'const VERSION: .*"([\d.]+) ', code).group(1)
+    code, rows = (read(f"{ROOT}/crates/mc_options/src/{name}.rt") for name in ("options", "served"))
+    faults, version = [], re.search(r'const VERSION: .*"([\d.]+) ', code).group(1)
     for document in OPTIONS:
         text = read(f"{ROOT}/{document}").replace("\\-", "-")
-        faults += [f"{document}: there is nothing of --{option}" for option in re.findall(r'\.long\("([\w-]+)"\)', code)
+        faults += [f"{document}: there is nothing of --{option}" for option in re.findall(r'long: "([\w-]+)"', rows)
                    if f"--{option}" not in text]
         faults += [] if f"mcserver {version}" in text else [f"{document}: the version isn't {version}"]
     if f"\n## {version}\n" not in read(f"{ROOT}/CHANGELOG.md"):

@@ -39,26 +39,36 @@ impl AskedAddress {
         if text.contains('%') {
             return None;
         }
-        if let Ok(address) = text.parse::<IpAddr>() {
-            return Some(AskedAddress {
+        match lone_address(text) {
+            Some(address) => Some(AskedAddress {
                 address,
                 port: None,
-            });
-        }
-        if let Some(inside) = strip_brackets(text) {
-            let address = IpAddr::V6(inside.parse::<Ipv6Addr>().ok()?);
-            return Some(AskedAddress {
-                address,
-                port: None,
-            });
-        }
-        match text.parse::<SocketAddr>() {
-            Ok(place) if place.port() > 0 => Some(AskedAddress {
-                address: place.ip(),
-                port: Some(place.port()),
             }),
-            _ => None,
+            None => address_and_port(text),
         }
+    }
+}
+
+/// Reads an address that stands alone: `10.0.0.5`, `::1`, `[::1]`.
+fn lone_address(text: &str) -> Option<IpAddr> {
+    if let Ok(address) = text.parse::<IpAddr>() {
+        return Some(address);
+    }
+    let inside = strip_brackets(text)?;
+    match inside.parse::<Ipv6Addr>() {
+        Ok(address) => Some(IpAddr::V6(address)),
+        Err(_) => None,
+    }
+}
+
+/// Reads an address and the port behind it: `10.0.0.5:80`, `[::1]:80`.
+fn address_and_port(text: &str) -> Option<AskedAddress> {
+    match text.parse::<SocketAddr>() {
+        Ok(place) if place.port() > 0 => Some(AskedAddress {
+            address: place.ip(),
+            port: Some(place.port()),
+        }),
+        _ => None,
     }
 }
 

@@ -2,8 +2,8 @@
 //!
 //! Options are memcached's where it has them, so that its command lines can be taken over, and what
 //! isn't served is refused by words that say what to do in its place (`src/unserved.rt`): an option
-//! that was passed over in silence would leave who set it with less than was asked for. `clap`
-//! reads the words, and makes the texts of help and mistakes.
+//! that was passed over in silence would leave who set it with less than was asked for. What is
+//! served is a table, too (`src/served.rt`). `clap` reads the words, and makes the texts of help and mistakes.
 //!
 //! [`parsed`] goes from words to [`Options`], or says why not ([`Unfit`]). Between them is
 //! [`Asked`], which is just what `clap` found: each number if it was given. [`Asked::settings`]
@@ -19,6 +19,7 @@
 
 mod endpoints;
 mod options;
+mod served;
 mod unserved;
 
 pub use endpoints::{AskedAddress, Endpoint, Endpoints};

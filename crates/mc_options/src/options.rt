@@ -10,9 +10,10 @@ ghost use Rattle.mc_options.specs.Asked.{
 };
 
 use crate::endpoints::{AskedAddress, Endpoint, Endpoints, address_of};
-use crate::unserved::{not_served, with_unserved};
+use crate::served::{SERVED, with_served};
+use crate::unserved::{UNSERVED, Unserved, with_unserved};
 use clap::error::ErrorKind;
-use clap::{Arg, ArgAction, ArgMatches, Command, Error, value_parser};
+use clap::{ArgMatches, Command, Error};
 use mc_shelf::Settings;
 use mc_time::Moment;
 use std::alloc::{AllocError, Global};
@@ -23,19 +24,19 @@ use std::net::IpAddr;
 const VERSION: &str = "0.9.0 (memcached's protocol 1.6.0)";
 
 /// The most workers that there may be.
-const MOST_WORKERS: u32 = 64;
+pub const MOST_WORKERS: u32 = 64;
 
 /// The most connections that may be open at once, at most.
-const MOST_CONNECTIONS: u32 = 65536;
+pub const MOST_CONNECTIONS: u32 = 65536;
 
 /// The longest time after which a connection that is idle may be closed, in seconds: 30 days.
-const LONGEST_TIMEOUT: u32 = 2_592_000;
+pub const LONGEST_TIMEOUT: u32 = 2_592_000;
 
 /// The connections that may be open at once if the command line says nothing of them.
 const CONNECTIONS: u32 = 1024;
 
 /// The most MiB that connections may be meant to hold together.
-const MOST_BUFFERS: u32 = 65536;
+pub const MOST_BUFFERS: u32 = 65536;
 
 /// The MiB that connections are meant to hold together if the command line says nothing of them.
 const BUFFERS: u32 = 64;
@@ -257,29 +258,59 @@ pub fn parse_options(alloc: Global, words: &[String]) -> Result<Options, Unfit>
     ensures idle_timeout { IfOk result (λ options. options.idle_timeout ≤ 2592000) }
     ensures buffers { IfOk result (λ options. 1 ≤ options.buffers × options.buffers ≤ 65536) }
 {
+    let (asked, endpoints) = read_words(alloc, words)?;
+    match asked.settings() {
+        Some(settings) => Ok(Options::new(asked, settings, endpoints)),
+        None => Err(Unfit::Shelves),
+    }
+}
+
+/// Reads what is asked for and where to listen, of the words of the command line.
+fn read_words(alloc: Global, words: &[String]) -> Result<(Asked, Endpoints), Error> {
     let mut command = command(alloc)?;
     let matches = command.try_get_matches_from_mut(words)?;
-    refuse_unserved(alloc, &mut command, &matches)?;
-    let endpoints = endpoints_in(alloc, &mut command, &matches)?;
-    let scrapes = scrapes_in(alloc, &mut command, &matches)?;
-    let greatest = greatest_in(alloc, &mut command, &matches)?;
-    let asked = Asked {
+    read_matches(alloc, &mut command, &matches)
+}
+
+/// Reads what is asked for and where to listen, of what `clap` found.
+fn read_matches(
+    alloc: Global,
+    command: &mut Command<'_>,
+    matches: &ArgMatches<'_>,
+) -> Result<(Asked, Endpoints), Error> {
+    refuse_unserved(alloc, command, matches, &UNSERVED)?;
+    refuse_udp(command, matches)?;
+    let endpoints = endpoints_in(alloc, command, matches)?;
+    let asked = asked_in(alloc, command, matches)?;
+    Ok((asked, endpoints))
+}
+
+/// Reads what is asked for, but for where to listen.
+fn asked_in(
+    alloc: Global,
+    command: &mut Command<'_>,
+    matches: &ArgMatches<'_>,
+) -> Result<Asked, Error> {
+    let scrapes = scrapes_in(alloc, command, matches)?;
+    let greatest = greatest_in(alloc, command, matches)?;
+    Ok(asked_of(matches, scrapes, greatest))
+}
+
+/// Gives what is asked for, of which `clap` has found all but the place for scrapes and the greatest charge.
+fn asked_of(matches: &ArgMatches<'_>, scrapes: Option<AskedPlace>, greatest: Option<u64>) -> Asked {
+    Asked {
         stdin: matches.get_flag("stdin"),
         now: matches.get_one::<u64>("now"),
-        pages: matches.get_one::<u32>("pages"),
+        pages: matches.get_one::<u32>("memory-limit"),
         greatest,
         shelves: matches.get_one::<u32>("shelves"),
-        workers: matches.get_one::<u32>("workers"),
-        connections: matches.get_one::<u32>("connections"),
+        workers: matches.get_one::<u32>("threads"),
+        connections: matches.get_one::<u32>("conn-limit"),
         idle_timeout: matches.get_one::<u32>("idle-timeout"),
         buffers: matches.get_one::<u32>("buffer-limit"),
         scrapes,
         may_quit: matches.get_flag("allow-quit"),
         verbose: matches.get_count("verbose") > 0,
-    };
-    match asked.settings() {
-        Some(settings) => Ok(Options::new(asked, settings, endpoints)),
-        None => Err(Unfit::Shelves),
     }
 }
 
@@ -288,14 +319,20 @@ fn refuse_unserved(
     alloc: Global,
     command: &mut Command<'_>,
     matches: &ArgMatches<'_>,
+    unserved: &[Unserved],
 ) -> Result<(), Error> {
-    for option in not_served() {
+    for option in unserved {
         if option.is_in(matches) {
             let (short, long, instead) = (option.short, option.long, option.instead);
             let message = format!(in alloc; "'-{short}' ('--{long}') isn't served: {instead}")?;
             return Err(command.error(ErrorKind::UnknownArgument, message.as_str())?);
         }
     }
+    Ok(())
+}
+
+/// Refuses a UDP port that isn't 0.
+fn refuse_udp(command: &mut Command<'_>, matches: &ArgMatches<'_>) -> Result<(), Error> {
     match matches.get_one::<u32>("udp-port") {
         None | Some(0) => Ok(()),
         Some(_port) => Err(command.error(ErrorKind::ValueValidation, NO_UDP)?),
@@ -309,7 +346,7 @@ fn endpoints_in(
     matches: &ArgMatches<'_>,
 ) -> Result<Endpoints, Error> {
     let mut addresses = Vec::new(alloc);
-    for text in matches.get_strs("address").unwrap_or(&[]) {
+    for text in matches.get_strs("listen").unwrap_or(&[]) {
         let Some(address) = AskedAddress::of(text) else {
             let message = format!(in alloc;
                 "invalid value '{text}' for '--listen <ADDR>': {NO_ADDRESS}"
@@ -396,162 +433,18 @@ fn scrapes_of(text: &str) -> Option<AskedPlace> {
 
 /// The options that there are.
 fn command<'a>(alloc: Global) -> Result<Command<'a>, Error> {
-    let command = Command::new(alloc, "mcserver")
-        .bin_name("mcserver")?
-        .version(VERSION)
-        .about("A cache server that speaks memcached's text protocol")
-        .after_help(STATUSES)
-        .args_override_self(true);
-    let command = with_session_options(alloc, command)?;
-    let command = with_store_options(alloc, command)?;
-    let command = with_listening_options(alloc, command)?;
-    let command = with_connection_options(alloc, command)?;
-    let command = with_telling_options(alloc, command)?;
-    let command = with_options_without_effect(alloc, command)?;
-    Ok(with_unserved(alloc, command)?)
+    let command = with_served(alloc, described(alloc)?, &SERVED)?;
+    Ok(with_unserved(alloc, command, &UNSERVED)?)
 }
 
-/// Adds the options of which a session over standard input and output has a use.
-fn with_session_options<'a>(
-    alloc: Global,
-    command: Command<'a>,
-) -> Result<Command<'a>, AllocError> {
-    let stdin = Arg::new(alloc, "stdin")
-        .long("stdin")
-        .action(ArgAction::SetTrue)
-        .help("Serve one session over standard input and output");
-    let now = Arg::new(alloc, "now")
-        .long("now")
-        .value_name("N")
-        .action(ArgAction::Set)
-        .value_parser(value_parser!(u64).range(0..=Moment::LATEST as i64))
-        .help("Let the clock stand at N seconds after 1970 [default: the system's clock]");
-    command.arg(stdin)?.arg(now)
-}
-
-/// Adds the options of how the store is set up.
-fn with_store_options<'a>(alloc: Global, command: Command<'a>) -> Result<Command<'a>, AllocError> {
-    let pages = Arg::new(alloc, "pages")
-        .short('m')
-        .long("memory-limit")
-        .value_name("N")
-        .action(ArgAction::Set)
-        .value_parser(value_parser!(u32).range(1..=i64::from(Settings::MOST_PAGES)))
-        .help("Keep items in at most N pages of 1 MiB, 1 to 65536 [default: 64]");
-    let greatest = Arg::new(alloc, "max-item-size")
-        .short('I')
-        .long("max-item-size")
-        .value_name("BYTES")
-        .action(ArgAction::Set)
-        .help("Take items of at most BYTES with key and header, 1m to 8m [default: 1m]");
-    let shelves = Arg::new(alloc, "shelves")
-        .long("shelves")
-        .value_name("N")
-        .action(ArgAction::Set)
-        .value_parser(value_parser!(u32).range(1..=i64::from(Settings::MOST_SHELVES)))
-        .help("Keep keys on N shelves, a power of two, 1 to 256 [default: 64]");
-    command.arg(pages)?.arg(greatest)?.arg(shelves)
-}
-
-/// Adds the options of where a program listens, and by how many it serves there.
-fn with_listening_options<'a>(
-    alloc: Global,
-    command: Command<'a>,
-) -> Result<Command<'a>, AllocError> {
-    let address = Arg::new(alloc, "address")
-        .short('l')
-        .long("listen")
-        .value_name("ADDR")
-        .action(ArgAction::Append)
-        .value_delimiter(',')
-        .help(
-            "Listen at the IP addresses ADDR, with commas between, each alone or with a port [default: 127.0.0.1]",
-        );
-    let port = Arg::new(alloc, "port")
-        .short('p')
-        .long("port")
-        .value_name("N")
-        .action(ArgAction::Set)
-        .value_parser(value_parser!(u16).range(1..=i64::from(u16::MAX)))
-        .help("Listen at TCP port N, 1 to 65535 [default: 11211]");
-    let workers = Arg::new(alloc, "workers")
-        .short('t')
-        .long("threads")
-        .value_name("N")
-        .action(ArgAction::Set)
-        .value_parser(value_parser!(u32).range(1..=i64::from(MOST_WORKERS)))
-        .help("Serve connections by N workers, 1 to 64 [default: 4]");
-    command.arg(address)?.arg(port)?.arg(workers)
-}
-
-/// Adds the options of connections, how many there are, and how long.
-fn with_connection_options<'a>(
-    alloc: Global,
-    command: Command<'a>,
-) -> Result<Command<'a>, AllocError> {
-    let connections = Arg::new(alloc, "connections")
-        .short('c')
-        .long("conn-limit")
-        .value_name("N")
-        .action(ArgAction::Set)
-        .value_parser(value_parser!(u32).range(1..=i64::from(MOST_CONNECTIONS)))
-        .help("Have at most N connections open, 1 to 65536 [default: 1024]");
-    let idle_timeout = Arg::new(alloc, "idle-timeout")
-        .long("idle-timeout")
-        .value_name("SECONDS")
-        .action(ArgAction::Set)
-        .value_parser(value_parser!(u32).range(0..=i64::from(LONGEST_TIMEOUT)))
-        .help(
-            "Close connections that are idle for so long, 1 to 2592000; with 0 none [default: 0]",
-        );
-    let buffers = Arg::new(alloc, "buffer-limit")
-        .long("buffer-limit")
-        .value_name("N")
-        .action(ArgAction::Set)
-        .value_parser(value_parser!(u32).range(1..=i64::from(MOST_BUFFERS)))
-        .help("Hold N MiB of what connections send and are told, 1 to 65536 [default: 64]");
-    command.arg(connections)?.arg(idle_timeout)?.arg(buffers)
-}
-
-/// Adds the options of what is told, and to whom, and of who may end the program.
-fn with_telling_options<'a>(
-    alloc: Global,
-    command: Command<'a>,
-) -> Result<Command<'a>, AllocError> {
-    let metrics = Arg::new(alloc, "metrics")
-        .long("metrics")
-        .value_name("[ADDR:]PORT")
-        .action(ArgAction::Set)
-        .help("Tell Prometheus what is counted, by HTTP at this port [default: not at all]");
-    let allow_quit = Arg::new(alloc, "allow-quit")
-        .long("allow-quit")
-        .action(ArgAction::SetTrue)
-        .requires_arg("metrics")?
-        .help("End by 'POST /quit' at that port, where it comes of this machine");
-    let verbose = Arg::new(alloc, "verbose")
-        .short('v')
-        .long("verbose")
-        .action(ArgAction::Count)
-        .help("Tell of each connection that opens or closes, on standard error");
-    command.arg(metrics)?.arg(allow_quit)?.arg(verbose)
-}
-
-/// Adds what memcached's command lines have, and what is so without it.
-fn with_options_without_effect<'a>(
-    alloc: Global,
-    command: Command<'a>,
-) -> Result<Command<'a>, AllocError> {
-    let evictions = Arg::new(alloc, "disable-evictions")
-        .short('M')
-        .long("disable-evictions")
-        .action(ArgAction::SetTrue)
-        .help("Change nothing: nothing is ever evicted, and a full store refuses");
-    let udp = Arg::new(alloc, "udp-port")
-        .short('U')
-        .long("udp-port")
-        .value_name("0")
-        .action(ArgAction::Set)
-        .value_parser(value_parser!(u32))
-        .help("Change nothing: there is no UDP, and 0 is all that is taken");
-    command.arg(evictions)?.arg(udp)
+/// Makes the command that has no options yet.
+fn described<'a>(alloc: Global) -> Result<Command<'a>, AllocError> {
+    let command = Command::new(alloc, "mcserver").bin_name("mcserver")?;
+    Ok(
+        command
+            .version(VERSION)
+            .about("A cache server that speaks memcached's text protocol")
+            .after_help(STATUSES)
+            .args_override_self(true),
+    )
 }
