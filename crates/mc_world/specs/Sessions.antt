@@ -81,6 +81,7 @@ module _ {K : Type 0} (hash_of : K → List ℕ → ℕ) where
       if nat_lt shelf w.settings.shelves then purged
       (λ key. hash_of w.hasher key % w.settings.shelves == shelf) w.moment w.state else w.state
 
+  -- the world after an event is what the event makes of the world before it
   abbrev pub Done : WorldState K → Event → WorldState K → Type 0
   Done old Open new =
       new

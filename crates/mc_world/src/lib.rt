@@ -38,5 +38,4 @@ pub use laws::{
 };
 pub use parts::Parts;
 pub use serving::{serve_one, written_output_never_shows};
-pub use sessions::Sessions;
 pub use world::World;

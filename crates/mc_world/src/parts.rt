@@ -1,4 +1,4 @@
-ghost use Rattle.std.specs.Prelude.{◌≡◌, IfErr, OnOk, Ok, None};
+ghost use Rattle.std.specs.Prelude.{◌≡◌, [], IfErr, OnOk, Ok, None};
 ghost use Rattle.mc_world.specs.Worlds.{numbered, open_session, IsIdle};
 ghost use Rattle.mc_world.specs.Sessions.{Done, Undone, SessionIsDue, state_of};
 
@@ -22,6 +22,23 @@ pub struct Parts<K: KeyHash + Drop> {
 }
 
 impl<K: KeyHash + Drop> Parts<K> {
+    /// Makes what a world has of a store, at a moment: no session was opened. It takes no memory.
+    pub fn new(alloc: Global, store: Store<K>, now: Moment) -> Parts<K>
+        ensures { state_of result ≡ record {
+          settings = store.settings;
+          hasher = store.hasher;
+          state = store.plain;
+          moment = now;
+          sessions = [];
+        } }
+    {
+        Parts {
+            store,
+            moment: now,
+            sessions: Sessions::new(alloc),
+        }
+    }
+
     /// Takes one event. Refused, the session that it names is closed.
     pub fn happen(&mut self, alloc: Global, event: &Event<'_>) -> Result<(), TurnFault>
         ensures ok { OnOk result

@@ -10,7 +10,6 @@ ghost use Rattle.mc_world.specs.Sessions.{SessionIsDue};
 
 use crate::event::{Ended, Event, Refused};
 use crate::parts::Parts;
-use crate::sessions::Sessions;
 use mc_hop::KeyHash;
 use mc_session::{Turn, TurnFault};
 use mc_shelf::{Settings, Store};
@@ -77,12 +76,9 @@ impl<K: KeyHash + Drop> World<K> {
           sessions = [];
         }) }
     {
+        let store = Store::with_next_number(alloc, settings, hasher, next)?;
         Ok(World {
-            parts: Parts {
-                store: Store::with_next_number(alloc, settings, hasher, next)?,
-                moment: now,
-                sessions: Sessions::new(alloc),
-            },
+            parts: Parts::new(alloc, store, now),
         })
     }
 

@@ -8,7 +8,7 @@ use mc_command::Bytes;
 use mc_hop::Constant;
 use mc_shelf::{Settings, Store};
 use mc_time::Moment;
-use mc_world::{Event, Parts, Sessions, World};
+use mc_world::{Event, Parts, World};
 use std::alloc::{AllocError, Global};
 use std::process::Abort;
 use std::test::Fail;
@@ -80,11 +80,8 @@ fn parts_of_one_hash(alloc: Global) -> Result<Parts<Constant>, AllocError> {
         greatest: 1048576,
         shelves: 64,
     };
-    Ok(Parts {
-        store: Store::new(alloc, settings, Constant(0))?,
-        moment: Moment::from_seconds(1000),
-        sessions: Sessions::new(alloc),
-    })
+    let store = Store::new(alloc, settings, Constant(0))?;
+    Ok(Parts::new(alloc, store, Moment::from_seconds(1000)))
 }
 
 fn set_key(parts: &mut Parts<Constant>, alloc: Global, number: u32) -> Result<(), AllocError> {
