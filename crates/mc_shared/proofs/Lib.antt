@@ -12,6 +12,7 @@ pub mod Showing
 pub mod StepsKept
 pub mod Decisions
 pub mod HitLemmas
+pub mod TellingLemmas
 pub mod Held
 pub mod Opening
 pub mod Stacked

@@ -1,0 +1,97 @@
+-- How a step whose reply is told comes out, by what came of it and what was told.
+use Rattle.std.proofs.Common.{◌≡◌, ℕ, Result, Ok, Err, IfErr, OnOk, OnErr, subst}
+use Rattle.std.specs.Bool.{⊤}
+use Rattle.std.proofs.lemmas.Result.{IfOk-at_ok, on_ok_weaker}
+use Rattle.std.specs.Result.{MatchResult}
+use Rattle.mc_command.specs.declared.answer.Unanswered.{Unanswered}
+use Rattle.mc_command.specs.declared.answer.Unanswered.TheVariants.{NoMemory as NoRoom, NumbersSpent as NoNumbers, Untold}
+use Rattle.mc_shared.proofs.Words.{Beginning, Past, KeyStep, Reply, CallerState, Agrees, StepFault, NoMemory, NumbersSpent, Refuses, IsAnswered, MayFailAfter}
+use Rattle.mc_shared.specs.Store.{HasCalled}
+use Rattle.mc_shared.specs.Telling.{IsTold, CameOfRead}
+use Rattle.mc_shared.specs.declared.telling.Sought.{Sought}
+
+no_fault : {A E : Type 0} {P : Type 0} (x : A) (e : E) → Ok x ≡ Err e → P
+no_fault {A} {E} x e is = absurd (subst (λ (r : Result A E). MatchResult r (λ _. ⊤) (λ _. ⊥)) is tt)
+
+abbrev IsNoRoom : Unanswered → Type 0
+IsNoRoom NoRoom = ⊤
+IsNoRoom NoNumbers = ⊥
+IsNoRoom Untold = ⊥
+
+no_other : {A P : Type 0} (e : Unanswered) → (IsNoRoom e → ⊥) → ◌≡◌ {A = Result A Unanswered} (Err NoRoom) (Err e) → P
+no_other {A} e never is = absurd (never (subst (λ (r : Result A Unanswered). IfErr r IsNoRoom) is tt))
+
+module _ (start : Beginning) (old new : CallerState) (step : KeyStep) (now : ℕ) where
+  -- a call with a reply was answered
+  pub called_answered : (reply : Reply) → new.table ≡ old.table → HasCalled start old.past step now reply new.past → IsAnswered start old step now Refuses (Ok reply) new
+  called_answered reply table called = record { same = (table, called.1); ok = called; err = tt; fault = tt }
+
+  -- what is answered to a caller whose past stayed is answered to it as it was before
+  pub answered_from : (mid : CallerState) (asked : KeyStep) (moment : ℕ) (taken : Result Reply StepFault) → mid.table ≡ old.table → mid.past ≡ old.past
+      → (asked ≡ step) × (moment ≡ now) → IsAnswered start mid asked moment Refuses taken new → IsAnswered start old step now Refuses taken new
+  answered_from mid asked moment taken table past parts =
+      subst (λ (t : CallerState × KeyStep × ℕ). IsAnswered start t.0 t.1 t.2 Refuses taken new) (λ i. (record { table = table i; past = past i }, parts.0 i, parts.1 i))
+
+  -- and so it may fail
+  pub fails_from : (mid : CallerState) (asked : KeyStep) (moment : ℕ) → mid.past ≡ old.past → (asked ≡ step) × (moment ≡ now)
+      → MayFailAfter start mid.past asked moment → MayFailAfter start old.past step now
+  fails_from mid asked moment past parts = subst (λ (t : Past × KeyStep × ℕ). MayFailAfter start t.0 t.1 t.2) (λ i. (past i, parts.0 i, parts.1 i))
+
+  -- and so a read came out
+  pub came_from : {A : Type 0} (told : A → Reply → A → Type 0) (before after : A) (mid : CallerState) (asked : KeyStep) (moment : ℕ) (sought so : Sought)
+      → mid.past ≡ old.past → (asked ≡ step) × (moment ≡ now) → sought ≡ so
+      → CameOfRead told start mid.past asked moment before sought new.past after → CameOfRead told start old.past step now before so new.past after
+  came_from told before after mid asked moment sought so past parts same =
+      subst (λ (t : Past × KeyStep × ℕ × Sought). CameOfRead told start t.0 t.1 t.2 before t.3 new.past after) (λ i. (past i, parts.0 i, parts.1 i, same i))
+
+  -- what takes the reply was told nothing before
+  pub told_from : {A : Type 0} (told : A → Reply → A → Type 0) (before mid after : A) (result : Result (Unit {0}) Unanswered) → mid ≡ before
+      → IsTold told start old step now mid result new after → IsTold told start old step now before result new after
+  told_from {A} told before mid after result is = subst (λ (b : A). IsTold told start old step now b result new after) is
+
+  module _ {A : Type 0} (told : A → Reply → A → Type 0) (before after : A) where
+    -- a hit was told where it stands, and then taken
+    pub hit_told : (result : Unit {0}) → (new.table ≡ old.table) × Agrees start new.past
+        → (reply : Reply) × HasCalled start old.past step now reply new.past × told before reply after → IsTold told start old step now before (Ok result) new after
+    hit_told result same came = record {
+      same = same;
+      ok = came;
+      untold = no_fault result Untold;
+      spent = no_fault result NoNumbers;
+      refused = no_fault result NoRoom;
+      err = tt;
+    }
+
+    -- a hit wasn't told, and so it wasn't taken
+    pub hit_refused : (new.table ≡ old.table) × Agrees start new.past → MayFailAfter start old.past step now → (new.past ≡ old.past) × (after ≡ before)
+        → IsTold told start old step now before (Err NoRoom) new after
+    hit_refused same fails stays = record {
+      same = same;
+      ok = tt;
+      untold = no_other Untold (λ never. never);
+      spent = no_other NoNumbers (λ never. never);
+      refused = λ _. (stays.0, λ _. fails);
+      err = stays.1;
+    }
+
+    -- a reply was told when its step was taken, or why it wasn't
+    pub taken_told : (taken : Result Reply StepFault) (result : Result (Unit {0}) Unanswered) → IsAnswered start old step now Refuses taken new
+        → OnOk result ((reply : Reply) × (taken ≡ Ok reply) × told before reply after)
+        → (result ≡ Err Untold → (reply : Reply) × (taken ≡ Ok reply))
+        → (result ≡ Err NoNumbers → taken ≡ Err NumbersSpent) → (result ≡ Err NoRoom → taken ≡ Err NoMemory)
+        → OnErr result (after ≡ before) → IsTold told start old step now before result new after
+    taken_told taken result answered ok untold spent refused err =
+        let called : (reply : Reply) → taken ≡ Ok reply → HasCalled start old.past step now reply new.past =
+        λ reply is. IfOk-at_ok (λ r. HasCalled start old.past step now r new.past) is answered.ok in
+        let stays : (fault : StepFault) → taken ≡ Err fault → new.past ≡ old.past =
+        λ fault is. subst (λ (r : Result Reply StepFault). OnErr r (new.past ≡ old.past)) is answered.err in
+        let why : (fault : StepFault) → taken ≡ Err fault → Refuses start old.past step now fault =
+        λ fault is. subst (λ (r : Result Reply StepFault). IfErr r (Refuses start old.past step now)) is answered.fault in
+        record {
+          same = answered.same;
+          ok = on_ok_weaker result (λ t. (t.0, called t.0 t.1, t.2)) ok;
+          untold = λ is. let reply = untold is in (reply.0, called reply.0 reply.1);
+          spent = λ is. (stays NumbersSpent (spent is), why NumbersSpent (spent is));
+          refused = λ is. (stays NoMemory (refused is), why NoMemory (refused is));
+          err = err;
+        }
