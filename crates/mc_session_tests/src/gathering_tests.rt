@@ -1,8 +1,8 @@
 //! Links that gather, over a link in memory that takes few bytes at a time, takes none at every other
 //! call, and may fail at one.
 
-use mc_testing::{Call, Calls};
 use mc_guests::{Gathering, Got, Link, LinkFault, Took};
+use mc_testing::{Call, Calls};
 use std::alloc::{AllocError, Global};
 use std::marker::Model;
 use std::test::*;

@@ -2,9 +2,9 @@
 
 ghost use Rattle.std.specs.Prelude.{◌≤◌, length};
 
-use mc_testing::{Call, Calls};
 use crate::counting::Counting;
 use mc_guests::{Got, Guest, Link, LinkFault, Took, Visit};
+use mc_testing::{Call, Calls};
 use mc_time::Moment;
 use std::alloc::{AllocError, Global};
 use std::cell::Cell;

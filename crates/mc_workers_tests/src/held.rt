@@ -1,7 +1,7 @@
 //! Links in memory, for tests.
 
-use mc_testing::{Call, Calls};
 use mc_guests::{Got, Link, LinkFault, Links, Next, Took};
+use mc_testing::{Call, Calls};
 use std::alloc::Global;
 use std::marker::Model;
 use std::sync::atomic::{AtomicU64, Ordering};
