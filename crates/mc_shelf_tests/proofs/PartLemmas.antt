@@ -43,10 +43,10 @@ module _ {hash_of : List ℕ → ℕ} {settings : Settings} {state : Plain} {lis
     })
 
   -- all shelves were laid aside, and those of a new store are in their places
-  pub laid : {new : Plain} {others : List ShelfState} {fresh desk' : DeskState} → new ≡ opening settings.pages settings.greatest
-      → ArePartsOf hash_of new others settings.shelves fresh → desk' ≡ record desk { slab = none_out desk.slab } → ArePartsOfSome hash_of settings others desk'
-  laid {new} {others} {fresh} {desk'} opens bare is =
-      let opened = subst (λ (s : Plain). ArePartsOf hash_of s others settings.shelves fresh) opens bare in (
+  pub laid : {own_hash : List ℕ → ℕ} {count : ℕ} {new : Plain} {others : List ShelfState} {fresh desk' : DeskState} → own_hash ≡ hash_of → count ≡ settings.shelves
+      → new ≡ opening settings.pages settings.greatest → ArePartsOf own_hash new others count fresh → desk' ≡ record desk { slab = none_out desk.slab } → ArePartsOfSome hash_of settings others desk'
+  laid {own_hash} {count} {new} {others} {fresh} {desk'} same_hash same_count opens bare is =
+      let opened = subst (λ (p : (List ℕ → ℕ) × (ℕ × Plain)). ArePartsOf p.0 p.1.1 others p.1.0 fresh) (λ i. (same_hash i, (same_count i, opens i))) bare in (
         record (opening settings.pages settings.greatest) { next_unique = state.next_unique; pages = state.pages },
         record { greatest = refl; limit = refl; divides = set_up.divides },
         record {

@@ -1,5 +1,12 @@
+use Rattle.std.proofs.Common.{ap, ◌∙◌}
+use Rattle.mc_shelf.specs.declared.settings.Settings.{Settings}
 use Rattle.mc_shelf_tests.proofs.PartLemmas.{laid}
 use Rattle.mc_shelf_tests.proofs.aside.laid_aside.Goals as goal
 
 pub from_parts-requires : goal.from_parts-requires
-from_parts-requires g c = laid c.into_parts.ensures.set_up c.into_parts.ensures.parts c.into_parts-2.ensures.set_up c.into_parts-2.ensures.parts c.lay_aside.ensures.none
+from_parts-requires g c =
+    let was = c.into_parts-hasher.ensures in
+    let new = c.into_parts-shelves.ensures in
+    let made = c.in_ok-set_up.ensures in
+    laid was.set_up was.parts (ap g.K.KeyHash.hash_of (new.hasher ∙ made.hasher)) (ap (λ (s : Settings). s.shelves) (new.settings ∙ made.settings)) made.plain new.parts
+    c.lay_aside.ensures.none
