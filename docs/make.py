@@ -173,7 +173,7 @@ class Maker:
             own = under[name] - {low for library in under[name] for low in under[library]}
             kit = [library for library in self.crates[name].libraries if library not in self.crates]
             named = " ".join(library for library in self.crates if library in own)
-            lines.append(f"{depths[name]}  {name:<13}{named:<42}{'+ ' + ' '.join(kit) if kit else ''}".rstrip() + "\n")
+            lines.append(f"{depths[name]}  {name:<18}{named:<42}{'+ ' + ' '.join(kit) if kit else ''}".rstrip() + "\n")
         return "```\n" + "".join(lines) + "```\n"
 
     def linked(self):
