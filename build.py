@@ -20,9 +20,9 @@ import time
 ROOT = os.path.dirname(os.path.realpath(__file__))
 # Of a processor, in seconds, for the order and the guess alone. Another crate counts as the usual one.
 SECONDS = {
-    "mc_slab": 250, "mc_item": 90, "mc_hop": 90, "mc_command": 130, "mc_rows": 50, "mc_grow": 190, "mc_reply": 70, "mc_parse": 250,
-    "mc_session": 170, "mc_guests": 360, "mc_shelf": 640, "mc_world": 200, "mc_shared": 830, "mc_workers": 160, "mc_metrics": 110,
-    "mc_options": 390, "mc_host": 100, "mc_sockets": 320, "mc_server": 350, "mc_laws": 100, "mc_bench": 350,
+    "mc_slab": 280, "mc_item": 90, "mc_hop": 85, "mc_command": 230, "mc_rows": 55, "mc_grow": 175, "mc_reply": 80, "mc_parse": 260,
+    "mc_session": 135, "mc_guests": 300, "mc_shelf": 615, "mc_world": 125, "mc_shared": 520, "mc_workers": 110, "mc_metrics": 115,
+    "mc_options": 155, "mc_host": 65, "mc_sockets": 205, "mc_server": 520, "mc_bench": 355,
 }
 USUAL = 30
 PARTS = ("src", "specs", "proofs")
