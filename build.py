@@ -20,7 +20,7 @@ import time
 ROOT = os.path.dirname(os.path.realpath(__file__))
 # Of a processor, in seconds, for the order and the guess alone. Another crate counts as the usual one.
 SECONDS = {
-    "mc_slab": 280, "mc_item": 90, "mc_hop": 85, "mc_command": 230, "mc_rows": 55, "mc_grow": 175, "mc_reply": 80, "mc_parse": 260,
+    "mc_slab": 280, "mc_item": 90, "mc_hop": 85, "mc_protocol": 230, "mc_rows": 55, "mc_grow": 175, "mc_reply": 80, "mc_parse": 260,
     "mc_session": 135, "mc_guests": 300, "mc_shelf": 615, "mc_world": 125, "mc_shared": 520, "mc_workers": 110, "mc_metrics": 115,
     "mc_options": 155, "mc_host": 65, "mc_sockets": 205, "mc_server": 520, "mc_bench": 355,
 }

@@ -1,8 +1,8 @@
 //! Calls as they are drawn, and as they are told.
 ghost use Rattle.std.specs.Prelude.{◌≤◌, ◌<◌, length, IfOk, IfSome};
-ghost use Rattle.mc_command.specs.Commands.{key_of};
+ghost use Rattle.mc_protocol.specs.Commands.{key_of};
 
-use mc_command::{Bytes, KeyStep, Reply, Verb};
+use mc_protocol::{Bytes, KeyStep, Reply, Verb};
 use mc_testing::Dice;
 use std::alloc::{AllocError, Global};
 

@@ -6,7 +6,7 @@ ghost use Rattle.std.specs.Prelude.{◌≤◌};
 
 use crate::asked::Within;
 use crate::indexes::Indexes;
-use mc_command::{Bytes, KeyStep, Reply, Steps, Verb};
+use mc_protocol::{Bytes, KeyStep, Reply, Steps, Verb};
 use mc_hop::{Fnv, KeyHash};
 use mc_shelf::{Settings, Store};
 use mc_testing::Dice;

@@ -1,9 +1,9 @@
 //! Steps in threads.
 ghost use Rattle.std.specs.Prelude.{◌≡◌, ◌≤◌, length};
-ghost use Rattle.mc_command.specs.Commands.{key_of};
+ghost use Rattle.mc_protocol.specs.Commands.{key_of};
 
 use crate::asked::{Crew, Mix, Over, Threaded};
-use mc_command::{Bytes, KeyStep, Reply, StepFault, Steps, Verb};
+use mc_protocol::{Bytes, KeyStep, Reply, StepFault, Steps, Verb};
 use mc_hop::Fnv;
 use mc_shared::{Asking, Caller, NoGate, Shared};
 use mc_shelf::{Settings, Store};

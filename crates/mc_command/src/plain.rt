@@ -8,9 +8,9 @@ mod write;
 ghost use Rattle.std.specs.Prelude.{◌≡◌, ◌≤◌, length, Err, IfOk, OnErr, refl};
 ghost use Rattle.std.specs.Option.{option_copied};
 ghost use Rattle.std.specs.FinMap.{get, remove};
-ghost use Rattle.mc_command.specs.Commands.{key_of, longest_key};
-ghost use Rattle.mc_command.specs.Steps.{Ends, found, applied, reading};
-ghost use Rattle.mc_command.specs.Plain.{opening, starting, plain, stepped, standing, expiring, hit_of, living, Answered, Spent, CopiesBlock, MayFail};
+ghost use Rattle.mc_protocol.specs.Commands.{key_of, longest_key};
+ghost use Rattle.mc_protocol.specs.Steps.{Ends, found, applied, reading};
+ghost use Rattle.mc_protocol.specs.Plain.{opening, starting, plain, stepped, standing, expiring, hit_of, living, Answered, Spent, CopiesBlock, MayFail};
 
 use crate::plain::item::Item;
 pub use crate::plain::purge::KeyTest;
@@ -37,9 +37,9 @@ pub struct PlainStore {
 }
 
 impl Model for PlainStore {
-    ghost use Rattle.mc_command.specs.Plain.{Plain, coded_plain};
-    ghost use Rattle.mc_command.specs.Items.{items_of};
-    ghost use Rattle.mc_command.specs.Accounts.{AreCounted};
+    ghost use Rattle.mc_protocol.specs.Plain.{Plain, coded_plain};
+    ghost use Rattle.mc_protocol.specs.Items.{items_of};
+    ghost use Rattle.mc_protocol.specs.Accounts.{AreCounted};
 
     ghost Value = { Plain };
 

@@ -1,9 +1,9 @@
 -- The turns that visits took are those of the stream that the link gave.
 use Rattle.std.specs.Prelude.{MatchOption, map, slice_get, IsTrue, IsFalse}
 use Rattle.std.proofs.Common.{◌≡◌, ◌⊎◌, inl, inr, ℕ, List, [], ◌∷◌, ◌++◌, Option, Some, None, refl, sym, ap, ◌∙◌, subst, append_assoc, append-nil}
-use Rattle.mc_command.specs.Commands.{Command, steps}
-use Rattle.mc_command.specs.declared.step.KeyStep.{KeyStep}
-use Rattle.mc_command.specs.declared.step.Steps.{Ghosts as Relations}
+use Rattle.mc_protocol.specs.Commands.{Command, steps}
+use Rattle.mc_protocol.specs.declared.step.KeyStep.{KeyStep}
+use Rattle.mc_protocol.specs.declared.step.Steps.{Ghosts as Relations}
 use Rattle.mc_parse.specs.Units.{ProtocolUnit, Request, Fault, LongLine}
 use Rattle.mc_parse.specs.Streams.{AreUnits}
 use Rattle.mc_session.specs.Turns.{SessionState, TakesTurn, Answers, AnswersStep, NoTurnDue, opened, fed}

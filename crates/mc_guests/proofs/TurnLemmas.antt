@@ -3,7 +3,7 @@ use Rattle.std.proofs.Common.{◌≡◌, ℕ, ◌<◌, ◌+◌, List, [], ◌∷
 use Rattle.std.proofs.Math.ListN.{set}
 use Rattle.std.proofs.lemmas.List.{take_more, take_more_set, get_or-drop, drop-set-lt}
 use Rattle.std.proofs.lemmas.Grind.{drop_more_same}
-use Rattle.mc_command.specs.declared.step.Steps.{Ghosts as Relations}
+use Rattle.mc_protocol.specs.declared.step.Steps.{Ghosts as Relations}
 use Rattle.mc_guests.specs.Asks.{AsksAndVisits, IsKeptWaiting}
 use Rattle.mc_guests.specs.Guests.{GuestState}
 use Rattle.mc_guests.specs.Turns.{HasTurn, HaveTurns, next}

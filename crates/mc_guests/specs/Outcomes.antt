@@ -1,6 +1,6 @@
 -- How a step came out.
-use Rattle.mc_command.specs.declared.reply.Reply.{Reply}
-use Rattle.mc_command.specs.declared.reply.Reply.TheVariants as told
+use Rattle.mc_protocol.specs.declared.reply.Reply.{Reply}
+use Rattle.mc_protocol.specs.declared.reply.Reply.TheVariants as told
 use Rattle.mc_guests.specs.declared.tally.Outcome.{Outcome}
 use Rattle.mc_guests.specs.declared.tally.Outcome.TheVariants.{Stored, NotStored, Exists, NotFound, Miss, Hit, Touched, Deleted, Number, NotNumeric, TooLarge, NoChunk, Flushed}
 

@@ -1,6 +1,6 @@
 -- Who is visited in a round, where guests that want much may be kept waiting.
 use Rattle.std.specs.Prelude.{◌≡◌, ◌⊎◌, ℕ, List, [], ◌∷◌, ◌++◌, take}
-use Rattle.mc_command.specs.declared.step.Steps.{Ghosts as Relations}
+use Rattle.mc_protocol.specs.declared.step.Steps.{Ghosts as Relations}
 use Rattle.mc_guests.specs.Asks.{AsksAndVisits, IsKeptWaiting}
 use Rattle.mc_guests.specs.Books.{BooksState, MayWake, KeepsBooks}
 use Rattle.mc_guests.specs.Guests.{GuestState}

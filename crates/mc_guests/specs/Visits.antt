@@ -1,6 +1,6 @@
 -- What a visit does.
 use Rattle.std.specs.Prelude.{◌≡◌, ◌⊎◌, ◌<◌, ℕ, true, false, List, [], ◌∷◌, ◌++◌, length, Some, IsTrue, IsFalse}
-use Rattle.mc_command.specs.declared.step.Steps.{Ghosts as Relations}
+use Rattle.mc_protocol.specs.declared.step.Steps.{Ghosts as Relations}
 use Rattle.mc_session.specs.Turns.{TakesTurn, DecidesStep, closed, fed}
 use Rattle.mc_guests.specs.Links.{asked, gave, took, failed, ended}
 use Rattle.mc_guests.specs.Guests.{GuestState, ends, has_ended, IsTurnDue, IsWaiting, AwaitsLink, wants}

@@ -1,13 +1,13 @@
 //! Guests: sessions with their links.
 ghost use Rattle.std.specs.Prelude.{◌≡◌, ◌⊎◌, ◌<◌, ◌≤◌, length, IfOk, IfSome, Some, None, [], IsTrue, IsFalse};
-ghost use Rattle.mc_command.specs.Commands.{longest_key};
+ghost use Rattle.mc_protocol.specs.Commands.{longest_key};
 ghost use Rattle.mc_session.specs.Resting.{resting};
 ghost use Rattle.mc_guests.specs.Guests.{welcomed, has_ended, ends, IsWaiting};
 ghost use Rattle.mc_guests.specs.Visits.{Visited, Does, Writes, Reads};
 
 use crate::link::{Got, Link, LinkFault, Took};
 use crate::tap::Tap;
-use mc_command::Steps;
+use mc_protocol::Steps;
 use mc_parse::FIRST_PIECE;
 use mc_session::{Session, Turn};
 use mc_time::Moment;

@@ -13,7 +13,7 @@ use crate::guest::{Guest, Visit};
 use crate::link::Link;
 use crate::row::Row;
 use crate::weighed::Waits;
-use mc_command::Steps;
+use mc_protocol::Steps;
 use mc_time::Moment;
 use std::alloc::Global;
 use std::collections::VecDeque;

@@ -10,7 +10,7 @@ ghost use Rattle.mc_parse.specs.Units.{ProtocolUnit};
 ghost use Rattle.mc_parse.specs.Streams.{AreUnits};
 
 use crate::guest::Visit;
-use mc_command::Steps;
+use mc_protocol::Steps;
 use mc_parse::no_spelling_begins_another;
 
 /// States that links take the texts of turns, in their order, and nothing else. What a link took

@@ -1,9 +1,9 @@
 //! How long a block is, before it is told.
 ghost use Rattle.std.specs.Prelude.{◌≤◌, length};
-ghost use Rattle.mc_command.specs.Commands.{longest_key};
+ghost use Rattle.mc_protocol.specs.Commands.{longest_key};
 ghost use Rattle.mc_guests.specs.Asks.{MayAsk};
 
-use mc_command::{Answer, Bytes, KeyStep, Reply, Steps, Unanswered};
+use mc_protocol::{Answer, Bytes, KeyStep, Reply, Steps, Unanswered};
 use mc_time::Moment;
 use std::alloc::{AllocError, Global};
 use std::cell::Cell;

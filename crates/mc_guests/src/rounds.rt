@@ -7,7 +7,7 @@ use crate::budget::Budget;
 use crate::guest::Guest;
 use crate::link::Link;
 use crate::weighed::Weighed;
-use mc_command::Steps;
+use mc_protocol::Steps;
 use mc_time::Moment;
 use std::alloc::Global;
 

@@ -10,7 +10,7 @@ use crate::link::Link;
 use crate::numbers::Numbers;
 use crate::rounds::round_within;
 use crate::weighed::{Waits, Weighed};
-use mc_command::Steps;
+use mc_protocol::Steps;
 use mc_time::Moment;
 use std::alloc::Global;
 use std::marker::Model;

@@ -3,7 +3,7 @@
 ghost use Rattle.std.specs.Prelude.{◌≡◌};
 ghost use Rattle.mc_guests.specs.Outcomes.{outcome_of};
 
-use mc_command::{KeyStep, Reply};
+use mc_protocol::{KeyStep, Reply};
 
 /// How a step came out: which reply it was answered, without what the reply carries.
 #[derive(Clone, Copy, Debug, PartialEq, Eq)]

@@ -1,13 +1,13 @@
 //! Guests with what they hold, which are kept waiting if they want much and there is no room.
 ghost use Rattle.std.specs.Prelude.{◌≡◌, ◌≤◌, length, IfSome, None};
-ghost use Rattle.mc_command.specs.Commands.{longest_key};
+ghost use Rattle.mc_protocol.specs.Commands.{longest_key};
 ghost use Rattle.mc_guests.specs.Asks.{AsksAndVisits, IsKeptWaiting, MayAsk};
 
 use crate::budget::{Budget, LITTLE, QUIET};
 use crate::guest::{Guest, Visit};
 use crate::link::Link;
 use crate::measure::block_length;
-use mc_command::Steps;
+use mc_protocol::Steps;
 use mc_time::Moment;
 use std::alloc::Global;
 use std::marker::Model;

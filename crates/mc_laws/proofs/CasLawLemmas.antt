@@ -7,11 +7,11 @@ use Rattle.mc_shared.proofs.Words.{without_dead, expiring, keeps_chunk, write_re
 use Rattle.mc_shared.proofs.Words.{Purged, HistoryEntry, left_by, next, IsRight, after, IsLegal}
 use Rattle.mc_laws.specs.Laws.{StandsInLog, StandsBefore, HasItem, Wrote, Found, HasDrawnNumbers}
 use Rattle.mc_shared.proofs.Words.{found-next, order, get_put}
-use Rattle.mc_command.specs.declared.row.Row.TheVariants.{Refuses}
-use Rattle.mc_command.specs.Plain.{opening, perhaps_expiring}
+use Rattle.mc_protocol.specs.declared.row.Row.TheVariants.{Refuses}
+use Rattle.mc_protocol.specs.Plain.{opening, perhaps_expiring}
 use Rattle.mc_laws.proofs.KeyLawLemmas.{none_some, some_is, alive_was, hit_shows, wrote_so}
 use Rattle.mc_laws.proofs.ReadLawLemmas.{OthersStay, legal_parts, after_parts, decided_was}
-use Rattle.mc_command.specs.declared.row.Refusal.TheVariants as refusal
+use Rattle.mc_protocol.specs.declared.row.Refusal.TheVariants as refusal
 
 -- ---- the next unique number after a step
 -- the item under a key has this number

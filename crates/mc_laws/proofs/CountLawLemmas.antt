@@ -13,13 +13,13 @@ use Rattle.std.specs.List.{take_while, prefix_len, list_all}
 use Rattle.std.specs.Char.{is_ascii_digit}
 use Rattle.std.specs.Str.{all_ascii_digits}
 use Rattle.std.specs.Str.Parse.{digits_value}
-use Rattle.mc_command.specs.Words.{is_space, is_nonempty}
-use Rattle.mc_command.specs.Numbers.{number_up_to}
-use Rattle.mc_command.specs.declared.step.KeyStep.TheVariants.{Count}
-use Rattle.mc_command.specs.Plain.{count_row, number_row, number_of}
+use Rattle.mc_protocol.specs.Words.{is_space, is_nonempty}
+use Rattle.mc_protocol.specs.Numbers.{number_up_to}
+use Rattle.mc_protocol.specs.declared.step.KeyStep.TheVariants.{Count}
+use Rattle.mc_protocol.specs.Plain.{count_row, number_row, number_of}
 use Rattle.mc_laws.specs.Laws.{IsNumber, IsCount, counts_by, counts_up}
 use Rattle.mc_shared.proofs.NamedKept.{same_self, same_is}
-use Rattle.mc_command.proofs.NumberLemmas.{own, number-some}
+use Rattle.mc_protocol.proofs.NumberLemmas.{own, number-some}
 use Rattle.mc_laws.proofs.KeyLawLemmas.{some_is, none_some, alive_was, wrote_so}
 use Rattle.mc_laws.proofs.ReadLawLemmas.{OthersStay, may_or_not, stands_behind, spares, legal_parts, after_parts}
 use Rattle.mc_laws.proofs.OnlyLawLemmas.{whole_held}

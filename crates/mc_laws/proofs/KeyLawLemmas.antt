@@ -6,14 +6,14 @@ use Rattle.mc_shared.proofs.Words.{block_need, without_dead, expiring, keeps_chu
 use Rattle.mc_laws.specs.Laws.{HasItem}
 use Rattle.mc_shared.proofs.Words.{found-next, get_put, get_gone}
 use Rattle.mc_laws.specs.Laws.{Wrote, item_given}
-use Rattle.mc_command.specs.declared.step.Verb.TheVariants.{Set, Add, Replace}
-use Rattle.mc_command.specs.declared.step.KeyStep.TheVariants.{Store}
-use Rattle.mc_command.specs.declared.row.Row.TheVariants.{Refuses}
-use Rattle.mc_command.specs.declared.row.Body.{Body}
-use Rattle.mc_command.specs.declared.row.Body.TheVariants.{Given, Appended, Prepended}
-use Rattle.mc_command.specs.declared.reply.Reply.TheVariants.{TooLarge, NoChunk}
-use Rattle.mc_command.specs.Plain.{store_row, delete_row, wrote, has_room, charge}
-use Rattle.mc_command.specs.declared.row.Refusal.TheVariants as refusal
+use Rattle.mc_protocol.specs.declared.step.Verb.TheVariants.{Set, Add, Replace}
+use Rattle.mc_protocol.specs.declared.step.KeyStep.TheVariants.{Store}
+use Rattle.mc_protocol.specs.declared.row.Row.TheVariants.{Refuses}
+use Rattle.mc_protocol.specs.declared.row.Body.{Body}
+use Rattle.mc_protocol.specs.declared.row.Body.TheVariants.{Given, Appended, Prepended}
+use Rattle.mc_protocol.specs.declared.reply.Reply.TheVariants.{TooLarge, NoChunk}
+use Rattle.mc_protocol.specs.Plain.{store_row, delete_row, wrote, has_room, charge}
+use Rattle.mc_protocol.specs.declared.row.Refusal.TheVariants as refusal
 
 pub some_is : {A : Type 0} (a b : A) → Some a ≡ Some b → a ≡ b
 some_is a b e = cc e

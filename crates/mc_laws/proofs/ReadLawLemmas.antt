@@ -8,14 +8,14 @@ use Rattle.mc_laws.specs.Laws.{StandsInLog, StandsBefore, Has, MayChange, item_a
 use Rattle.mc_shared.proofs.Words.{order, get_kept}
 use Rattle.mc_laws.specs.Laws.{item_given, HasItem, Wrote}
 use Rattle.std.specs.Prelude.{is_some, ◌||◌}
-use Rattle.mc_command.specs.Laws.{IsOnKey}
+use Rattle.mc_protocol.specs.Laws.{IsOnKey}
 use Rattle.mc_laws.specs.Laws.{IsTold, ReadsLatest, ReadsWrite, read_of, IsWrittenIn}
 use Rattle.mc_laws.proofs.OrderLawLemmas.{stands_in}
 use Rattle.mc_laws.proofs.KeyLawLemmas.{none_some, kept_was, Traces, stepped_traces, hit_shows, read_told, hit_leaves, deleted_drops, given_left}
 use Rattle.mc_shared.proofs.Sums.{head_is, tail_is}
 use Rattle.mc_shared.proofs.NamedKept.{same_self, apart_or_one}
 
--- the law of mc_command on other keys
+-- the law of mc_protocol on other keys
 abbrev pub OthersStay : Type 0
 OthersStay = (old new : Plain) (step : KeyStep) (now : ℕ) (reply : Reply) (other : List ℕ) → IsOnKey step → plain old step now ≡ Answered reply new
     → other ≢ key_of step → get new.items other ≡ get old.items other

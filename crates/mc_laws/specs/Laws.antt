@@ -2,14 +2,14 @@
 use Rattle.std.specs.Prelude.{◌≡◌, ℕ, ◌*◌, ◌<◌, ◌≤◌, ◌⊎◌, true, List, [], ◌∷◌, ◌++◌, Option, Some, None}
 use Rattle.std.specs.FinMap.{get}
 use Rattle.mc_time.specs.Death.{expiry_of}
-use Rattle.mc_command.specs.declared.step.Verb.TheVariants.{Append, Prepend}
-use Rattle.mc_command.specs.declared.step.KeyStep.{KeyStep}
-use Rattle.mc_command.specs.declared.step.KeyStep.TheVariants.{Store, Cas, Read, ReadTouch, Count, Flush}
-use Rattle.mc_command.specs.declared.reply.Reply.{Reply}
-use Rattle.mc_command.specs.declared.reply.Reply.TheVariants.{Stored, Hit, Number}
-use Rattle.mc_command.specs.Commands.{key_of}
-use Rattle.mc_command.specs.Plain.{Plain, plain, alive, hit_of, number_of, Answered}
-use Rattle.mc_command.specs.Plain.{Entry as Item}
+use Rattle.mc_protocol.specs.declared.step.Verb.TheVariants.{Append, Prepend}
+use Rattle.mc_protocol.specs.declared.step.KeyStep.{KeyStep}
+use Rattle.mc_protocol.specs.declared.step.KeyStep.TheVariants.{Store, Cas, Read, ReadTouch, Count, Flush}
+use Rattle.mc_protocol.specs.declared.reply.Reply.{Reply}
+use Rattle.mc_protocol.specs.declared.reply.Reply.TheVariants.{Stored, Hit, Number}
+use Rattle.mc_protocol.specs.Commands.{key_of}
+use Rattle.mc_protocol.specs.Plain.{Plain, plain, alive, hit_of, number_of, Answered}
+use Rattle.mc_protocol.specs.Plain.{Entry as Item}
 use Rattle.mc_shared.specs.History.{Beginning, Operation, Stepped, Purged, HistoryEntry, shelf_in, after, IsLegal}
 use Rattle.mc_shared.specs.Past.{Past, spent, start, call, made, both, same, KeptBy}
 use Rattle.mc_shared.specs.Store.{with_call}

@@ -1,8 +1,8 @@
 -- One order of all callers' calls, which one plain machine answers.
 use Rattle.std.specs.Prelude.{◌≡◌, ◌≤◌, ◌⊎◌, ◌==◌, List, [], ◌∷◌}
 use Rattle.std.specs.List.Sorted.{IsPermutation}
-use Rattle.mc_command.specs.Plain.{Plain, Answered, plain}
-use Rattle.mc_command.specs.Purge.{purged}
+use Rattle.mc_protocol.specs.Plain.{Plain, Answered, plain}
+use Rattle.mc_protocol.specs.Purge.{purged}
 use Rattle.mc_shared.specs.History.{Beginning, Operation, Stepped, Purged, HistoryEntry, shelf_in}
 use Rattle.mc_shared.specs.Past.{Past, spent, start, made, both, held, callers, times, Whole}
 use Rattle.mc_laws.specs.Laws.{StandsInLog, StandsBefore, Has, CallerKnew, Call, with_calls}

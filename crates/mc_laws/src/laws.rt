@@ -5,12 +5,12 @@
 
 ghost use Rattle.std.specs.Prelude.{◌≡◌, ◌+◌, ◌%◌, ◌^◌, ◌<◌, ◌≤◌, ◌⊎◌, ℕ, ℤ};
 ghost use Rattle.std.specs.Prelude.{List, [], ◌∷◌, ◌++◌, Bool, true, false, Some, None};
-ghost use Rattle.mc_command.specs.declared.step.KeyStep.{KeyStep};
-ghost use Rattle.mc_command.specs.declared.reply.Reply.{Reply};
-ghost use Rattle.mc_command.specs.Commands.{key_of};
-ghost use Rattle.mc_command.specs.Laws.{IsOnKey};
-ghost use Rattle.mc_command.specs.Plain.{Plain, opening};
-ghost use Rattle.mc_command.specs.Plain.{Entry as Item};
+ghost use Rattle.mc_protocol.specs.declared.step.KeyStep.{KeyStep};
+ghost use Rattle.mc_protocol.specs.declared.reply.Reply.{Reply};
+ghost use Rattle.mc_protocol.specs.Commands.{key_of};
+ghost use Rattle.mc_protocol.specs.Laws.{IsOnKey};
+ghost use Rattle.mc_protocol.specs.Plain.{Plain, opening};
+ghost use Rattle.mc_protocol.specs.Plain.{Entry as Item};
 ghost use Rattle.mc_shared.specs.Sums.{total};
 ghost use Rattle.mc_shared.specs.History.{Beginning, Operation, Stepped, HistoryEntry};
 ghost use Rattle.mc_shared.specs.History.{after, IsLegal};
@@ -27,7 +27,7 @@ ghost use Rattle.mc_laws.specs.Laws.{StoresAsGiven, IsTakenAway};
 ghost use Rattle.mc_laws.specs.Laws.{IsWrittenIn, IsNumber, IsCount, counts_up};
 ghost use Rattle.mc_laws.specs.Together.{AreAnswered, two_callers, IsMixOf};
 
-use mc_command::other_keys_stay;
+use mc_protocol::other_keys_stay;
 
 /// States what all callers have together, in however many threads: one plain store. There is one
 /// list of all calls that a caller's past has, each once, in which each call stands behind all that

@@ -6,10 +6,10 @@ use Rattle.std.proofs.lemmas.Bool.{cases_eq, cases_lt}
 use Rattle.std.proofs.lemmas.List.{take_all, take-append-drop, length-take, length-take-le, append_assoc}
 use Rattle.std.specs.Str.{bytes_eq}
 use Rattle.std.specs.Str.Lines.{strip_carriage_return}
-use Rattle.mc_command.specs.Words.{words}
-use Rattle.mc_command.specs.declared.fault.LineFault.{LineFault}
-use Rattle.mc_command.specs.declared.fault.LineFault.TheVariants.{BadChunk}
-use Rattle.mc_command.specs.Commands.{block_in}
+use Rattle.mc_protocol.specs.Words.{words}
+use Rattle.mc_protocol.specs.declared.fault.LineFault.{LineFault}
+use Rattle.mc_protocol.specs.declared.fault.LineFault.TheVariants.{BadChunk}
+use Rattle.mc_protocol.specs.Commands.{block_in}
 use Rattle.mc_parse.specs.Lines.{Line, meaning}
 use Rattle.mc_parse.specs.Units.{ProtocolUnit, Request, Fault, LongLine, IsLine, CompletesBy, Completes, with_block, stored, SpellsLine, Spells}
 use Rattle.mc_parse.specs.Peeks.{BeginsWithNone, IsSpelled}

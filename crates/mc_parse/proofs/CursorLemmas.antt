@@ -5,9 +5,9 @@ use Rattle.std.proofs.Math.Seq.{take-append_seam}
 use Rattle.std.proofs.lemmas.List.{append-nil, drop-drop, take-take, take-append-le, length-take, length-take-le, take_all}
 use Rattle.std.specs.Str.Lines.{strip_carriage_return}
 use Rattle.std.specs.List.{slice_index}
-use Rattle.mc_command.specs.Words.{words}
-use Rattle.mc_command.specs.Commands.{Shape, Single, Retrieval, Alone, shape, retrieval, after_by, after_steps, retrieval-shape}
-use Rattle.mc_command.specs.Commands.{Command}
+use Rattle.mc_protocol.specs.Words.{words}
+use Rattle.mc_protocol.specs.Commands.{Shape, Single, Retrieval, Alone, shape, retrieval, after_by, after_steps, retrieval-shape}
+use Rattle.mc_protocol.specs.Commands.{Command}
 use Rattle.mc_parse.specs.declared.cursor.Cursor.{Cursor}
 use Rattle.mc_parse.specs.Units.{ProtocolUnit, Request, Fault, LongLine}
 use Rattle.mc_parse.specs.Peeks.{left_of}

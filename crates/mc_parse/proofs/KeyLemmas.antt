@@ -6,12 +6,12 @@ use Rattle.std.proofs.Common.{◌∷◌, []}
 use Rattle.std.specs.Str.Lines.{strip_carriage_return}
 use Rattle.std.proofs.lemmas.List.{drop-map}
 use Rattle.std.proofs.lemmas.List.Elements.{All-drop}
-use Rattle.mc_command.specs.Words.{words}
-use Rattle.mc_command.specs.Commands.{Shape, Single, Retrieval, Alone, shape, shape_left, block_in, steps_by, read_step, HasShortKeys, after_steps, after_steps-shape, key_of}
-use Rattle.mc_command.specs.Commands.{Command}
-use Rattle.mc_command.specs.declared.step.KeyStep.{KeyStep}
-use Rattle.mc_command.specs.declared.fault.LineFault.{LineFault}
-use Rattle.mc_command.specs.declared.fault.LineFault.TheVariants.{BadChunk}
+use Rattle.mc_protocol.specs.Words.{words}
+use Rattle.mc_protocol.specs.Commands.{Shape, Single, Retrieval, Alone, shape, shape_left, block_in, steps_by, read_step, HasShortKeys, after_steps, after_steps-shape, key_of}
+use Rattle.mc_protocol.specs.Commands.{Command}
+use Rattle.mc_protocol.specs.declared.step.KeyStep.{KeyStep}
+use Rattle.mc_protocol.specs.declared.fault.LineFault.{LineFault}
+use Rattle.mc_protocol.specs.declared.fault.LineFault.TheVariants.{BadChunk}
 use Rattle.mc_parse.specs.Lines.{Line, meaning}
 use Rattle.mc_parse.specs.Units.{ProtocolUnit, Request, Fault, LongLine, CompletesBy, Completes, with_block, stored}
 use Rattle.mc_parse.specs.Peeks.{IsSpelled, IsLeft, left_of}

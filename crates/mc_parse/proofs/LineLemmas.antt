@@ -8,18 +8,18 @@ use Rattle.std.specs.Str.Parse.{digits_value}
 use Rattle.std.proofs.lemmas.Bool.{leb-true}
 use Rattle.std.proofs.lemmas.List.Elements.{All-nil, All-cons, All-map, recursion_from_All}
 use Rattle.std.proofs.lemmas.Result.{IfOk-at_ok}
-use Rattle.mc_command.specs.Words.{words, is_nonempty}
-use Rattle.mc_command.specs.Numbers.{number_up_to, is_numeral}
-use Rattle.mc_command.specs.Commands.{HasShortKeys, key_of}
-use Rattle.mc_command.specs.declared.step.KeyStep.{KeyStep}
-use Rattle.mc_command.specs.declared.step.KeyStep.TheVariants.{Store as StoreStep, Cas as CasStep, Read as ReadStep, ReadTouch as ReadTouchStep, Touch as TouchStep}
-use Rattle.mc_command.specs.declared.step.KeyStep.TheVariants.{Delete as DeleteStep, Count as CountStep, Flush as FlushStep}
-use Rattle.mc_command.specs.declared.lone.Lone.{Lone}
-use Rattle.mc_command.specs.declared.step.Verb.{Verb}
-use Rattle.mc_command.specs.Commands.{Command}
-use Rattle.mc_command.specs.declared.command.CommandOf.TheVariants.{FlushAll}
-use Rattle.mc_command.specs.declared.fault.LineFault.{LineFault}
-use Rattle.mc_command.specs.declared.fault.LineFault.TheVariants.{Unknown, BadFormat, BadDelta, TooLarge}
+use Rattle.mc_protocol.specs.Words.{words, is_nonempty}
+use Rattle.mc_protocol.specs.Numbers.{number_up_to, is_numeral}
+use Rattle.mc_protocol.specs.Commands.{HasShortKeys, key_of}
+use Rattle.mc_protocol.specs.declared.step.KeyStep.{KeyStep}
+use Rattle.mc_protocol.specs.declared.step.KeyStep.TheVariants.{Store as StoreStep, Cas as CasStep, Read as ReadStep, ReadTouch as ReadTouchStep, Touch as TouchStep}
+use Rattle.mc_protocol.specs.declared.step.KeyStep.TheVariants.{Delete as DeleteStep, Count as CountStep, Flush as FlushStep}
+use Rattle.mc_protocol.specs.declared.lone.Lone.{Lone}
+use Rattle.mc_protocol.specs.declared.step.Verb.{Verb}
+use Rattle.mc_protocol.specs.Commands.{Command}
+use Rattle.mc_protocol.specs.declared.command.CommandOf.TheVariants.{FlushAll}
+use Rattle.mc_protocol.specs.declared.fault.LineFault.{LineFault}
+use Rattle.mc_protocol.specs.declared.fault.LineFault.TheVariants.{Unknown, BadFormat, BadDelta, TooLarge}
 use Rattle.mc_parse.specs.declared.name.Name.{Name}
 use Rattle.mc_parse.specs.declared.name.Name.TheVariants.{Store as StoreName, Cas as CasName, Get as GetName, GetTouch as GetTouchName, Touch as TouchName, Delete as DeleteName}
 use Rattle.mc_parse.specs.declared.name.Name.TheVariants.{Count as CountName, FlushAll as FlushName, Lone as LoneName}

@@ -3,7 +3,7 @@ use Rattle.std.proofs.Common.{◌≡◌, ◌≢◌, ◌<◌, ℕ, true, false, c
 use Rattle.std.specs.List.{All, AllByRecursion, slice_split, onto_first}
 use Rattle.std.proofs.lemmas.Bool.{eqb-false}
 use Rattle.std.proofs.lemmas.List.Elements.{All-from_recursion, recursion_from_All, All-filter, filter_passes}
-use Rattle.mc_command.specs.Words.{words, is_space, is_nonempty}
+use Rattle.mc_protocol.specs.Words.{words, is_space, is_nonempty}
 use Rattle.mc_parse.specs.Lines.{IsWord}
 
 -- one byte more of the first part

@@ -4,10 +4,10 @@ use Rattle.std.proofs.Common.{IfSome, length-drop, length-append}
 use Rattle.std.proofs.lemmas.List.{drop-drop, take-take, take-append-le, length-take, length-take-le, take-append-drop}
 use Rattle.std.specs.Result.{IfOk}
 use Rattle.std.specs.Str.Lines.{strip_carriage_return}
-use Rattle.mc_command.specs.Words.{words, EndsIn}
-use Rattle.mc_command.specs.Commands.{Command, retrieval_in, block_in, retrieval, after_steps}
-use Rattle.mc_command.specs.declared.command.CommandOf.TheVariants.{Store, Get, GetTouch}
-use Rattle.mc_command.specs.declared.fault.LineFault.{LineFault}
+use Rattle.mc_protocol.specs.Words.{words, EndsIn}
+use Rattle.mc_protocol.specs.Commands.{Command, retrieval_in, block_in, retrieval, after_steps}
+use Rattle.mc_protocol.specs.declared.command.CommandOf.TheVariants.{Store, Get, GetTouch}
+use Rattle.mc_protocol.specs.declared.fault.LineFault.{LineFault}
 use Rattle.mc_parse.specs.declared.note.KeySpan.{KeySpan}
 use Rattle.mc_parse.specs.declared.note.Note.{Note}
 use Rattle.mc_parse.specs.Lines.{Line, meaning}

@@ -1,8 +1,8 @@
 -- Where a retrieval stands after some of its turns.
 use Rattle.std.specs.Prelude.{◌≡◌, ◌≤◌, ℕ, Bool, List, length, take, drop, ℤ, Option, Some, None, IfSome}
-use Rattle.mc_command.specs.Words.{words}
-use Rattle.mc_command.specs.Commands.{retrieval}
-use Rattle.mc_command.specs.Commands.{Command}
+use Rattle.mc_protocol.specs.Words.{words}
+use Rattle.mc_protocol.specs.Commands.{retrieval}
+use Rattle.mc_protocol.specs.Commands.{Command}
 use Rattle.mc_parse.specs.Units.{Request}
 use Rattle.mc_parse.specs.Peeks.{IsLeft}
 use Rattle.mc_parse.specs.declared.cursor.Cursor.{Cursor}

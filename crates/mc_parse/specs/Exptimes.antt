@@ -1,7 +1,7 @@
 -- The exptimes and delays that words write.
 use Rattle.std.specs.Prelude.{ℕ, ◌-◌, ◌^◌, ◌==◌, List, [], ◌∷◌, Option, Some, None, if◌then◌else◌, ℤ, pos, negsuc, neg_ℤ}
 use Rattle.std.specs.Option.{option_map, option_and_then}
-use Rattle.mc_command.specs.Numbers.{number_up_to}
+use Rattle.mc_protocol.specs.Numbers.{number_up_to}
 
 -- an exptime: a number of at most 2 ^ 63 - 1, which a minus may precede
 abbrev pub exptime_of : List ℕ → Option ℤ

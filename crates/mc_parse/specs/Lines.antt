@@ -2,16 +2,16 @@
 use Rattle.std.specs.Prelude.{◌≢◌, ◌<◌, ◌≤◌, ℕ, ◌+◌, ◌-◌, ◌^◌, ◌&&◌, Bool, true, false, List, [], ◌∷◌, length, All, Result, Ok, Err, Option, Some, None, nat_le, if◌then◌else◌, codes}
 use Rattle.std.specs.Str.{bytes_eq}
 use Rattle.std.specs.List.{list_all}
-use Rattle.mc_command.specs.Words.{is_nonempty}
-use Rattle.mc_command.specs.Numbers.{number_up_to}
-use Rattle.mc_command.specs.Commands.{Command, View, OnKey, OnAll, steps, view}
-use Rattle.mc_command.specs.declared.command.CommandOf.{CommandOf}
-use Rattle.mc_command.specs.declared.command.CommandOf.TheVariants.{Store, Cas, Get, GetTouch, Touch, Delete, Count, FlushAll, Lone as LoneCommand}
-use Rattle.mc_command.specs.declared.lone.Lone.{Lone}
-use Rattle.mc_command.specs.declared.step.Verb.{Verb}
-use Rattle.mc_command.specs.declared.step.KeyStep.{KeyStep}
-use Rattle.mc_command.specs.declared.fault.LineFault.{LineFault}
-use Rattle.mc_command.specs.declared.fault.LineFault.TheVariants.{Unknown, BadFormat, BadDelta, TooLarge}
+use Rattle.mc_protocol.specs.Words.{is_nonempty}
+use Rattle.mc_protocol.specs.Numbers.{number_up_to}
+use Rattle.mc_protocol.specs.Commands.{Command, View, OnKey, OnAll, steps, view}
+use Rattle.mc_protocol.specs.declared.command.CommandOf.{CommandOf}
+use Rattle.mc_protocol.specs.declared.command.CommandOf.TheVariants.{Store, Cas, Get, GetTouch, Touch, Delete, Count, FlushAll, Lone as LoneCommand}
+use Rattle.mc_protocol.specs.declared.lone.Lone.{Lone}
+use Rattle.mc_protocol.specs.declared.step.Verb.{Verb}
+use Rattle.mc_protocol.specs.declared.step.KeyStep.{KeyStep}
+use Rattle.mc_protocol.specs.declared.fault.LineFault.{LineFault}
+use Rattle.mc_protocol.specs.declared.fault.LineFault.TheVariants.{Unknown, BadFormat, BadDelta, TooLarge}
 use Rattle.mc_parse.specs.declared.name.Name.{Name}
 use Rattle.mc_parse.specs.declared.name.Name.TheVariants.{Store as StoreName, Cas as CasName, Get as GetName, GetTouch as GetTouchName, Touch as TouchName, Delete as DeleteName, Count as CountName, FlushAll as FlushName, Lone as LoneName}
 use Rattle.mc_parse.specs.declared.name.TheConstants.{NAMES}

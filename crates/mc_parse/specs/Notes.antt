@@ -2,10 +2,10 @@
 use Rattle.std.specs.Prelude.{◌≡◌, ◌≤◌, ◌<◌, ◌+◌, ℕ, List, length, take, drop, Result, Ok, Err, Option, IfSome}
 use Rattle.std.specs.Result.{IfOk}
 use Rattle.std.specs.Str.Lines.{strip_carriage_return}
-use Rattle.mc_command.specs.Words.{words}
-use Rattle.mc_command.specs.Commands.{mapped, retrieval_in}
-use Rattle.mc_command.specs.declared.command.CommandOf.{CommandOf}
-use Rattle.mc_command.specs.declared.fault.LineFault.{LineFault}
+use Rattle.mc_protocol.specs.Words.{words}
+use Rattle.mc_protocol.specs.Commands.{mapped, retrieval_in}
+use Rattle.mc_protocol.specs.declared.command.CommandOf.{CommandOf}
+use Rattle.mc_protocol.specs.declared.fault.LineFault.{LineFault}
 use Rattle.mc_parse.specs.declared.note.Span.{Span}
 use Rattle.mc_parse.specs.declared.note.KeySpan.{KeySpan}
 use Rattle.mc_parse.specs.declared.note.Note.{Note}

@@ -1,7 +1,7 @@
 -- What a peek says.
 use Rattle.std.specs.Prelude.{◌≡◌, ℕ, ◌≤◌, List, ◌++◌, length, take, Option, Some, None, IfSome}
-use Rattle.mc_command.specs.Commands.{after_steps, HasShortKeys}
-use Rattle.mc_command.specs.Commands.{Command}
+use Rattle.mc_protocol.specs.Commands.{after_steps, HasShortKeys}
+use Rattle.mc_protocol.specs.Commands.{Command}
 use Rattle.mc_parse.specs.Units.{ProtocolUnit, Request, Fault, LongLine, Spells}
 use Rattle.mc_parse.specs.declared.peek.Peek.{Peek}
 use Rattle.mc_parse.specs.declared.peek.Peek.TheVariants.{Whole, More, Bad, TooLong}

@@ -1,11 +1,11 @@
 -- The units of a stream.
 use Rattle.std.specs.Prelude.{◌≡◌, ℕ, Bool, true, false, List, [], ◌∷◌, ◌++◌, drop}
 use Rattle.std.specs.Bool.{MatchBool}
-use Rattle.mc_command.specs.Commands.{Command}
-use Rattle.mc_command.specs.Commands.{Shape, Single, Retrieval, Alone, shape}
-use Rattle.mc_command.specs.Lones.{closes}
-use Rattle.mc_command.specs.declared.fault.LineFault.{LineFault}
-use Rattle.mc_command.specs.declared.fault.LineFault.TheVariants.{Unknown, BadFormat, BadDelta, TooLarge, BadChunk}
+use Rattle.mc_protocol.specs.Commands.{Command}
+use Rattle.mc_protocol.specs.Commands.{Shape, Single, Retrieval, Alone, shape}
+use Rattle.mc_protocol.specs.Lones.{closes}
+use Rattle.mc_protocol.specs.declared.fault.LineFault.{LineFault}
+use Rattle.mc_protocol.specs.declared.fault.LineFault.TheVariants.{Unknown, BadFormat, BadDelta, TooLarge, BadChunk}
 use Rattle.mc_parse.specs.Units.{ProtocolUnit, Request, Fault, LongLine, Spells}
 use Rattle.mc_parse.specs.Peeks.{BeginsWithNone}
 

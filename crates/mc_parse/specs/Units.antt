@@ -3,10 +3,10 @@ use Rattle.std.specs.Prelude.{◌≡◌, ◌≢◌, ℕ, ◌+◌, ◌≤◌, ◌
 use Rattle.std.specs.List.{AllByRecursion}
 use Rattle.std.specs.Str.{bytes_eq}
 use Rattle.std.specs.Str.Lines.{strip_carriage_return}
-use Rattle.mc_command.specs.Words.{words}
-use Rattle.mc_command.specs.Commands.{Command, mapped, block_in}
-use Rattle.mc_command.specs.declared.fault.LineFault.{LineFault}
-use Rattle.mc_command.specs.declared.fault.LineFault.TheVariants.{BadChunk}
+use Rattle.mc_protocol.specs.Words.{words}
+use Rattle.mc_protocol.specs.Commands.{Command, mapped, block_in}
+use Rattle.mc_protocol.specs.declared.fault.LineFault.{LineFault}
+use Rattle.mc_protocol.specs.declared.fault.LineFault.TheVariants.{BadChunk}
 use Rattle.mc_parse.specs.Lines.{Line, meaning}
 
 -- a unit of the protocol: a command, a fault, or a line that is too long

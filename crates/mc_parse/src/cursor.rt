@@ -6,7 +6,7 @@ ghost use Rattle.mc_parse.specs.Cursors.{IsCursor, IsFirstCursor};
 
 use crate::note::KeySpan;
 use crate::peek::Peek;
-use mc_command::{Command, Keys, first_word_len};
+use mc_protocol::{Command, Keys, first_word_len};
 
 /// Where a retrieval stands whose keys take a turn each: what is left of its line, so that the next turn needn't read the
 /// line from its beginning. Places count from the first unread byte.

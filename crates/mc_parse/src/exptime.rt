@@ -1,7 +1,7 @@
 ghost use Rattle.std.specs.Prelude.{◌≡◌};
 ghost use Rattle.mc_parse.specs.Exptimes.{exptime_of, delay_of};
 
-use mc_command::number_up_to;
+use mc_protocol::number_up_to;
 
 /// Reads an exptime: a number of at most `i64::MAX`, which a minus may precede.
 pub fn exptime_of(word: &[u8]) -> Option<i64>

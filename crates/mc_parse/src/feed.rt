@@ -3,7 +3,7 @@ use crate::cursor::{Cursor, cursor_after};
 use crate::peek::Peek;
 use crate::queue::Queue;
 use crate::source::Source;
-use mc_command::LineFault;
+use mc_protocol::LineFault;
 use std::alloc::{AllocError, Global};
 use std::marker::Model;
 

@@ -7,7 +7,7 @@
 //!
 //! A line is read once, when its end is there, to a [`Noted`]: a command whose keys are places in
 //! the line ([`Span`], [`KeySpan`]) and whose block is a length ([`line_of`]; the names are one
-//! table, [`NAMES`]). [`lend`] makes the command of `mc_command` of it and the bytes. A [`Peek`] is
+//! table, [`NAMES`]). [`lend`] makes the command of `mc_protocol` of it and the bytes. A [`Peek`] is
 //! what bytes begin with ([`peek_at`]). A [`Feed`] is a stream's unread bytes with what is known of
 //! their front: pieces are pushed, or read by a [`Source`] into the room where they will lie;
 //! `peek` lends the first unit, and `done` passes over it. Under it is a [`Queue`], which is also

@@ -1,8 +1,8 @@
 ghost use Rattle.std.specs.Prelude.{◌≡◌, ◌-◌, ◌^◌, ℕ, List, [], ◌∷◌, Ok, Err};
 ghost use Rattle.std.specs.Result.{IfOk, MatchResult};
-ghost use Rattle.mc_command.specs.Words.{words, EndsIn};
-ghost use Rattle.mc_command.specs.Numbers.{number_up_to};
-ghost use Rattle.mc_command.specs.declared.fault.LineFault.TheVariants.{Unknown, BadFormat};
+ghost use Rattle.mc_protocol.specs.Words.{words, EndsIn};
+ghost use Rattle.mc_protocol.specs.Numbers.{number_up_to};
+ghost use Rattle.mc_protocol.specs.declared.fault.LineFault.TheVariants.{Unknown, BadFormat};
 ghost use Rattle.mc_parse.specs.Exptimes.{exptime_of};
 ghost use Rattle.mc_parse.specs.Notes.{at, keys_at, said, FitIn, Fits};
 ghost use Rattle.mc_parse.specs.Lines.{
@@ -28,7 +28,7 @@ ghost use Rattle.mc_parse.specs.Lines.{
 use crate::exptime::{delay_of, exptime_of};
 use crate::name::{Name, name_of};
 use crate::note::{KeySpan, Noted, Span};
-use mc_command::{
+use mc_protocol::{
     CommandOf, Keys, LineFault, Lone, Verb, Words, first_key, first_word, number_up_to, spaces_len,
 };
 

@@ -1,7 +1,7 @@
 //! Laws of lines, each the contract of a function that does nothing.
 
 ghost use Rattle.std.specs.Prelude.{◌≡◌, ◌≢◌, ℕ, List, All, Ok};
-ghost use Rattle.mc_command.specs.Words.{words};
+ghost use Rattle.mc_protocol.specs.Words.{words};
 ghost use Rattle.mc_parse.specs.Units.{with_block};
 ghost use Rattle.mc_parse.specs.Lines.{Line, meaning, IsWord, IsKey, HasKeys};
 

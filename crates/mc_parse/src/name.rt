@@ -4,7 +4,7 @@ ghost use Rattle.std.specs.Option.{option_map};
 ghost use Rattle.std.specs.Str.{bytes_eq};
 ghost use Rattle.mc_parse.specs.Lines.{name_of, named};
 
-use mc_command::{Lone, Verb};
+use mc_protocol::{Lone, Verb};
 
 /// The commands as their first word names them.
 #[derive(Clone, Copy, Debug, PartialEq, Eq)]

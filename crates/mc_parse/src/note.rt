@@ -1,6 +1,6 @@
 ghost use Rattle.std.specs.Prelude.{◌≡◌, ◌≤◌, ◌+◌, ◌<◌, ℕ, List, length, take};
 ghost use Rattle.std.specs.Result.{IfOk};
-ghost use Rattle.mc_command.specs.Commands.{block_in, retrieval_in};
+ghost use Rattle.mc_protocol.specs.Commands.{block_in, retrieval_in};
 ghost use Rattle.mc_parse.specs.Units.{with_block, IsLine};
 ghost use Rattle.mc_parse.specs.Peeks.{unit_of, FindsSpelled, MissesNone, StaysWhole};
 ghost use Rattle.mc_parse.specs.Cursors.{IsFirstCursor};
@@ -9,7 +9,7 @@ ghost use Rattle.mc_parse.specs.Notes.{at, keys_at, read, said, FitIn, Fits, IsN
 use crate::cursor::Cursor;
 use crate::line::line_of;
 use crate::peek::{Peek, block_peeked, without_carriage_return};
-use mc_command::{Bytes, Command, CommandOf, Keys, LineFault};
+use mc_protocol::{Bytes, Command, CommandOf, Keys, LineFault};
 
 /// Where a key stands in the text of a line.
 #[derive(Clone, Copy)]

@@ -4,11 +4,11 @@ ghost use Rattle.std.specs.Str.Lines.{strip_carriage_return};
 ghost use Rattle.mc_parse.specs.Units.{IsLine, HasLine};
 ghost use Rattle.mc_parse.specs.Peeks.{unit_of, FindsSpelled, MissesNone, FindsWhatever};
 ghost use Rattle.mc_parse.specs.Notes.{read, Fits, Says};
-ghost use Rattle.mc_command.specs.Commands.{block_in};
+ghost use Rattle.mc_protocol.specs.Commands.{block_in};
 
 use crate::ahead::Ahead;
 use crate::note::{Noted, lend};
-use mc_command::{Command, LineFault};
+use mc_protocol::{Command, LineFault};
 use memchr::memchr;
 
 /// What the unread bytes begin with.

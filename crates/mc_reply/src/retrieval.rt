@@ -4,7 +4,7 @@ ghost use Rattle.std.specs.List.{concat};
 ghost use Rattle.mc_reply.specs.Texts.{retrieval_text, hit_parts, end_text, HasNoRoom};
 
 use crate::numbers::Numbers;
-use mc_command::{Bytes, Keys, Reply};
+use mc_protocol::{Bytes, Keys, Reply};
 use std::alloc::AllocError;
 
 /// Appends what a retrieval tells of key `at`, and `END` after the last. Only a hit reads the key.

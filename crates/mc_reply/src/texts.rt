@@ -1,12 +1,12 @@
 ghost use Rattle.std.specs.Prelude.{◌≡◌, ◌++◌, ◌<◌, ◌+◌, length, codes, decimal, OnOk, OnErr};
 ghost use Rattle.std.specs.List.{concat};
-ghost use Rattle.mc_command.specs.Commands.{steps};
+ghost use Rattle.mc_protocol.specs.Commands.{steps};
 ghost use Rattle.mc_reply.specs.Texts.{reply_text, fault_text, plain_text, long_text};
 ghost use Rattle.mc_reply.specs.Texts.{lone_text, spent_text, said, HasNoRoom};
 
 use crate::numbers::Numbers;
 use crate::retrieval::{write_found, write_retrieval};
-use mc_command::{Bytes, Command, LineFault, Lone, Reply, is_quiet};
+use mc_protocol::{Bytes, Command, LineFault, Lone, Reply, is_quiet};
 use std::alloc::AllocError;
 
 /// Appends the text of the reply to step `at`, with `END` after the last key of a retrieval, and

@@ -5,10 +5,10 @@
 //! each store is held to the same rows, and a test is a table of data.
 //!
 //! A [`Row`] is a step at a moment and what is wanted of it; [`first_unlike`] takes rows over any
-//! store that takes steps (`mc_command`'s `Steps`), and tells the first that was answered otherwise.
+//! store that takes steps (`mc_protocol`'s `Steps`), and tells the first that was answered otherwise.
 //!
 //! It has next to no contracts, and is proved safe as all else is. It stands on mc_time and
-//! mc_command, so that tests of every store can use it. The rows of the plain store stand in
+//! mc_protocol, so that tests of every store can use it. The rows of the plain store stand in
 //! `mc_session_tests` (`src/rows_tests.rt`).
 //!
 //! Begin with `src/steps.rt`.

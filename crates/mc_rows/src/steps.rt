@@ -1,9 +1,9 @@
 //! Rows of steps with what they are answered, over any store that takes steps.
 
 ghost use Rattle.std.specs.Prelude.{◌≤◌, length};
-ghost use Rattle.mc_command.specs.Commands.{key_of};
+ghost use Rattle.mc_protocol.specs.Commands.{key_of};
 
-use mc_command::{Bytes, KeyStep, Reply, StepFault, Steps, Verb};
+use mc_protocol::{Bytes, KeyStep, Reply, StepFault, Steps, Verb};
 use mc_time::Moment;
 use std::alloc::{AllocError, Global};
 

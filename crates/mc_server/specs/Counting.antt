@@ -1,7 +1,7 @@
 -- As what a step counts.
 use Rattle.std.specs.Prelude.{Bool, true, false, Option, Some, None}
-use Rattle.mc_command.specs.declared.step.KeyStep.{KeyStep}
-use Rattle.mc_command.specs.declared.step.KeyStep.TheVariants.{Store, Cas, Read, ReadTouch, Touch, Delete, Count, Flush as FlushStep}
+use Rattle.mc_protocol.specs.declared.step.KeyStep.{KeyStep}
+use Rattle.mc_protocol.specs.declared.step.KeyStep.TheVariants.{Store, Cas, Read, ReadTouch, Touch, Delete, Count, Flush as FlushStep}
 use Rattle.mc_guests.specs.declared.tally.Outcome.{Outcome}
 use Rattle.mc_guests.specs.declared.tally.Outcome.TheVariants as outcome
 use Rattle.mc_metrics.specs.declared.counts.Counted.{Counted}

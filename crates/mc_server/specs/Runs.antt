@@ -1,7 +1,7 @@
 -- What the program serves, by its command line.
 use Rattle.std.specs.Prelude.{◌≡◌, ◌≤◌, ◌^◌, ℕ, List, [], Option, Some, None, Result, Ok, Err}
 use Rattle.mc_hop.specs.Hash.{fnv}
-use Rattle.mc_command.specs.Plain.{opening}
+use Rattle.mc_protocol.specs.Plain.{opening}
 use Rattle.mc_world.specs.Worlds.{WorldState, CanStand}
 use Rattle.mc_world.specs.Serving.{scene, Served, ServedAll, RanShort}
 use Rattle.mc_shelf.specs.declared.settings.Settings.{Settings}

@@ -1,7 +1,7 @@
 //! Who hears of the steps of a worker.
 
 use crate::metrics::{Counts, counted_as};
-use mc_command::KeyStep;
+use mc_protocol::KeyStep;
 use mc_guests::{Outcome, Tally};
 use mc_sockets::Refusals;
 

@@ -1,7 +1,7 @@
 //! `mcserver`: a cache server that speaks memcached's text protocol.
 //!
 //! What a client is told is decided and proved in the crates below: the grammar in `mc_parse`, the
-//! protocol's table in `mc_command`, the store for many threads in `mc_shared`, the loop of a
+//! protocol's table in `mc_protocol`, the store for many threads in `mc_shared`, the loop of a
 //! worker in `mc_workers`. This crate joins them to a process with sockets and threads. With
 //! `--stdin` it serves one session over standard input and output (`serving.rt`); else it listens
 //! (`listening.rt`).

@@ -1,7 +1,7 @@
 -- What was done with a session is a run of its joined stream.
 use Rattle.std.proofs.Common.{◌≡◌, ℕ, ◌≤◌, List, [], ◌∷◌, ◌++◌, length, sym, ap, ◌∙◌, subst, arith, append_assoc}
 use Rattle.std.proofs.lemmas.List.{length-append}
-use Rattle.mc_command.specs.declared.step.Steps.{Ghosts as Relations}
+use Rattle.mc_protocol.specs.declared.step.Steps.{Ghosts as Relations}
 use Rattle.mc_parse.specs.Units.{ProtocolUnit}
 use Rattle.mc_session.specs.Turns.{SessionState, fed, opened}
 use Rattle.mc_session.specs.Serving.{with_written, with_out, Run, nothing, turn, Course, begins, takes_turn, takes_none, piece_comes, part_goes}

@@ -4,11 +4,11 @@ use Rattle.std.proofs.Common.{None, MatchOption, slice_get, if◌then◌else◌,
 use Rattle.std.proofs.lemmas.Bool.{cases_eq}
 use Rattle.std.proofs.lemmas.Option.{slice_get_past}
 use Rattle.std.proofs.lemmas.List.{drop-map, length-map, length-drop}
-use Rattle.mc_command.specs.Commands.{Shape, Single, Retrieval, Alone, shape, shape_left, steps_by, read_step, is_quiet_by, steps, after_steps, after_steps-shape}
-use Rattle.mc_command.specs.Commands.{Command}
-use Rattle.mc_command.specs.declared.step.KeyStep.{KeyStep}
-use Rattle.mc_command.specs.declared.step.Steps.{Ghosts as Relations}
-use Rattle.mc_command.specs.declared.reply.Reply.{Reply}
+use Rattle.mc_protocol.specs.Commands.{Shape, Single, Retrieval, Alone, shape, shape_left, steps_by, read_step, is_quiet_by, steps, after_steps, after_steps-shape}
+use Rattle.mc_protocol.specs.Commands.{Command}
+use Rattle.mc_protocol.specs.declared.step.KeyStep.{KeyStep}
+use Rattle.mc_protocol.specs.declared.step.Steps.{Ghosts as Relations}
+use Rattle.mc_protocol.specs.declared.reply.Reply.{Reply}
 use Rattle.mc_parse.specs.Units.{ProtocolUnit, Request, Fault, LongLine}
 use Rattle.mc_parse.specs.Streams.{is_quit, is_quit_by}
 use Rattle.mc_parse.specs.Peeks.{left_of}

@@ -3,7 +3,7 @@ use Rattle.std.proofs.Common.{◌≡◌, ◌⊎◌, inl, inr, ℕ, ◌^◌, ◌�
 use Rattle.std.specs.Io.KnownBytes.{IsAtEnd}
 use Rattle.std.proofs.KnownBytes.{Consumes-nil}
 use Rattle.std.proofs.lemmas.List.{take-append-drop}
-use Rattle.mc_command.specs.declared.step.Steps.{Ghosts as Relations}
+use Rattle.mc_protocol.specs.declared.step.Steps.{Ghosts as Relations}
 use Rattle.mc_parse.specs.Units.{ProtocolUnit}
 use Rattle.mc_session.specs.Turns.{SessionState, NoTurnDue, opened}
 use Rattle.mc_session.specs.Endpoints.{in_session}

@@ -1,18 +1,18 @@
 -- What one turn of the unit that was found does.
 use Rattle.std.specs.Prelude.{◌≡◌, ℕ, ◌+◌, ◌^◌, ◌<◌, ◌≤◌, ◌==◌, List, ◌++◌, length, Option, Some, if◌then◌else◌, slice_get}
 use Rattle.std.specs.List.{concat}
-use Rattle.mc_command.specs.Commands.{steps}
-use Rattle.mc_command.specs.Commands.{Command}
-use Rattle.mc_command.specs.declared.step.KeyStep.{KeyStep}
-use Rattle.mc_command.specs.declared.step.Steps.{Ghosts as Relations}
-use Rattle.mc_command.specs.declared.reply.Reply.{Reply}
+use Rattle.mc_protocol.specs.Commands.{steps}
+use Rattle.mc_protocol.specs.Commands.{Command}
+use Rattle.mc_protocol.specs.declared.step.KeyStep.{KeyStep}
+use Rattle.mc_protocol.specs.declared.step.Steps.{Ghosts as Relations}
+use Rattle.mc_protocol.specs.declared.reply.Reply.{Reply}
 use Rattle.mc_parse.specs.Units.{ProtocolUnit, Request, Spells}
 use Rattle.mc_parse.specs.Streams.{is_last, passed_after}
 use Rattle.mc_parse.specs.Feeds.{Unread, read}
 use Rattle.mc_session.specs.declared.after_turn.AfterTurn.{AfterTurn}
 use Rattle.mc_session.specs.declared.after_turn.AfterTurn.TheVariants.{Step, Read, Close}
 use Rattle.mc_session.specs.declared.text.Text.{Text}
-use Rattle.mc_command.specs.declared.reply.Reply.TheVariants.{Hit as HitReply}
+use Rattle.mc_protocol.specs.declared.reply.Reply.TheVariants.{Hit as HitReply}
 use Rattle.mc_session.specs.declared.text.Text.TheVariants.{First, Hit, Spent, Plain, Flaw, TooLong}
 use Rattle.mc_reply.specs.Texts.{reply_text, plain_text, spent_text, fault_text, long_text}
 use Rattle.mc_session.specs.Turns.{SessionState, Answers, turn_count, closed, to_read}

@@ -1,6 +1,6 @@
 -- A session as one end of a connection, over a store that takes steps.
 use Rattle.std.specs.Prelude.{◌≡◌, ◌⊎◌, ℕ, IsTrue, IsFalse}
-use Rattle.mc_command.specs.declared.step.Steps.{Ghosts as StepRelations}
+use Rattle.mc_protocol.specs.declared.step.Steps.{Ghosts as StepRelations}
 use Rattle.mc_session.specs.declared.endpoint.Endpoint.{Ghosts as Relations}
 use Rattle.mc_session.specs.Turns.{SessionState, TakesTurn, DecidesStep, TurnIsDue, NoTurnDue, fed, sent}
 

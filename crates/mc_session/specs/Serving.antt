@@ -1,7 +1,7 @@
 -- A whole run of a session over a reader and a writer.
 use Rattle.std.specs.Prelude.{◌≡◌, ◌⊎◌, ◌+◌, ◌^◌, ◌<◌, ◌≤◌, ℕ, List, [], ◌∷◌, ◌++◌, length, Option, IsTrue, IsFalse}
 use Rattle.std.specs.Io.KnownBytes.{Appends, Consumes, IsAtEnd}
-use Rattle.mc_command.specs.declared.step.Steps.{Ghosts as Relations}
+use Rattle.mc_protocol.specs.declared.step.Steps.{Ghosts as Relations}
 use Rattle.mc_parse.specs.Units.{ProtocolUnit}
 use Rattle.mc_session.specs.declared.rounds.TheConstants.{WRITE_AT}
 use Rattle.mc_session.specs.Turns.{SessionState, opened, fed, TakesTurn, DecidesStep, NoTurnDue}

@@ -1,6 +1,6 @@
 ghost use Rattle.std.specs.Prelude.{◌≡◌, ◌++◌, ◌^◌, ◌<◌, ℕ, List, IfOk, IfErr, IfSome, IsTrue, IsFalse, OnOk, OnErr, length};
-ghost use Rattle.mc_command.specs.Commands.{steps, HasShortKeys};
-ghost use Rattle.mc_command.specs.Commands.{Command};
+ghost use Rattle.mc_protocol.specs.Commands.{steps, HasShortKeys};
+ghost use Rattle.mc_protocol.specs.Commands.{Command};
 ghost use Rattle.mc_parse.specs.Units.{Request, Fault, LongLine};
 ghost use Rattle.mc_parse.specs.Peeks.{unit_of};
 ghost use Rattle.mc_session.specs.Answers.{next_of, Tells, TakesFirst, DecidesFound};
@@ -12,7 +12,7 @@ use crate::after_turn::AfterTurn;
 use crate::session::TurnFault;
 use crate::teller::{Asked, Teller};
 use crate::text::{Output, Text};
-use mc_command::{Command, LineFault, Steps, Unanswered, step_at, steps_of};
+use mc_protocol::{Command, LineFault, Steps, Unanswered, step_at, steps_of};
 use mc_parse::Peek;
 use mc_time::Moment;
 use std::alloc::Global;

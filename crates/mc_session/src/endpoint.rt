@@ -1,7 +1,7 @@
 //! What serving a session has in common with serving one of a world's sessions.
 
 use crate::session::{Session, Turn};
-use mc_command::Steps;
+use mc_protocol::Steps;
 use mc_time::Moment;
 use std::alloc::{AllocError, Global};
 

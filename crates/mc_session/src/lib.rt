@@ -7,7 +7,7 @@
 //! and when output is written: a world does, a worker, or the loop of this crate.
 //!
 //! A [`Session`] is a feed of `mc_parse`, how many turns of its first unit were taken, and the
-//! output. Its `turn` goes over any store that takes steps (`mc_command`'s `Steps`). [`Endpoint`]
+//! output. Its `turn` goes over any store that takes steps (`mc_protocol`'s `Steps`). [`Endpoint`]
 //! is one end of a connection as the loop [`serve_endpoint`] sees it, a session or a session of a
 //! world; [`serve`] is a whole run of one session over a reader and a writer, which writes when
 //! nothing more is due, and before a turn once [`WRITE_AT`] bytes wait.

@@ -3,7 +3,7 @@ ghost use Rattle.mc_session.specs.Serving.{Serves, ServesAll, ServesUntilRefused
 
 use crate::rounds::{piece_buffer, serve_endpoint, write_out};
 use crate::session::Session;
-use mc_command::Steps;
+use mc_protocol::Steps;
 use mc_time::Clock;
 use std::alloc::Global;
 use std::io::{Read, Write};

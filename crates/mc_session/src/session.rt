@@ -1,12 +1,12 @@
 ghost use Rattle.std.specs.Prelude.{◌≡◌, ◌≤◌, ◌↔◌, length, IsTrue, IfSome};
-ghost use Rattle.mc_command.specs.Commands.{HasShortKeys, longest_key};
+ghost use Rattle.mc_protocol.specs.Commands.{HasShortKeys, longest_key};
 ghost use Rattle.mc_parse.specs.Peeks.{unit_of};
 ghost use Rattle.mc_session.specs.Turns.{SessionState};
 
 use crate::after_turn::AfterTurn;
 use crate::answer::answer;
 use crate::text::Output;
-use mc_command::{Command, Steps, step_at, steps_of};
+use mc_protocol::{Command, Steps, step_at, steps_of};
 use mc_parse::{Feed, Peek, Source};
 use mc_time::Moment;
 use std::alloc::{AllocError, Global};
@@ -71,7 +71,7 @@ impl Model for Session {
 
 impl Session {
     ghost use Rattle.std.specs.Prelude.{◌≡◌, ◌≤◌, ◌*◌, ◌↔◌, [], length, IsTrue, IsFalse, OnOk, OnErr, IfOk, IfErr, Ok, None, IfSome};
-    ghost use Rattle.mc_command.specs.Commands.{longest_key};
+    ghost use Rattle.mc_protocol.specs.Commands.{longest_key};
     ghost use Rattle.mc_parse.specs.Sources.{Brings};
     ghost use Rattle.mc_session.specs.Turns.{TakesTurn, FindsNoTurn, FindsClosed, TurnIsDue, NoTurnDue};
     ghost use Rattle.mc_session.specs.Turns.{DecidesStep, opened, closed, fed, FedPiece, sent};

@@ -1,10 +1,10 @@
 //! How the reply to a command's first step is told: its text is appended to an output.
 
 ghost use Rattle.std.specs.Prelude.{◌<◌, length};
-ghost use Rattle.mc_command.specs.Commands.{steps};
+ghost use Rattle.mc_protocol.specs.Commands.{steps};
 
 use crate::text::{Output, Text};
-use mc_command::{Answer, Bytes, Command, Reply};
+use mc_protocol::{Answer, Bytes, Command, Reply};
 use std::alloc::AllocError;
 
 /// A command that takes a step.

@@ -2,7 +2,7 @@
 //! waiting.
 
 use crate::counting::Counting;
-use mc_command::Verb;
+use mc_protocol::Verb;
 use mc_guests::{Budget, Got, Guests, Link, LinkFault, Took, WorkEnd};
 use mc_rows::{Ask, ask_step, filled_block, step_of};
 use mc_time::Moment;

@@ -1,6 +1,6 @@
 //! A store that counts what it is asked for.
 
-use mc_command::{KeyStep, PlainStore, Reply, StepFault, Steps};
+use mc_protocol::{KeyStep, PlainStore, Reply, StepFault, Steps};
 use mc_time::Moment;
 use std::alloc::{AllocError, Global};
 

@@ -1,9 +1,9 @@
 //! Sessions over a store that tells a hit from where its block lies.
 
 ghost use Rattle.std.specs.Prelude.{◌≡◌, OnOk, OnErr};
-ghost use Rattle.mc_command.specs.declared.reply.Reply.{Reply as Told};
+ghost use Rattle.mc_protocol.specs.declared.reply.Reply.{Reply as Told};
 
-use mc_command::{Answer, Bytes, KeyStep, PlainStore, Reply, StepFault, Steps, Unanswered};
+use mc_protocol::{Answer, Bytes, KeyStep, PlainStore, Reply, StepFault, Steps, Unanswered};
 use mc_session::{Session, Turn, TurnFault};
 use mc_testing::SESSIONS;
 use mc_time::Moment;

@@ -1,4 +1,4 @@
-//! Tests of what reads and answers the protocol: of `mc_command`'s plain store, the lines and feeds
+//! Tests of what reads and answers the protocol: of `mc_protocol`'s plain store, the lines and feeds
 //! of `mc_parse`, the texts of `mc_reply`, the sessions of `mc_session`, the guests of `mc_guests`,
 //! and the rows of `mc_rows` over the plain store.
 //!

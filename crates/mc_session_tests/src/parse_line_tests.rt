@@ -1,6 +1,6 @@
 //! What lines say, and their first faults.
 
-use mc_command::{Command, CommandOf, LineFault};
+use mc_protocol::{Command, CommandOf, LineFault};
 use mc_parse::{Noted, lend, line_of};
 use std::process::Abort;
 use std::test::*;

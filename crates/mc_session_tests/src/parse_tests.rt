@@ -4,7 +4,7 @@ ghost use Rattle.std.specs.Prelude.{◌≡◌, ◌∷◌, []};
 ghost use Rattle.std.specs.Option.{option_map};
 ghost use Rattle.mc_parse.specs.Peeks.{unit_of};
 
-use mc_command::{Command, LineFault, Lone, Verb};
+use mc_protocol::{Command, LineFault, Lone, Verb};
 use mc_parse::{Append, FIRST_PIECE, Feed, Peek, Queue, Source, peek_at};
 use std::alloc::{AllocError, Global};
 use std::test::*;

@@ -2,9 +2,9 @@
 //! be refused. What else it answers is in `rows_tests`, by rows that any store can be held to.
 
 ghost use Rattle.std.specs.Prelude.{◌≤◌, length};
-ghost use Rattle.mc_command.specs.Commands.{key_of};
+ghost use Rattle.mc_protocol.specs.Commands.{key_of};
 
-use mc_command::{Bytes, KeyStep, PlainStore, Reply, StepFault, Steps, Verb};
+use mc_protocol::{Bytes, KeyStep, PlainStore, Reply, StepFault, Steps, Verb};
 use mc_time::Moment;
 use std::alloc::Global;
 use std::test::Fail;

@@ -1,6 +1,6 @@
 //! Replies and faults as texts.
 
-use mc_command::{Block, Bytes, Command, Keys, LineFault, Lone, Reply, Verb, steps_of};
+use mc_protocol::{Block, Bytes, Command, Keys, LineFault, Lone, Reply, Verb, steps_of};
 use mc_reply::{write, write_fault, write_hit, write_plain, write_spent, write_too_long};
 use std::alloc::{AllocError, Global};
 use std::process::Abort;

@@ -1,6 +1,6 @@
 //! Sessions: whole runs over a reader and a writer, and turns by themselves.
 
-use mc_command::PlainStore;
+use mc_protocol::PlainStore;
 use mc_parse::Source;
 use mc_session::{ServeFault, Session, Turn, serve};
 use mc_testing::{Drip, SESSIONS, Sip};

@@ -5,7 +5,7 @@ use Rattle.mc_shared.proofs.Words.{none-some, empty, get, get-empty, Plain, flus
 use Rattle.std.proofs.lemmas.List.{get_or-replicate, take_more, take_all}
 use Rattle.std.proofs.lemmas.Option.{get_or_from_slice_get, slice_get_within}
 use Rattle.std.specs.Prelude.{Option, option_to_list}
-use Rattle.mc_command.specs.Plain.{count_of}
+use Rattle.mc_protocol.specs.Plain.{count_of}
 use Rattle.mc_shelf.specs.Asides.{none_out}
 use Rattle.mc_shelf.specs.States.{nothing_held}
 use Rattle.mc_shelf.proofs.PartLemmas.{put_cases}

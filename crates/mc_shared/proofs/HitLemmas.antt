@@ -5,7 +5,7 @@ use Rattle.std.specs.Prelude.{is_none}
 use Rattle.std.specs.List.{concat}
 use Rattle.mc_slab.specs.Classes.{size_of}
 use Rattle.mc_item.specs.Items.{front_of, pieces}
-use Rattle.mc_command.specs.Plain.{item_need}
+use Rattle.mc_protocol.specs.Plain.{item_need}
 use Rattle.mc_shelf.specs.Lent.{HitState}
 use Rattle.mc_shelf.specs.States.{stored}
 use Rattle.mc_shelf.specs.Hits.{found_of}

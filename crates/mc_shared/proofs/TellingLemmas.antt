@@ -3,8 +3,8 @@ use Rattle.std.proofs.Common.{◌≡◌, ℕ, Result, Ok, Err, IfErr, OnOk, OnEr
 use Rattle.std.specs.Bool.{⊤}
 use Rattle.std.proofs.lemmas.Result.{IfOk-at_ok, on_ok_weaker}
 use Rattle.std.specs.Result.{MatchResult}
-use Rattle.mc_command.specs.declared.answer.Unanswered.{Unanswered}
-use Rattle.mc_command.specs.declared.answer.Unanswered.TheVariants.{NoMemory as NoRoom, NumbersSpent as NoNumbers, Untold}
+use Rattle.mc_protocol.specs.declared.answer.Unanswered.{Unanswered}
+use Rattle.mc_protocol.specs.declared.answer.Unanswered.TheVariants.{NoMemory as NoRoom, NumbersSpent as NoNumbers, Untold}
 use Rattle.mc_shared.proofs.Words.{Beginning, Past, KeyStep, Reply, CallerState, Agrees, StepFault, NoMemory, NumbersSpent, Refuses, IsAnswered, MayFailAfter}
 use Rattle.mc_shared.specs.Store.{HasCalled}
 use Rattle.mc_shared.specs.Telling.{IsTold, CameOfRead}

@@ -1,6 +1,6 @@
 -- What is left when the store is closed.
 use Rattle.std.specs.Prelude.{◌≡◌, List}
-use Rattle.mc_command.specs.Plain.{Plain}
+use Rattle.mc_protocol.specs.Plain.{Plain}
 use Rattle.mc_shelf.specs.States.{ShelfState, DeskState}
 use Rattle.mc_shelf.specs.Parts.{ArePartsOf}
 use Rattle.mc_shared.specs.History.{Beginning, HistoryEntry, after, IsLegal}

@@ -1,6 +1,6 @@
 -- How many keys of each number were counted.
 use Rattle.std.specs.Prelude.{◌≡◌, ◌≢◌, ℕ, ◌*◌, ◌/◌, ◌%◌, ◌<◌, List, length, slice_index}
-use Rattle.mc_command.specs.Plain.{Plain, flushed}
+use Rattle.mc_protocol.specs.Plain.{Plain, flushed}
 use Rattle.mc_shelf.specs.States.{ShelfContent, ShelfState, DeskState}
 use Rattle.mc_shelf.specs.Numbers.{AreHashes, keys_with}
 use Rattle.mc_shelf.specs.Parts.{ArePartsOf}

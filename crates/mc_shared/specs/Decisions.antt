@@ -1,10 +1,10 @@
 -- What a decision says.
 use Rattle.std.specs.Prelude.{ℕ, ◌-◌, List, [], ◌∷◌, replicate, slice_index}
 use Rattle.std.specs.FinMap.{len}
-use Rattle.mc_command.specs.declared.step.KeyStep.TheVariants.{Flush}
-use Rattle.mc_command.specs.declared.reply.Reply.TheVariants.{Flushed as AllFlushed}
+use Rattle.mc_protocol.specs.declared.step.KeyStep.TheVariants.{Flush}
+use Rattle.mc_protocol.specs.declared.reply.Reply.TheVariants.{Flushed as AllFlushed}
 use Rattle.mc_shelf.specs.Numbers.{keys_with}
-use Rattle.mc_command.specs.Plain.{hit_of}
+use Rattle.mc_protocol.specs.Plain.{hit_of}
 use Rattle.mc_shelf.specs.Plans.{finished, stood, told_next}
 use Rattle.mc_shared.specs.Bays.{Content, OfShelf}
 use Rattle.mc_shared.specs.History.{Beginning, Operation, Stepped, Purged as PurgedShelf}

@@ -1,9 +1,9 @@
 -- What was decided, one entry after another, and what a list of entries makes of a state.
 use Rattle.std.specs.Prelude.{◌≡◌, ℕ, ◌==◌, List, [], ◌∷◌}
-use Rattle.mc_command.specs.declared.step.KeyStep.{KeyStep}
-use Rattle.mc_command.specs.declared.reply.Reply.{Reply}
-use Rattle.mc_command.specs.Plain.{Plain, Outcome, Answered, Spent, plain}
-use Rattle.mc_command.specs.Purge.{purged}
+use Rattle.mc_protocol.specs.declared.step.KeyStep.{KeyStep}
+use Rattle.mc_protocol.specs.declared.reply.Reply.{Reply}
+use Rattle.mc_protocol.specs.Plain.{Plain, Outcome, Answered, Spent, plain}
+use Rattle.mc_protocol.specs.Purge.{purged}
 use Rattle.mc_shelf.specs.Parts.{shelf_of}
 use Rattle.mc_shelf.specs.Stores.{StoreState}
 

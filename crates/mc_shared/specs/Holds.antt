@@ -1,9 +1,9 @@
 -- What is held for a caller: a shelf, or a shelf and the desk.
 use Rattle.std.specs.Prelude.{◌≡◌, ℕ, ◌<◌, ◌≤◌, ◌⊎◌, List, length, true, refl}
 use Rattle.std.specs.Coded.{Coded, code_by, coded×, coded_ℕ}
-use Rattle.mc_command.specs.declared.step.KeyStep.{KeyStep}
-use Rattle.mc_command.specs.Commands.{key_of}
-use Rattle.mc_command.specs.Laws.{IsOnKey}
+use Rattle.mc_protocol.specs.declared.step.KeyStep.{KeyStep}
+use Rattle.mc_protocol.specs.Commands.{key_of}
+use Rattle.mc_protocol.specs.Laws.{IsOnKey}
 use Rattle.mc_shelf.specs.States.{ShelfState, ShelfContent, DeskState, coded_shelf, coded_desk}
 use Rattle.mc_shelf.specs.Plans.{writes, next_of}
 use Rattle.mc_shared.specs.Bays.{OfShelf, OfDesk}
@@ -15,7 +15,7 @@ use Rattle.mc_shared.specs.Store.{IsPlanned, Refuses, holds_one, holds_two}
 use Rattle.mc_shared.specs.Seats.{Sitter}
 use Rattle.mc_shared.specs.Shown.{SharedState, CallerState, coded_shared}
 use Rattle.mc_shared.specs.declared.patience.Busy.{Busy}
-use Rattle.mc_command.specs.declared.step.StepFault.TheVariants.{NoMemory as OutOfMemory, NumbersSpent as OutOfNumbers}
+use Rattle.mc_protocol.specs.declared.step.StepFault.TheVariants.{NoMemory as OutOfMemory, NumbersSpent as OutOfNumbers}
 use Rattle.mc_shared.specs.declared.fault.TryFault.{TryFault}
 use Rattle.mc_shared.specs.declared.fault.TryFault.TheVariants.{Busy as IsBusy, NoMemory, NumbersSpent}
 use Rattle.mc_shared.specs.declared.ask.Ask.{Ask}

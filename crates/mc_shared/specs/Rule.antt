@@ -3,7 +3,7 @@ use Rattle.std.specs.Prelude.{◌≡◌, ℕ, ◌+◌, ◌*◌, ◌/◌, ◌%◌
 use mathlib.Core.Option.{some}
 use lib.ListN.{get_elem?}
 use Rattle.atomic_table.specs.Table.{State}
-use Rattle.mc_command.specs.Plain.{Plain}
+use Rattle.mc_protocol.specs.Plain.{Plain}
 use Rattle.mc_shelf.specs.Parts.{IsShelfOf, IsDeskOf}
 use Rattle.mc_shelf.specs.Stores.{StoreState}
 use Rattle.mc_shared.specs.Sums.{total}

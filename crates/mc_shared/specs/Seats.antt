@@ -2,9 +2,9 @@
 use Rattle.std.specs.Prelude.{◌≡◌, ℕ, ◌+◌, ◌*◌, ◌/◌, ◌≤◌, List, length, Result, IfOk, IfErr, OnErr}
 use Rattle.atomic_table.specs.declared.shared.Seat.{Seat}
 use Rattle.atomic_table.specs.Seated.{TableId}
-use Rattle.mc_command.specs.declared.step.KeyStep.{KeyStep}
-use Rattle.mc_command.specs.declared.reply.Reply.{Reply}
-use Rattle.mc_command.specs.Commands.{key_of}
+use Rattle.mc_protocol.specs.declared.step.KeyStep.{KeyStep}
+use Rattle.mc_protocol.specs.declared.reply.Reply.{Reply}
+use Rattle.mc_protocol.specs.Commands.{key_of}
 use Rattle.mc_shelf.specs.Stores.{StoreState}
 use Rattle.mc_shared.specs.Bays.{Content, place}
 use Rattle.mc_shared.specs.History.{Beginning, Operation}

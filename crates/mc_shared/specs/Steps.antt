@@ -1,8 +1,8 @@
 -- What each atomic step tells.
 use Rattle.std.specs.Prelude.{◌≡◌, ◌≢◌, ℕ, ◌+◌, ◌%◌, ◌^◌, ◌<◌, ◌≤◌, List, [], ◌∷◌, drop, Option, Some, None}
-use Rattle.mc_command.specs.Plain.{Plain, opening}
-use Rattle.mc_command.specs.declared.step.KeyStep.TheVariants.{Read}
-use Rattle.mc_command.specs.declared.reply.Reply.TheVariants.{Miss}
+use Rattle.mc_protocol.specs.Plain.{Plain, opening}
+use Rattle.mc_protocol.specs.declared.step.KeyStep.TheVariants.{Read}
+use Rattle.mc_protocol.specs.declared.reply.Reply.TheVariants.{Miss}
 use Rattle.mc_shelf.specs.Numbers.{keys_with}
 use Rattle.atomic_table.specs.Table.{Me, Step, rest}
 use Rattle.mc_shared.specs.declared.bay.Bay.{Bay}

@@ -1,13 +1,13 @@
 -- What the calls of the shared store promise.
 use Rattle.std.specs.Prelude.{◌≡◌, ℕ, ◌≤◌, ◌⊎◌, Bool, true, List, [], ◌∷◌, ◌++◌, Some, None}
-use Rattle.mc_command.specs.declared.step.KeyStep.{KeyStep}
-use Rattle.mc_command.specs.declared.reply.Reply.{Reply}
-use Rattle.mc_command.specs.declared.step.StepFault.{StepFault}
-use Rattle.mc_command.specs.declared.step.StepFault.TheVariants.{NoMemory as OutOfMemory, NumbersSpent as OutOfNumbers}
-use Rattle.mc_command.specs.Commands.{key_of}
-use Rattle.mc_command.specs.Laws.{IsOnKey}
+use Rattle.mc_protocol.specs.declared.step.KeyStep.{KeyStep}
+use Rattle.mc_protocol.specs.declared.reply.Reply.{Reply}
+use Rattle.mc_protocol.specs.declared.step.StepFault.{StepFault}
+use Rattle.mc_protocol.specs.declared.step.StepFault.TheVariants.{NoMemory as OutOfMemory, NumbersSpent as OutOfNumbers}
+use Rattle.mc_protocol.specs.Commands.{key_of}
+use Rattle.mc_protocol.specs.Laws.{IsOnKey}
 use Rattle.std.specs.FinMap.{get}
-use Rattle.mc_command.specs.Plain.{Plain, Outcome, Spent, MayFail, plain}
+use Rattle.mc_protocol.specs.Plain.{Plain, Outcome, Spent, MayFail, plain}
 use Rattle.mc_shelf.specs.Numbers.{number_of}
 use Rattle.mc_shelf.specs.States.{ShelfState, DeskState}
 use Rattle.mc_shelf.specs.Plans.{IsPlan, HasRoom}

@@ -1,12 +1,12 @@
 -- Steps whose replies are told.
 use Rattle.std.specs.Prelude.{◌≡◌, ℕ, Result, Err, OnOk, OnErr, Some, None, true}
 use Rattle.std.specs.FinMap.{get}
-use Rattle.mc_command.specs.declared.step.KeyStep.{KeyStep}
-use Rattle.mc_command.specs.declared.reply.Reply.{Reply}
-use Rattle.mc_command.specs.declared.reply.Reply.TheVariants.{Miss}
-use Rattle.mc_command.specs.Commands.{key_of}
-use Rattle.mc_command.specs.Plain.{Entry, hit_of}
-use Rattle.mc_command.specs.Laws.{IsOnKey}
+use Rattle.mc_protocol.specs.declared.step.KeyStep.{KeyStep}
+use Rattle.mc_protocol.specs.declared.reply.Reply.{Reply}
+use Rattle.mc_protocol.specs.declared.reply.Reply.TheVariants.{Miss}
+use Rattle.mc_protocol.specs.Commands.{key_of}
+use Rattle.mc_protocol.specs.Plain.{Entry, hit_of}
+use Rattle.mc_protocol.specs.Laws.{IsOnKey}
 use Rattle.mc_shelf.specs.States.{ShelfContent}
 use Rattle.mc_shelf.specs.Plans.{is_gone, stood}
 use Rattle.mc_shared.specs.History.{Beginning}
@@ -14,8 +14,8 @@ use Rattle.mc_shared.specs.Past.{Past}
 use Rattle.mc_shared.specs.Steps.{Agrees}
 use Rattle.mc_shared.specs.Store.{HasCalled, IsSpentAfter, MayFailAfter}
 use Rattle.mc_shared.specs.Shown.{CallerState}
-use Rattle.mc_command.specs.declared.answer.Unanswered.{Unanswered}
-use Rattle.mc_command.specs.declared.answer.Unanswered.TheVariants.{NoMemory, NumbersSpent, Untold}
+use Rattle.mc_protocol.specs.declared.answer.Unanswered.{Unanswered}
+use Rattle.mc_protocol.specs.declared.answer.Unanswered.TheVariants.{NoMemory, NumbersSpent, Untold}
 use Rattle.mc_shared.specs.declared.telling.Sought.{Sought}
 use Rattle.mc_shared.specs.declared.telling.Sought.TheVariants.{Told, Nothing, Deferred}
 

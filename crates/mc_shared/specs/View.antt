@@ -6,10 +6,10 @@ use Rattle.std.specs.Coded.{Coded, code_by, coded×, coded⊎, coded_ℕ, coded_
 use Rattle.std.proofs.Common.{ap}
 use mir.Syntax.{static}
 use base.Stored.{Gv, gnil, gnum, gcons}
-use Rattle.mc_command.specs.declared.step.KeyStep.{KeyStep}
-use Rattle.mc_command.specs.declared.reply.Reply.{Reply}
-use Rattle.mc_command.specs.contracts.step.KeyStep.{the_row as step_row}
-use Rattle.mc_command.specs.contracts.reply.Reply.{the_row as reply_row}
+use Rattle.mc_protocol.specs.declared.step.KeyStep.{KeyStep}
+use Rattle.mc_protocol.specs.declared.reply.Reply.{Reply}
+use Rattle.mc_protocol.specs.contracts.step.KeyStep.{the_row as step_row}
+use Rattle.mc_protocol.specs.contracts.reply.Reply.{the_row as reply_row}
 use Rattle.mc_shared.specs.History.{Name, HistoryEntry, Operation, Stepped, Purged}
 use Rattle.mc_shared.specs.Past.{Past, spent, start, call, made, both}
 use Rattle.mc_shared.specs.Bays.{Content, content_code}

@@ -1,5 +1,5 @@
 //! A step on a key, on its way through a shelf and the desk.
-use mc_command::{KeyStep, StepFault};
+use mc_protocol::{KeyStep, StepFault};
 use mc_shelf::Plan;
 use mc_time::Moment;
 

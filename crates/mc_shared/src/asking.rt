@@ -1,6 +1,6 @@
 //! A caller that takes steps as a session asks for them.
 ghost use Rattle.std.specs.Prelude.{◌≡◌, ◌<◌, ◌≤◌, length, Err, IfOk, IfErr, OnErr};
-ghost use Rattle.mc_command.specs.Commands.{key_of};
+ghost use Rattle.mc_protocol.specs.Commands.{key_of};
 ghost use Rattle.mc_shared.specs.Asking.{AsksOnce, AsksStep, AsksInVain};
 ghost use Rattle.mc_shared.specs.History.{start_of, shelf_in, Purged};
 ghost use Rattle.mc_shared.specs.Past.{call};
@@ -9,7 +9,7 @@ ghost use Rattle.mc_shared.specs.Steps.{entry_of, Agrees};
 use crate::patience::{Gate, Waiting};
 use crate::steps::reload;
 use crate::store::{Caller, Shared};
-use mc_command::{Answer, KeyStep, Reply, StepFault, Steps, Unanswered};
+use mc_protocol::{Answer, KeyStep, Reply, StepFault, Steps, Unanswered};
 use mc_hop::KeyHash;
 use mc_time::Moment;
 use std::alloc::Global;

@@ -1,7 +1,7 @@
 //! How many keys of each number shelves hold, and the presence words of many numbers at once.
 ghost use Rattle.std.specs.Prelude.{◌≡◌, ◌-◌, ◌%◌, ◌<◌, ◌++◌, ℕ, List, [], length, replicate};
 ghost use Rattle.std.specs.Prelude.{slice_index};
-ghost use Rattle.mc_command.specs.Plain.{Plain, flushed};
+ghost use Rattle.mc_protocol.specs.Plain.{Plain, flushed};
 ghost use Rattle.mc_shared.specs.Counted.{AreNone, AreCountsOf, AreAllOf, AreCountsOfAll};
 ghost use Rattle.mc_shared.specs.Counted.{AreKeyCounts, AreKeyCountsAt, AreCountsLeft};
 ghost use Rattle.mc_shared.specs.History.{start_of};

@@ -1,6 +1,6 @@
 //! What is decided as a bay goes back.
 use crate::boxed::Boxed;
-use mc_command::{KeyStep, Reply};
+use mc_protocol::{KeyStep, Reply};
 use mc_shelf::{Begun, Plan, Shelf};
 use mc_time::Moment;
 use std::snapshot::Snapshot;

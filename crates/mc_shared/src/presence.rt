@@ -1,7 +1,7 @@
 //! A miss is answered by one load, and no shelf is held.
 ghost use Rattle.std.specs.Prelude.{◌≡◌, true, false};
-ghost use Rattle.mc_command.specs.declared.step.KeyStep.{KeyStep as Step};
-ghost use Rattle.mc_command.specs.declared.reply.Reply.{Reply as Told};
+ghost use Rattle.mc_protocol.specs.declared.step.KeyStep.{KeyStep as Step};
+ghost use Rattle.mc_protocol.specs.declared.reply.Reply.{Reply as Told};
 ghost use Rattle.mc_shared.specs.History.{start_of};
 ghost use Rattle.mc_shared.specs.Store.{HasCalled, IsShown};
 

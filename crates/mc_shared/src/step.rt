@@ -1,10 +1,10 @@
 //! A step on a key: at its shelf, and at the desk if that is needed.
 ghost use Rattle.std.specs.Prelude.{◌≡◌, ◌≤◌, length, is_some, true, false, Err, IfOk, IfErr, IfSome, OnErr};
 ghost use Rattle.std.specs.FinMap.{get};
-ghost use Rattle.mc_command.specs.Commands.{key_of};
-ghost use Rattle.mc_command.specs.Laws.{IsOnKey};
-ghost use Rattle.mc_command.specs.declared.step.KeyStep.{KeyStep as Step};
-ghost use Rattle.mc_command.specs.declared.reply.Reply.{Reply as Told};
+ghost use Rattle.mc_protocol.specs.Commands.{key_of};
+ghost use Rattle.mc_protocol.specs.Laws.{IsOnKey};
+ghost use Rattle.mc_protocol.specs.declared.step.KeyStep.{KeyStep as Step};
+ghost use Rattle.mc_protocol.specs.declared.reply.Reply.{Reply as Told};
 ghost use Rattle.mc_shelf.specs.States.{IsHash, CanStandAt};
 ghost use Rattle.mc_shelf.specs.Plans.{CanFinish, IsPlan, IsSpent, StepTaken, MayWantMemory, finished, told_next, wants_desk};
 ghost use Rattle.mc_shelf.specs.Hits.{is_read};
@@ -24,7 +24,7 @@ use crate::patience::{Busy, Gate, NoGate, Once, Patience, Waiting};
 use crate::steps::{decide, give, lower_all, raise_for};
 use crate::store::{Caller, Shared};
 use core::mem::replace_with;
-use mc_command::{KeyStep, Reply, StepFault};
+use mc_protocol::{KeyStep, Reply, StepFault};
 use mc_hop::KeyHash;
 use mc_shelf::{Begun, Brought, Desk, Plan, Shelf, Wanted};
 use mc_slab::{Chunks, Pages};

@@ -1,7 +1,7 @@
 //! A bay is taken and given back, and a presence word is changed and asked.
 ghost use Rattle.std.specs.Prelude.{◌≡◌, ◌≢◌, ◌*◌, ◌/◌, ◌%◌, ◌<◌, ◌≤◌, [], ◌∷◌, ℕ, List, ◌++◌, true, IfOk, IfErr, drop, replicate};
-ghost use Rattle.mc_command.specs.declared.step.KeyStep.{KeyStep as Step};
-ghost use Rattle.mc_command.specs.declared.reply.Reply.{Reply as Told};
+ghost use Rattle.mc_protocol.specs.declared.step.KeyStep.{KeyStep as Step};
+ghost use Rattle.mc_protocol.specs.declared.reply.Reply.{Reply as Told};
 ghost use Rattle.mc_shelf.specs.Numbers.{number_of};
 ghost use Rattle.mc_shared.specs.History.{start_of, Stepped};
 ghost use Rattle.mc_shared.specs.Bays.{content_of, place};

@@ -1,7 +1,7 @@
 //! The store for many threads.
 ghost use Rattle.std.specs.Prelude.{◌≡◌, ◌*◌, ◌/◌, ◌<◌, ℕ, List, [], ◌++◌};
 ghost use Rattle.std.specs.Prelude.{map, replicate, OnOk, Some, IfOk};
-ghost use Rattle.mc_command.specs.Plain.{Plain, opening};
+ghost use Rattle.mc_protocol.specs.Plain.{Plain, opening};
 ghost use Rattle.mc_shelf.specs.States.{ShelfState};
 ghost use Rattle.mc_shared.specs.Counted.{AreAllOf};
 ghost use Rattle.mc_shared.specs.History.{Beginning, start_of, shelf_in};

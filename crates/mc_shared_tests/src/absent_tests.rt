@@ -2,7 +2,7 @@
 
 use crate::sole::{Act, Row, Sole};
 use crate::stores::{MANY, ONE, SOME};
-use mc_command::Verb;
+use mc_protocol::Verb;
 use mc_hop::{Constant, Fnv};
 use mc_rows::{Ask, filled_block};
 use mc_shelf::Settings;

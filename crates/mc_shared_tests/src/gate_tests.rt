@@ -2,7 +2,7 @@
 
 use crate::stores::{SOME, shared_store};
 use crate::trial::Trial;
-use mc_command::{Answer, Bytes, Reply, Steps, Verb};
+use mc_protocol::{Answer, Bytes, Reply, Steps, Verb};
 use mc_hop::Fnv;
 use mc_rows::{Ask, step_of};
 use mc_shared::{Asking, Gate};

@@ -1,7 +1,7 @@
 //! Joins to items of several pages, which are copied when the desk is given back.
 
 use crate::trial::Trial;
-use mc_command::Verb;
+use mc_protocol::Verb;
 use mc_rows::{Ask, Row, Want, filled_block, first_unlike, set};
 use mc_shelf::Settings;
 use std::test::*;

@@ -2,7 +2,7 @@
 //! refused it asks again.
 
 use crate::trial::Trial;
-use mc_command::Verb;
+use mc_protocol::Verb;
 use mc_rows::{Ask, ask_step, step_of, told_of};
 use mc_time::Moment;
 use std::alloc::Global;

@@ -1,7 +1,7 @@
 //! Steps of one caller, up to the last unique number. If an allocation is refused it asks again.
 
 use crate::trial::Trial;
-use mc_command::Verb;
+use mc_protocol::Verb;
 use mc_rows::{Ask, Row, Want, ask_step, first_unlike, is_wanted, set, step_of, told_of};
 use mc_time::Moment;
 use std::test::*;

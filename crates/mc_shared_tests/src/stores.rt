@@ -1,9 +1,9 @@
 //! Stores as tests set them up, and steps and closings that are asked again if memory is refused.
 
 ghost use Rattle.std.specs.Prelude.{◌≡◌, ◌≤◌, IfOk, length};
-ghost use Rattle.mc_command.specs.Commands.{key_of};
+ghost use Rattle.mc_protocol.specs.Commands.{key_of};
 
-use mc_command::{KeyStep, Reply, StepFault, Verb};
+use mc_protocol::{KeyStep, Reply, StepFault, Verb};
 use mc_hop::{Fnv, KeyHash};
 use mc_rows::{Ask, ask_step, step_of};
 use mc_shared::{Caller, CloseFault, Shared};

@@ -1,7 +1,7 @@
 //! Replies that are told, as one caller hears them. If an allocation is refused it asks again.
 
 use crate::stores::{LARGE, SOME, shared_store};
-use mc_command::{Answer, Block, Bytes, KeyStep, Reply, StepFault, Steps, Unanswered, Verb};
+use mc_protocol::{Answer, Block, Bytes, KeyStep, Reply, StepFault, Steps, Unanswered, Verb};
 use mc_hop::Fnv;
 use mc_rows::{Ask, Row, Want, filled_block, first_unlike, set, step_of};
 use mc_shared::{Asking, NoGate};

@@ -1,21 +1,21 @@
 -- The names that the proofs of this crate share: those of the crates below it, and of its own definitions.
-pub use Rattle.mc_command.proofs.CountLemmas.{count-empty, count-insert, count-parted, count-remove}
-pub use Rattle.mc_command.proofs.LawLemmas.{on_key, other_keys}
-pub use Rattle.mc_command.specs.Commands.{key_of}
-pub use Rattle.mc_command.specs.Laws.{IsOnKey, of_class}
-pub use Rattle.mc_command.specs.Plain.{alive, Answered, block_need, block_of, cas_row, changed, charge, chunks_in, CopiesBlock, count_of, count_row, Entry}
-pub use Rattle.mc_command.specs.Plain.{expiring, flushed, has_room, hit_of, item_need, Items, keeps_chunk, living, MayFail, number_of, number_row, Outcome, plain}
-pub use Rattle.mc_command.specs.Plain.{Plain, read_row, refusal_reply, row_of, Spent, starting, store_row, with_chunk, without_dead, write_reply, written}
-pub use Rattle.mc_command.specs.Plain.{written_block, wrote}
-pub use Rattle.mc_command.specs.declared.reply.Reply.{Reply}
-pub use Rattle.mc_command.specs.declared.reply.Reply.TheVariants.{Deleted, Flushed, NoChunk, TooLarge, Touched}
-pub use Rattle.mc_command.specs.declared.row.Body.{Body}
-pub use Rattle.mc_command.specs.declared.row.Body.TheVariants.{Appended, Counted, Given, Prepended}
-pub use Rattle.mc_command.specs.declared.row.Draft.{Draft}
-pub use Rattle.mc_command.specs.declared.row.Row.{Row}
-pub use Rattle.mc_command.specs.declared.row.Row.TheVariants.{Deletes, Reads, Refuses, Touches, Writes}
-pub use Rattle.mc_command.specs.declared.step.KeyStep.{KeyStep}
-pub use Rattle.mc_command.specs.declared.step.StepFault.{StepFault}
+pub use Rattle.mc_protocol.proofs.CountLemmas.{count-empty, count-insert, count-parted, count-remove}
+pub use Rattle.mc_protocol.proofs.LawLemmas.{on_key, other_keys}
+pub use Rattle.mc_protocol.specs.Commands.{key_of}
+pub use Rattle.mc_protocol.specs.Laws.{IsOnKey, of_class}
+pub use Rattle.mc_protocol.specs.Plain.{alive, Answered, block_need, block_of, cas_row, changed, charge, chunks_in, CopiesBlock, count_of, count_row, Entry}
+pub use Rattle.mc_protocol.specs.Plain.{expiring, flushed, has_room, hit_of, item_need, Items, keeps_chunk, living, MayFail, number_of, number_row, Outcome, plain}
+pub use Rattle.mc_protocol.specs.Plain.{Plain, read_row, refusal_reply, row_of, Spent, starting, store_row, with_chunk, without_dead, write_reply, written}
+pub use Rattle.mc_protocol.specs.Plain.{written_block, wrote}
+pub use Rattle.mc_protocol.specs.declared.reply.Reply.{Reply}
+pub use Rattle.mc_protocol.specs.declared.reply.Reply.TheVariants.{Deleted, Flushed, NoChunk, TooLarge, Touched}
+pub use Rattle.mc_protocol.specs.declared.row.Body.{Body}
+pub use Rattle.mc_protocol.specs.declared.row.Body.TheVariants.{Appended, Counted, Given, Prepended}
+pub use Rattle.mc_protocol.specs.declared.row.Draft.{Draft}
+pub use Rattle.mc_protocol.specs.declared.row.Row.{Row}
+pub use Rattle.mc_protocol.specs.declared.row.Row.TheVariants.{Deletes, Reads, Refuses, Touches, Writes}
+pub use Rattle.mc_protocol.specs.declared.step.KeyStep.{KeyStep}
+pub use Rattle.mc_protocol.specs.declared.step.StepFault.{StepFault}
 pub use Rattle.mc_grow.specs.Indexes.{cells, count, count_from, entry_at, IndexState, is_due, IsFirstFrom, IsFoundIn, IsNew, IsNext, IsPlaceOf, IsUpdated, KeepsLower}
 pub use Rattle.mc_grow.specs.Indexes.{lags, left, StandsAs}
 pub use Rattle.mc_grow.specs.declared.index.Place.{Place}

@@ -7,9 +7,9 @@ use Rattle.mc_shelf.proofs.Common.{Reads, refusal_reply, Refuses, Reply, Row, Sh
 use Rattle.mc_shelf.proofs.Common.{with_chunk, write_reply, Writes, written}
 use Rattle.mc_slab.specs.declared.slab.TakeFault.{TakeFault}
 use Rattle.mc_slab.specs.declared.slab.TakeFault.TheVariants.{NoMemory}
-use Rattle.mc_command.specs.declared.row.Refusal.{Refusal}
-use Rattle.mc_command.specs.declared.row.Refusal.TheVariants as refusal
-use Rattle.mc_command.specs.Plain.{has_room as plain_has_room}
+use Rattle.mc_protocol.specs.declared.row.Refusal.{Refusal}
+use Rattle.mc_protocol.specs.declared.row.Refusal.TheVariants as refusal
+use Rattle.mc_protocol.specs.Plain.{has_room as plain_has_room}
 use Rattle.mc_shelf.specs.declared.plan.Next.{Next}
 use Rattle.mc_shelf.specs.declared.plan.Next.TheVariants.{Answer, Expire, Discard, Write}
 use Rattle.mc_shelf.specs.Plans.{NeedsDesk, WantsDesk, answered, charge_of, is_gone, next_by, next_of, row_at, stood, wants_desk}

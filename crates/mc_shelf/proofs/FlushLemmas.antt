@@ -7,7 +7,7 @@ use Rattle.mc_shelf.proofs.Common.{living, moment_named, or_from, or_left, or_ri
 use Rattle.mc_shelf.proofs.Common.{take-append_seam}
 use Rattle.std.proofs.Math.Bool.{or-false}
 use Rattle.std.specs.FinMap as maps
-use Rattle.mc_command.specs.Purge.{purged}
+use Rattle.mc_protocol.specs.Purge.{purged}
 use Rattle.mc_shelf.specs.Sweeps.{AreOut, GivesFor, IsPurged}
 use Rattle.mc_shelf.specs.Deaths.{NoneIsDead}
 use Rattle.mc_shelf.specs.Parts.{shelf_of, IsShelfOf, IsDeskOf, ArePartsOf, GoesTo}

@@ -1,7 +1,7 @@
 -- A read of a key that has no dead item is the plain machine's.
 use Rattle.std.proofs.Common.{◌≡◌, ℕ, true, false, Option, Some, None, is_some, is_none, refl, sym, ap, subst, ◌∙◌, true≢false}
 use Rattle.mc_shelf.proofs.Common.{alive, cond_both, Entry, Expiry, get, hit_of, is_dead, IsOnKey, key_of, KeyStep, Place, read_row, row_of, ShelfContent}
-use Rattle.mc_command.specs.declared.step.KeyStep.TheVariants.{Read, ReadTouch}
+use Rattle.mc_protocol.specs.declared.step.KeyStep.TheVariants.{Read, ReadTouch}
 use Rattle.mc_shelf.specs.declared.plan.Next.{Next}
 use Rattle.mc_shelf.specs.declared.plan.Next.TheVariants.{Answer, Expire}
 use Rattle.mc_shelf.specs.Plans.{IsKnown, IsPut, PlanIsSettled, is_gone, next_by, next_of, stood}

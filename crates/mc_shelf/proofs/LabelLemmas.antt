@@ -5,7 +5,7 @@ use Rattle.mc_shelf.proofs.Common.{get-from_entries, is_sorted, EntriesAreKeyed,
 use Rattle.std.specs.Ordering.{eq_by_cmp}
 use Rattle.std.specs.Cmp.{tied_itself}
 use Rattle.std.specs.FinMap.Entries.{below_all}
-use Rattle.mc_command.proofs.ItemLemmas.{is_equal}
+use Rattle.mc_protocol.proofs.ItemLemmas.{is_equal}
 use Rattle.mc_shelf.proofs.KeyLemmas.{order, same_key}
 
 abbrev pub same : List ℕ → List ℕ → Bool

@@ -6,7 +6,7 @@ use Rattle.mc_shelf.proofs.Common.{get-from_entries, StandsAt, IsHash, IsOnKey, 
 use Rattle.mc_shelf.proofs.Common.{range_with_len, Reply, retain_keys, same_Some, ShelfContent, ShelfState}
 use Rattle.std.proofs.lemmas.List.FromFn.{get_or-map-range_with_len}
 use Rattle.std.specs.Ordering.{eq_by_cmp}
-use Rattle.mc_command.proofs.PageLemmas.{limit_stays}
+use Rattle.mc_protocol.proofs.PageLemmas.{limit_stays}
 use Rattle.mc_shelf.specs.Plans.{StepTaken, PlanIsSettled}
 use Rattle.mc_shelf.specs.Parts.{shelf_of, IsShelfOf, IsDeskOf, ArePartsOf, GoesTo, GoesByStep, GoesWithoutDesk}
 use Rattle.mc_shelf.specs.Unions.{all_entries, all_items, cut_of, plain_of}

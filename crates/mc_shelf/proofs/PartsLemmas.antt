@@ -5,8 +5,8 @@ use Rattle.mc_shelf.proofs.Common.{charge, concat, drop-nil, drop_more, Entry, g
 use Rattle.mc_shelf.proofs.Common.{parts_of, pieces, same_Some, size_of, size_of-last, slice_get_within}
 use Rattle.std.proofs.lemmas.List.Folds.{list_all-append}
 use Rattle.mc_shelf.proofs.NeedLemmas.{by_charge}
-use Rattle.mc_command.specs.Words.{is_space}
-use Rattle.mc_command.proofs.NumberLemmas.{number_of-joined}
+use Rattle.mc_protocol.specs.Words.{is_space}
+use Rattle.mc_protocol.proofs.NumberLemmas.{number_of-joined}
 
 -- each part is nothing but spaces
 abbrev pub are_blank : List (List ℕ) → Bool

@@ -5,11 +5,11 @@ use Rattle.mc_shelf.proofs.Common.{alive, Answered, Appended, block_of, Body, ca
 use Rattle.mc_shelf.proofs.Common.{Draft, Entry, expiring, Expiry, get, Given, hit_of, insert, is_dead, StandsAt, IsOnKey, keeps_chunk, key_of, KeyStep, number_of}
 use Rattle.mc_shelf.proofs.Common.{number_row, Outcome, Plain, Prepended, Reads, refusal_reply, Refuses, remove, Reply, Row, row_of, ShelfContent, store_row}
 use Rattle.mc_shelf.proofs.Common.{TooLarge, Touched, Touches, write_reply, Writes, written_block, wrote}
-use Rattle.mc_command.specs.declared.step.Verb.{Verb}
-use Rattle.mc_command.specs.declared.step.Verb.TheVariants.{Set, Add, Replace, Append, Prepend}
-use Rattle.mc_command.specs.declared.step.KeyStep.TheVariants.{Store, Cas, Count, Flush}
-use Rattle.mc_command.specs.declared.row.Refusal.TheVariants as refusal
-use Rattle.mc_command.specs.Plain.{given}
+use Rattle.mc_protocol.specs.declared.step.Verb.{Verb}
+use Rattle.mc_protocol.specs.declared.step.Verb.TheVariants.{Set, Add, Replace, Append, Prepend}
+use Rattle.mc_protocol.specs.declared.step.KeyStep.TheVariants.{Store, Cas, Count, Flush}
+use Rattle.mc_protocol.specs.declared.row.Refusal.TheVariants as refusal
+use Rattle.mc_protocol.specs.Plain.{given}
 use Rattle.mc_shelf.specs.declared.plan.Next.{Next}
 use Rattle.mc_shelf.specs.declared.plan.Next.TheVariants.{Answer, Expire, Discard, Write}
 use Rattle.mc_shelf.specs.Plans.{answered, block_in, charge_of, is_gone, made_block, next_by, next_of, row_at, stood}

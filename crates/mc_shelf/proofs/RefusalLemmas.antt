@@ -5,7 +5,7 @@ use Rattle.mc_shelf.proofs.Common.{keeps_chunk, key_of, KeyStep, MayFail, need_f
 use Rattle.mc_slab.specs.Slabs as slabs
 use Rattle.mc_shelf.specs.declared.plan.Next.{Next}
 use Rattle.mc_shelf.specs.declared.plan.Next.TheVariants.{Write}
-use Rattle.mc_command.specs.declared.step.StepFault.TheVariants.{NoMemory, NumbersSpent}
+use Rattle.mc_protocol.specs.declared.step.StepFault.TheVariants.{NoMemory, NumbersSpent}
 use Rattle.mc_shelf.specs.Plans.{CanWrite, IsSpent, StepTaken, MayWantMemory, NeedsPages, back_at, next_of, stood, writes}
 use Rattle.mc_shelf.proofs.StandLemmas.{wrote_kept, wrote_taken}
 use Rattle.mc_shelf.proofs.PlanLemmas.{block_at, found_in}

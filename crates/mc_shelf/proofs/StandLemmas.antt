@@ -8,7 +8,7 @@ use Rattle.mc_shelf.proofs.Common.{item_need, Items, key_of, KeyStep, made_ready
 use Rattle.mc_shelf.proofs.Common.{row_of, ShelfContent, SlabState, Spent, taken, TooLarge, with_chunk, without_dead, written, wrote}
 use Rattle.mc_slab.specs.Slabs as slabs
 use Rattle.std.proofs.Math.Nat.{le-mul_of_pos_right}
-use Rattle.mc_command.specs.Plain as machine
+use Rattle.mc_protocol.specs.Plain as machine
 use Rattle.mc_shelf.specs.Plans.{IsDropped, IsPut, row_at, stood}
 use Rattle.mc_shelf.proofs.KeyLemmas.{get_gone, get_put}
 

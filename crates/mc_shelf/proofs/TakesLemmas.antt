@@ -7,7 +7,7 @@ use Rattle.mc_shelf.proofs.Common.{IsHash, IsNeed, IsOnKey, IsSlab, item_need, k
 use Rattle.mc_shelf.proofs.Common.{or_right, out_of, Plain, plain, remove, Reply, same_need, same_Some, ShelfContent, SlabState, taken, with_chunk, write_reply}
 use Rattle.mc_shelf.proofs.Common.{written, written_block, wrote}
 use Rattle.mc_slab.specs.Slabs as slabs
-use Rattle.mc_command.specs.Plain as machine
+use Rattle.mc_protocol.specs.Plain as machine
 use Rattle.mc_shelf.specs.declared.plan.Next.{Next}
 use Rattle.mc_shelf.specs.declared.plan.Next.TheVariants.{Answer, Expire, Discard, Write}
 use Rattle.mc_shelf.specs.declared.write.Write.{Write as Writing}

@@ -7,7 +7,7 @@ use Rattle.mc_slab.specs.Classes.{IsClass}
 use Rattle.mc_slab.specs.Needs.{NeedState, IsNeed}
 use Rattle.mc_slab.specs.Chunks.{ChunksState, need_in}
 use Rattle.mc_slab.specs.Slabs.{SlabState, IsSlab, given, out_of, unused}
-use Rattle.mc_command.specs.Plain.{chunks_in, count_of}
+use Rattle.mc_protocol.specs.Plain.{chunks_in, count_of}
 use Rattle.mc_shelf.specs.States.{EntryState, ShelfContent, ShelfState}
 
 -- how many chunks of a class the items of shelves have

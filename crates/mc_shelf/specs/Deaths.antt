@@ -2,7 +2,7 @@
 use Rattle.std.specs.Prelude.{◌≡◌, ℕ, List, Option, Some, true, false}
 use Rattle.std.specs.FinMap.{get}
 use Rattle.mc_time.specs.Death.{is_dead}
-use Rattle.mc_command.specs.Plain.{Items, Entry}
+use Rattle.mc_protocol.specs.Plain.{Items, Entry}
 use Rattle.mc_shelf.specs.declared.soonest.Soonest.{Soonest}
 
 -- the item is dead only if one of that expiry and that moment of a write is, whatever flush there

@@ -3,7 +3,7 @@ use Rattle.std.specs.Prelude.{◌≡◌, ℕ, List, ◌∷◌, map, Some}
 use Rattle.std.specs.Ordering.{nat_cmp}
 use Rattle.std.specs.Cmp.Lexicographic.{slice_cmp}
 use Rattle.std.specs.FinMap.{FinMap, from_entries, get, values}
-use Rattle.mc_command.specs.Plain.{Items}
+use Rattle.mc_protocol.specs.Plain.{Items}
 use Rattle.mc_shelf.specs.States.{EntryState, Hashes, row, hash_row}
 
 -- entries under lists of numbers

@@ -1,7 +1,7 @@
 -- What contracts see of an item that is lent where it lies.
 use Rattle.std.specs.Prelude.{ℕ, List, refl}
 use Rattle.std.specs.Coded.{Coded, code_by, coded×, coded_ℕ, coded_list}
-use Rattle.mc_command.specs.Plain.{Entry, coded_entry}
+use Rattle.mc_protocol.specs.Plain.{Entry, coded_entry}
 
 -- its key, and the item
 pub record HitState : Type 0 where

@@ -1,7 +1,7 @@
 -- The numbers of keys.
 use Rattle.std.specs.Prelude.{◌≡◌, ℕ, ◌+◌, ◌%◌, ◌<◌, ◌==◌, List, Some, length, slice_index}
 use Rattle.std.specs.FinMap.{get, len, retain_keys}
-use Rattle.mc_command.specs.Plain.{Items, Entry}
+use Rattle.mc_protocol.specs.Plain.{Items, Entry}
 use Rattle.mc_shelf.specs.States.{ShelfContent, IsHash}
 
 -- the number of a key: its hash modulo 4096

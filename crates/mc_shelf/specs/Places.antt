@@ -4,8 +4,8 @@ use Rattle.std.specs.FinMap.{get, insert, remove}
 use Rattle.std.specs.Borrow.{Bor}
 use Rattle.mc_grow.specs.Indexes.{IndexState, IsFilled, entry_at, holds, left}
 use Rattle.mc_grow.specs.declared.index.Place.{Place}
-use Rattle.mc_command.specs.Plain.{Items, Entry, item_need}
-use Rattle.mc_command.specs.Rows.{standing_in}
+use Rattle.mc_protocol.specs.Plain.{Items, Entry, item_need}
+use Rattle.mc_protocol.specs.Rows.{standing_in}
 use Rattle.mc_shelf.specs.States.{EntryState, Hashes}
 use Rattle.mc_shelf.specs.KeyMaps.{EntryMap, StandsIn, hash_in, key_in, hashes_in, items_in}
 

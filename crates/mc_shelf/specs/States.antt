@@ -6,7 +6,7 @@ use Rattle.std.specs.Cmp.Lexicographic.{slice_cmp}
 use Rattle.std.specs.FinMap.{FinMap, get, empty, code}
 use Rattle.mc_slab.specs.Slabs.{SlabState, coded_slab, out_of}
 use Rattle.mc_slab.specs.Classes.{IsClass}
-use Rattle.mc_command.specs.Plain.{Items, Entry, coded_entry, Plain, charge, count_of, item_need}
+use Rattle.mc_protocol.specs.Plain.{Items, Entry, coded_entry, Plain, charge, count_of, item_need}
 use Rattle.mc_item.specs.Items as items
 use Rattle.mc_item.specs.Items.{ItemState}
 use Rattle.mc_item.specs.declared.item.Parts.{Parts}

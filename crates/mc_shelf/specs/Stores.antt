@@ -1,10 +1,10 @@
 -- What contracts see of a store.
 use Rattle.std.specs.Prelude.{◌≡◌, ℕ, ◌*◌, ◌/◌, ◌==◌, List, nat_lt, refl, if◌then◌else◌}
 use Rattle.std.specs.Coded.{Coded, code_by, coded×, coded_ℕ, coded_list}
-use Rattle.mc_command.specs.Plain.{Plain, coded_plain, plain, Answered}
-use Rattle.mc_command.specs.Purge.{purged}
-use Rattle.mc_command.specs.declared.step.KeyStep.{KeyStep}
-use Rattle.mc_command.specs.declared.reply.Reply.{Reply}
+use Rattle.mc_protocol.specs.Plain.{Plain, coded_plain, plain, Answered}
+use Rattle.mc_protocol.specs.Purge.{purged}
+use Rattle.mc_protocol.specs.declared.step.KeyStep.{KeyStep}
+use Rattle.mc_protocol.specs.declared.reply.Reply.{Reply}
 use Rattle.mc_shelf.specs.States.{ShelfState, DeskState}
 use Rattle.mc_shelf.specs.Parts.{ArePartsOf, shelf_of}
 use Rattle.mc_shelf.specs.Unions.{plain_of}

@@ -4,7 +4,7 @@ use Rattle.std.specs.FinMap.{get}
 use Rattle.mc_slab.specs.Classes.{IsClass}
 use Rattle.mc_slab.specs.Chunks.{ChunksState, need_in}
 use Rattle.mc_slab.specs.Slabs.{out_of}
-use Rattle.mc_command.specs.Plain.{Items, chunks_in, count_of, living}
+use Rattle.mc_protocol.specs.Plain.{Items, chunks_in, count_of, living}
 use Rattle.mc_shelf.specs.States.{ShelfContent, DeskState}
 use Rattle.mc_shelf.specs.declared.purge.Purging.{Purging}
 use Rattle.mc_shelf.specs.declared.purge.Purging.TheVariants.{Apart, Whole}

@@ -2,7 +2,7 @@
 use Rattle.std.specs.Prelude.{◌≡◌, ℕ, ◌==◌, List, [], ◌∷◌, ◌++◌, map, Option, Some, None, if◌then◌else◌}
 use Rattle.std.specs.FinMap.{entries, from_entries, get}
 use Rattle.mc_time.specs.Death.{moment_named}
-use Rattle.mc_command.specs.Plain.{Items, Entry, Plain, alive}
+use Rattle.mc_protocol.specs.Plain.{Items, Entry, Plain, alive}
 use Rattle.mc_shelf.specs.States.{ShelfContent, ShelfState, DeskState}
 use Rattle.mc_shelf.specs.declared.settings.Settings.{Settings}
 

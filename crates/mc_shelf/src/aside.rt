@@ -2,7 +2,7 @@
 
 ghost use Rattle.std.specs.Prelude.{◌≡◌, ◌+◌, ◌≤◌, ℕ, None, true, IfSome, [], vec_len, vec_capacity};
 ghost use Rattle.std.specs.FinMap.{empty};
-ghost use Rattle.mc_command.specs.Plain.{item_need};
+ghost use Rattle.mc_protocol.specs.Plain.{item_need};
 ghost use Rattle.mc_shelf.specs.Asides.{AreOff, IsOff, count_in};
 ghost use Rattle.mc_shelf.specs.Bare.{IsBare};
 ghost use Rattle.mc_shelf.specs.States.{nothing_held};

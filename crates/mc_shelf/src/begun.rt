@@ -1,7 +1,7 @@
 //! A step in two parts: what the desk is needed for, and the copying of the step's block, which it isn't.
 
 ghost use Rattle.std.specs.Prelude.{◌≡◌, ◌≤◌, length, Some, None};
-ghost use Rattle.mc_command.specs.Commands.{key_of};
+ghost use Rattle.mc_protocol.specs.Commands.{key_of};
 ghost use Rattle.mc_shelf.specs.Counts.{KeepsTable, counts_of};
 ghost use Rattle.mc_shelf.specs.Plans.{
   CanFinish,
@@ -21,7 +21,7 @@ ghost use Rattle.mc_shelf.specs.Plans.{
 use crate::plan::{Next, Plan};
 use crate::shelf::Shelf;
 use crate::write::Write;
-use mc_command::{Draft, KeyStep, Reply};
+use mc_protocol::{Draft, KeyStep, Reply};
 use mc_slab::Chunks;
 use std::mem;
 

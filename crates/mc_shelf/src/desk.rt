@@ -17,13 +17,13 @@ ghost use Rattle.mc_slab.specs.Slabs.{
   untouched,
   unused,
 };
-ghost use Rattle.mc_command.specs.Plain.{Plain};
+ghost use Rattle.mc_protocol.specs.Plain.{Plain};
 ghost use Rattle.mc_shelf.specs.Asides.{none_out};
 ghost use Rattle.mc_shelf.specs.Parts.{ArePartsOf};
 
 use crate::collector::Collector;
 use crate::shelf::Shelf;
-use mc_command::StepFault;
+use mc_protocol::StepFault;
 use mc_slab::{Account, Chunks, Class, Need, Pages};
 use std::alloc::{AllocError, Global};
 use std::marker::Model;

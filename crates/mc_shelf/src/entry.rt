@@ -4,11 +4,11 @@ ghost use Rattle.std.specs.Prelude.{◌≡◌, ◌+◌, ◌<◌, ◌≤◌, ◌+
 ghost use Rattle.std.specs.List.{concat, list_all};
 ghost use Rattle.mc_slab.specs.Needs.{IsNeed, need_for};
 ghost use Rattle.mc_slab.specs.Chunks.{need_in, with_part};
-ghost use Rattle.mc_command.specs.Words.{is_space};
-ghost use Rattle.mc_command.specs.Plain.{charge, item_need, number_of};
+ghost use Rattle.mc_protocol.specs.Words.{is_space};
+ghost use Rattle.mc_protocol.specs.Plain.{charge, item_need, number_of};
 ghost use Rattle.mc_shelf.specs.States.{charge_in, entry_in, entry_with, parts_of};
 
-use mc_command::{Standing, number_of};
+use mc_protocol::{Standing, number_of};
 use mc_hop::Keyed;
 use mc_item::{Head, Item, Parts};
 use mc_slab::{Chunks, Need};

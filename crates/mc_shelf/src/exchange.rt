@@ -9,7 +9,7 @@ ghost use Rattle.std.specs.Prelude.{◌≡◌, ℕ, List, IfOk, OnErr, None, is_
 ghost use Rattle.std.specs.FinMap.{get};
 ghost use Rattle.mc_slab.specs.Chunks.{need_in};
 ghost use Rattle.mc_slab.specs.Needs.{NeedState};
-ghost use Rattle.mc_command.specs.declared.step.KeyStep.{KeyStep as Step};
+ghost use Rattle.mc_protocol.specs.declared.step.KeyStep.{KeyStep as Step};
 ghost use Rattle.mc_shelf.specs.Plans.{
   GivesBack,
   IsKnown,
@@ -25,7 +25,7 @@ use crate::desk::Desk;
 use crate::plan::{Next, Plan};
 use crate::shelf::Shelf;
 use crate::write::{Write, has_need, is_same};
-use mc_command::Body;
+use mc_protocol::Body;
 use mc_slab::{Chunks, Need, Pages, Slab};
 use std::alloc::{AllocError, Global};
 

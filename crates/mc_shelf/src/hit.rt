@@ -3,8 +3,8 @@
 ghost use Rattle.std.specs.Prelude.{◌≡◌, ◌<◌, ◌≤◌, length, slice_get, Some, true, false};
 ghost use Rattle.std.specs.List.{concat};
 ghost use Rattle.std.specs.FinMap.{get};
-ghost use Rattle.mc_command.specs.Commands.{key_of};
-ghost use Rattle.mc_command.specs.Plain.{hit_of, item_need};
+ghost use Rattle.mc_protocol.specs.Commands.{key_of};
+ghost use Rattle.mc_protocol.specs.Plain.{hit_of, item_need};
 ghost use Rattle.mc_shelf.specs.States.{IsHash, parts_of};
 ghost use Rattle.mc_shelf.specs.Plans.{IsKnown, PlanIsSettled, is_gone, stood};
 ghost use Rattle.mc_shelf.specs.Hits.{found_of, is_read, read_expiry};
@@ -12,7 +12,7 @@ ghost use Rattle.mc_shelf.specs.Hits.{found_of, is_read, read_expiry};
 use crate::entry::Entry;
 use crate::index::Place;
 use crate::shelf::Shelf;
-use mc_command::{KeyStep, Standing};
+use mc_protocol::{KeyStep, Standing};
 use mc_time::{Expiry, Moment, expiry_of, is_dead};
 use std::marker::Model;
 

@@ -4,7 +4,7 @@ ghost use Rattle.std.specs.Prelude.{◌≡◌, ℕ, ◌+◌, ◌-◌, ◌^◌, �
 ghost use Rattle.std.specs.Prelude.{Some, None, IfOk, IfSome, OnOk, nat_lt, option_copied, true, false};
 ghost use Rattle.std.specs.FinMap.{empty, get, len};
 ghost use Rattle.mc_slab.specs.Needs.{need_for};
-ghost use Rattle.mc_command.specs.Plain.{charge, item_need};
+ghost use Rattle.mc_protocol.specs.Plain.{charge, item_need};
 ghost use Rattle.mc_shelf.specs.Plans.{drafted};
 ghost use Rattle.mc_grow.specs.Indexes.{IsFilled, IsNext, KeepsLower, count, entry_at, left};
 ghost use Rattle.mc_shelf.specs.Counts.{CaughtUp, FitTogether, KeepsTable, MovesFew, counts_in};
@@ -29,7 +29,7 @@ use crate::entry::Entry;
 use crate::plan::is_gone;
 use crate::soonest::Soonest;
 use crate::write::Write;
-use mc_command::Standing;
+use mc_protocol::Standing;
 pub(crate) use mc_grow::Place;
 use mc_hop::Keyed;
 use mc_item::Parts;

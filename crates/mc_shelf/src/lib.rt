@@ -12,7 +12,7 @@
 //! with the desk, in two parts if others wait for that: `begin` takes chunks and number, and
 //! `finish` copies the block when the desk is free ([`Begun`]). A read lends its item where it lies
 //! ([`Hit`]). A [`Store`] is as many shelves as its [`Settings`] say and their desk, and takes
-//! steps as every store does (`mc_command`'s `Steps`).
+//! steps as every store does (`mc_protocol`'s `Steps`).
 //!
 //! Contracts say of a shelf and a desk that they are *parts* of the plain machine's state: a step
 //! on one shelf takes the state to the machine's next, whatever the other shelves hold. The store's

@@ -1,12 +1,12 @@
 //! The parts of a store: its shelves, and the desk that they share.
 
 ghost use Rattle.std.specs.Prelude.{◌≡◌, ◌==◌, ◌≤◌, ℕ, List, map, replicate, true, false, IfOk};
-ghost use Rattle.mc_command.specs.declared.step.KeyStep.{KeyStep};
-ghost use Rattle.mc_command.specs.declared.reply.Reply.{Reply};
-ghost use Rattle.mc_command.specs.Commands.{key_of};
-ghost use Rattle.mc_command.specs.Plain.{Plain, flushed};
-ghost use Rattle.mc_command.specs.Purge.{purged};
-ghost use Rattle.mc_command.specs.Laws.{IsOnKey};
+ghost use Rattle.mc_protocol.specs.declared.step.KeyStep.{KeyStep};
+ghost use Rattle.mc_protocol.specs.declared.reply.Reply.{Reply};
+ghost use Rattle.mc_protocol.specs.Commands.{key_of};
+ghost use Rattle.mc_protocol.specs.Plain.{Plain, flushed};
+ghost use Rattle.mc_protocol.specs.Purge.{purged};
+ghost use Rattle.mc_protocol.specs.Laws.{IsOnKey};
 ghost use Rattle.mc_shelf.specs.States.{ShelfContent, DeskState, nothing_held};
 ghost use Rattle.mc_slab.specs.Slabs.{IsSlab};
 ghost use Rattle.mc_shelf.specs.Plans.{

@@ -3,11 +3,11 @@
 ghost use Rattle.std.specs.Prelude.{◌≡◌, ◌↔◌, ℕ, List, ◌≤◌, length, true, is_none, Option, IfOk, OnErr};
 ghost use Rattle.std.specs.FinMap.{get};
 ghost use Rattle.mc_time.specs.declared.expiry.Expiry.{Expiry as Expires};
-ghost use Rattle.mc_command.specs.declared.step.KeyStep.{KeyStep as Step};
-ghost use Rattle.mc_command.specs.declared.row.Row.TheVariants.{Reads};
-ghost use Rattle.mc_command.specs.Commands.{key_of};
-ghost use Rattle.mc_command.specs.Plain as machine;
-ghost use Rattle.mc_command.specs.Plain.{hit_of, row_of};
+ghost use Rattle.mc_protocol.specs.declared.step.KeyStep.{KeyStep as Step};
+ghost use Rattle.mc_protocol.specs.declared.row.Row.TheVariants.{Reads};
+ghost use Rattle.mc_protocol.specs.Commands.{key_of};
+ghost use Rattle.mc_protocol.specs.Plain as machine;
+ghost use Rattle.mc_protocol.specs.Plain.{hit_of, row_of};
 ghost use Rattle.mc_shelf.specs.declared.plan.Next.TheVariants.{Answer};
 ghost use Rattle.mc_shelf.specs.States.{CanStandAt, DeskState, ShelfContent};
 ghost use Rattle.mc_shelf.specs.Plans as plans;
@@ -27,8 +27,8 @@ ghost use Rattle.mc_shelf.specs.Plans.{
 use crate::entry::Entry;
 use crate::index::Place;
 use itoa::Buffer;
-use mc_command as command;
-use mc_command::{Block, Body, Bytes, Draft, KeyStep, Reply, Row, Standing};
+use mc_protocol as command;
+use mc_protocol::{Block, Body, Bytes, Draft, KeyStep, Reply, Row, Standing};
 use mc_time::{Expiry, Moment, is_dead};
 use std::alloc::{AllocError, Global};
 

@@ -6,8 +6,8 @@ ghost use Rattle.std.specs.Prelude.{◌≡◌, ◌≤◌, ◌==◌, ℕ, List, [
 ghost use Rattle.std.specs.FinMap.{len};
 ghost use Rattle.mc_slab.specs.Classes.{IsClass};
 ghost use Rattle.mc_slab.specs.Slabs.{out_of};
-ghost use Rattle.mc_command.specs.Plain.{Plain};
-ghost use Rattle.mc_command.specs.Purge.{purged};
+ghost use Rattle.mc_protocol.specs.Plain.{Plain};
+ghost use Rattle.mc_protocol.specs.Purge.{purged};
 ghost use Rattle.mc_shelf.specs.Counts.{DropsAlone, counts_of};
 ghost use Rattle.mc_shelf.specs.Parts.{GoesTo, IsDeskOf, IsShelfOf, shelf_of};
 ghost use Rattle.mc_shelf.specs.States.{ShelfContent};

@@ -2,12 +2,12 @@
 
 ghost use Rattle.std.specs.Prelude.{◌≡◌, ℕ, ◌≤◌, Some, true};
 ghost use Rattle.mc_time.specs.Death.{is_dead, is_expired};
-ghost use Rattle.mc_command.specs.Plain.{Entry as Item};
+ghost use Rattle.mc_protocol.specs.Plain.{Entry as Item};
 ghost use Rattle.mc_shelf.specs.Plans.{item_in};
 ghost use Rattle.mc_shelf.specs.Deaths.{DiesNoSooner};
 
 use crate::entry::Entry;
-use mc_command::Standing;
+use mc_protocol::Standing;
 use mc_time::{Expiry, Moment, is_dead};
 
 /// Bounds over a set of items: none expires before `expiry`, and none was written before `updated`. As long as an item with

@@ -2,9 +2,9 @@
 //! machine's state.
 
 ghost use Rattle.std.specs.Prelude.{◌≡◌, ◌↔◌, ◌-◌, ◌≤◌, min, length, replicate, slice_index, slice_set, IfOk, OnErr, Err, refl};
-ghost use Rattle.mc_command.specs.Commands.{key_of, longest_key};
-ghost use Rattle.mc_command.specs.Plain.{Plain, opening, starting, plain, Answered, Spent, MayFail};
-ghost use Rattle.mc_command.specs.Laws.{IsOnKey};
+ghost use Rattle.mc_protocol.specs.Commands.{key_of, longest_key};
+ghost use Rattle.mc_protocol.specs.Plain.{Plain, opening, starting, plain, Answered, Spent, MayFail};
+ghost use Rattle.mc_protocol.specs.Laws.{IsOnKey};
 ghost use Rattle.mc_shelf.specs.Parts.{ArePartsOf};
 ghost use Rattle.mc_shelf.specs.Stores.{IsSetUp, AreAlike, HoldSame, TookStep, shelf_purged};
 ghost use Rattle.mc_shelf.specs.Unions.{lefts};
@@ -13,7 +13,7 @@ use crate::desk::Desk;
 use crate::parts;
 use crate::settings::Settings;
 use crate::shelf::Shelf;
-use mc_command::{KeyStep, Reply, StepFault, Steps};
+use mc_protocol::{KeyStep, Reply, StepFault, Steps};
 use mc_hop::KeyHash;
 use mc_time::Moment;
 use std::alloc::{AllocError, Global};

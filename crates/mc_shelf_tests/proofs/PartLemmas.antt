@@ -1,6 +1,6 @@
 -- Parts of a state that tests have in their hands: after a step at one shelf, and after the desk laid all shelves aside.
 use Rattle.std.proofs.Common.{◌≡◌, ℕ, ◌-◌, ◌<◌, List, Some, get_or, slice_get, slice_index_or, slice_set, refl, sym, ap, subst, ◌∙◌, arith, Result, Ok, Err, IfOk, OnErr}
-use Rattle.mc_command.specs.Plain.{opening}
+use Rattle.mc_protocol.specs.Plain.{opening}
 use Rattle.mc_shelf.proofs.Common.{count-empty, DeskState, get_or-replicate, IsOnKey, key_of, KeyStep, Plain, Reply, ShelfState, slice_get_read, StepFault}
 use Rattle.mc_shelf.proofs.PartLemmas.{goes_by_step, parts_go}
 use Rattle.mc_shelf.specs.Asides.{none_out}

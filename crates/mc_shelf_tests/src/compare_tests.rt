@@ -3,9 +3,9 @@
 //! If an allocation is refused, a store takes the step when it is asked again.
 
 ghost use Rattle.std.specs.Prelude.{◌<◌, ◌≤◌, length};
-ghost use Rattle.mc_command.specs.Commands.{key_of};
+ghost use Rattle.mc_protocol.specs.Commands.{key_of};
 
-use mc_command::{Bytes, KeyStep, KeyTest, PlainStore, StepFault, Verb};
+use mc_protocol::{Bytes, KeyStep, KeyTest, PlainStore, StepFault, Verb};
 use mc_hop::{Constant, Fnv, KeyHash};
 use mc_rows::{ask_step, is_same};
 use mc_shelf::{Settings, Store};

@@ -3,7 +3,7 @@
 use crate::lengths::{ByLength, front};
 use crate::seen::counts;
 use crate::stores::open_with;
-use mc_command::Verb;
+use mc_protocol::Verb;
 use mc_rows::{Ask, ask_step, filled_block, step_of};
 use mc_shelf::{ShelfCounts, Store};
 use mc_time::Moment;

@@ -5,7 +5,7 @@
 use crate::seen::account;
 use crate::store_tests::answers;
 use crate::stores::open;
-use mc_command::{Bytes, KeyStep, Reply, Verb};
+use mc_protocol::{Bytes, KeyStep, Reply, Verb};
 use mc_hop::Fnv;
 use mc_rows::{Ask, Row, Want, ask_step, filled_block, set};
 use mc_shelf::Store;

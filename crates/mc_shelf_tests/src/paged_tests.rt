@@ -5,7 +5,7 @@ ghost use Rattle.std.specs.Prelude.{◌≤◌};
 use crate::parted::{Both, asked_in_parts, goes_alike};
 use crate::seen::account;
 use crate::stores::set_up;
-use mc_command::Verb;
+use mc_protocol::Verb;
 use mc_hop::Fnv;
 use mc_rows::{Ask, Row, Want, ask_step, filled_block, first_unlike, set, step_of};
 use mc_shelf::{Settings, Store};

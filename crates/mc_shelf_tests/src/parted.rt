@@ -1,13 +1,13 @@
 //! Steps that are taken in two parts, as a store does that others wait for.
 
 ghost use Rattle.std.specs.Prelude.{◌≡◌, ◌≤◌, length, IfOk, OnErr};
-ghost use Rattle.mc_command.specs.Commands.{key_of};
-ghost use Rattle.mc_command.specs.Laws.{IsOnKey};
+ghost use Rattle.mc_protocol.specs.Commands.{key_of};
+ghost use Rattle.mc_protocol.specs.Laws.{IsOnKey};
 ghost use Rattle.mc_shelf.specs.States.{CanStandAt};
 ghost use Rattle.mc_shelf.specs.Plans.{CanLook, StepTaken};
 
 use crate::seen::account_at;
-use mc_command::{KeyStep, Reply, StepFault, Steps};
+use mc_protocol::{KeyStep, Reply, StepFault, Steps};
 use mc_hop::{Fnv, KeyHash};
 use mc_rows::{Row, ask_step, is_wanted, step_of};
 use mc_shelf::{Begun, Brought, Desk, Shelf, Store, StoreParts};

@@ -1,7 +1,7 @@
 //! Stores as tests set them up. One that is refused memory is asked for again.
 
 ghost use Rattle.std.specs.Prelude.{◌≡◌, ◌≤◌, IfOk};
-ghost use Rattle.mc_command.specs.Plain.{opening};
+ghost use Rattle.mc_protocol.specs.Plain.{opening};
 
 use mc_hop::{Fnv, KeyHash};
 use mc_shelf::{Settings, Store};

@@ -2,7 +2,7 @@
 
 use crate::lines::{Line, Lines, Waiting};
 use crate::shortage::{Shortage, Wanted};
-use mc_command::KeyStep;
+use mc_protocol::KeyStep;
 use std::alloc::{AllocError, Global};
 use std::sync::atomic::{AtomicU32, Ordering};
 use std::sync::{Arc, Wait};

@@ -1,7 +1,7 @@
 //! Stores that are refused as no chunk is left, of which one line a minute tells.
 
 use crate::log::Log;
-use mc_command::{KeyStep, Verb};
+use mc_protocol::{KeyStep, Verb};
 use mc_guests::{Outcome, Tally};
 use std::sync::atomic::{AtomicU64, Ordering};
 

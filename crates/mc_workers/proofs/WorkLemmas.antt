@@ -1,11 +1,11 @@
 -- What a round does to the store that it is lent, and to a caller's past.
 use Rattle.std.specs.Prelude.{MatchOption, slice_get}
 use Rattle.std.proofs.Common.{◌≡◌, inl, inr, ℕ, zero, ◌<◌, ◌%◌, arith, List, Option, Some, None, refl, sym, ap, ◌∙◌, subst}
-use Rattle.mc_command.specs.Commands.{steps}
-use Rattle.mc_command.specs.Commands.{Command}
-use Rattle.mc_command.specs.declared.step.KeyStep.{KeyStep}
-use Rattle.mc_command.specs.declared.step.Steps.{Ghosts as Relations}
-use Rattle.mc_command.specs.declared.reply.Reply.{Reply}
+use Rattle.mc_protocol.specs.Commands.{steps}
+use Rattle.mc_protocol.specs.Commands.{Command}
+use Rattle.mc_protocol.specs.declared.step.KeyStep.{KeyStep}
+use Rattle.mc_protocol.specs.declared.step.Steps.{Ghosts as Relations}
+use Rattle.mc_protocol.specs.declared.reply.Reply.{Reply}
 use Rattle.mc_parse.specs.Units.{ProtocolUnit, Request, Fault, LongLine}
 use Rattle.mc_session.specs.Turns.{Answers, AnswersStep}
 use Rattle.mc_shared.specs.History.{Beginning, Operation, Purged}

@@ -4,7 +4,7 @@ ghost use Rattle.std.specs.Prelude.{◌≡◌, ◌%◌};
 ghost use Rattle.mc_workers.specs.Tending.{tidied_at_once, Tidied};
 
 use crate::tending::Tending;
-use mc_command::{Answer, Bytes, KeyStep, Reply, StepFault, Steps, Unanswered};
+use mc_protocol::{Answer, Bytes, KeyStep, Reply, StepFault, Steps, Unanswered};
 use mc_guests::{Outcome, Tally};
 use mc_hop::KeyHash;
 use mc_shared::Gate;

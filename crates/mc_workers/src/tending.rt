@@ -1,12 +1,12 @@
 //! Steps with the growth that follows them.
 ghost use Rattle.std.specs.Prelude.{◌≡◌, ◌<◌, ◌≤◌, ◌%◌, length, Err, IfOk, OnErr};
-ghost use Rattle.mc_command.specs.Commands.{key_of};
+ghost use Rattle.mc_protocol.specs.Commands.{key_of};
 ghost use Rattle.mc_shared.specs.Asking.{AsksOnce, AsksStep, AsksInVain};
 ghost use Rattle.mc_shared.specs.History.{start_of, Purged};
 ghost use Rattle.mc_shared.specs.Steps.{Agrees};
 ghost use Rattle.mc_workers.specs.Tending.{asked_by, in_turn, tidied_at_once, Tidied};
 
-use mc_command::{Answer, KeyStep, Reply, StepFault, Steps, Unanswered};
+use mc_protocol::{Answer, KeyStep, Reply, StepFault, Steps, Unanswered};
 use mc_hop::KeyHash;
 use mc_shared::{Asking, Caller, Gate, Shared};
 use mc_time::Moment;

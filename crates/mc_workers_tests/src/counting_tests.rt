@@ -1,7 +1,7 @@
 //! What a tally hears.
 
 use crate::held::{HeldLink, HeldLinks, Seen};
-use mc_command::{Answer, Bytes, KeyStep, Reply, StepFault, Steps, Verb};
+use mc_protocol::{Answer, Bytes, KeyStep, Reply, StepFault, Steps, Verb};
 use mc_guests::{Outcome, Tally};
 use mc_hop::Fnv;
 use mc_rows::{Ask, filled_block, step_of};

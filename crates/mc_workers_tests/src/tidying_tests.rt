@@ -3,7 +3,7 @@
 ghost use Rattle.std.specs.Prelude.{◌≡◌};
 
 use crate::held::{HeldLink, HeldLinks, Seen};
-use mc_command::Verb;
+use mc_protocol::Verb;
 use mc_guests::NoTally;
 use mc_hop::Fnv;
 use mc_rows::{Ask, filled_block, step_of, told_of};

@@ -1,7 +1,7 @@
 //! Workers over links in memory, in one thread.
 
 use crate::held::{HeldLink, HeldLinks, Seen};
-use mc_command::{KeyStep, Reply, StepFault};
+use mc_protocol::{KeyStep, Reply, StepFault};
 use mc_guests::WorkEnd;
 use mc_hop::Fnv;
 use mc_rows::{Ask, step_of};

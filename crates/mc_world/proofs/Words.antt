@@ -8,10 +8,10 @@ pub use Rattle.std.proofs.lemmas.Bool.{eqb-true, eqb-false, lt-ltb}
 pub use Rattle.std.proofs.lemmas.List.{drop-append-le, append-nil, append_cancel_left, length-set, take_more, take_all, set-get_or, take-append-drop}
 pub use Rattle.std.proofs.lemmas.Option.{slice_get_past, slice_get_within, get_or_from_slice_get, slice_get_read}
 pub use Rattle.std.specs.Io.KnownBytes.{IsAtEnd}
-pub use Rattle.mc_command.specs.Commands.{steps, Command}
-pub use Rattle.mc_command.specs.Plain.{Plain, plain, Spent}
-pub use Rattle.mc_command.specs.declared.step.KeyStep.{KeyStep}
-pub use Rattle.mc_command.specs.declared.step.Steps.{Ghosts as Relations}
+pub use Rattle.mc_protocol.specs.Commands.{steps, Command}
+pub use Rattle.mc_protocol.specs.Plain.{Plain, plain, Spent}
+pub use Rattle.mc_protocol.specs.declared.step.KeyStep.{KeyStep}
+pub use Rattle.mc_protocol.specs.declared.step.Steps.{Ghosts as Relations}
 pub use Rattle.mc_parse.proofs.FeedLemmas.{pushed_twice}
 pub use Rattle.mc_parse.proofs.StreamLemmas.{same_units, some_units, spelling_some}
 pub use Rattle.mc_parse.proofs.UnitLemmas.{same_spelling}

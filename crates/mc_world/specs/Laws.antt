@@ -3,10 +3,10 @@
 use Rattle.std.specs.Prelude.{◌≡◌, ◌⊎◌, ◌↔◌, ◌<◌, ℕ, ◌==◌, Bool, false, List, [], ◌∷◌, ◌++◌, length, filter, Option, Some, None, IfSome, slice_get}
 use Rattle.std.specs.Bool.{MatchBool}
 use Rattle.std.specs.Option.{MatchOption}
-use Rattle.mc_command.specs.Commands.{steps}
-use Rattle.mc_command.specs.Plain.{plain, Outcome, Answered, Spent}
-use Rattle.mc_command.specs.declared.step.KeyStep.{KeyStep}
-use Rattle.mc_command.specs.declared.reply.Reply.{Reply}
+use Rattle.mc_protocol.specs.Commands.{steps}
+use Rattle.mc_protocol.specs.Plain.{plain, Outcome, Answered, Spent}
+use Rattle.mc_protocol.specs.declared.step.KeyStep.{KeyStep}
+use Rattle.mc_protocol.specs.declared.reply.Reply.{Reply}
 use Rattle.mc_parse.specs.Units.{ProtocolUnit, Request, Fault, LongLine, Spells}
 use Rattle.mc_parse.specs.Streams.{AreUnits}
 use Rattle.mc_parse.specs.Feeds.{Unread, settled, pushed}

@@ -1,13 +1,13 @@
 -- What one event does to the sessions of a world.
 use Rattle.std.specs.Prelude.{◌≡◌, ◌⊎◌, ℕ, ◌+◌, ◌<◌, ◌%◌, ◌==◌, Bool, true, List, [], ◌∷◌, ◌++◌, length, Option, Some, None, slice_get, nat_lt, if◌then◌else◌, IsTrue, IsFalse, Result, Ok, OnOk, OnErr, IfErr}
-use Rattle.mc_command.specs.Plain.{Plain}
-use Rattle.mc_command.specs.declared.step.Steps.{Ghosts as Relations}
+use Rattle.mc_protocol.specs.Plain.{Plain}
+use Rattle.mc_protocol.specs.declared.step.Steps.{Ghosts as Relations}
 use Rattle.mc_session.specs.Turns.{SessionState, TakesTurn, DecidesStep, NoTurnDue, opened, fed}
 use Rattle.mc_session.specs.Turns.{closed as ended}
 use Rattle.mc_session.specs.declared.session.Turn.{Turn as SessionTurn}
 use Rattle.mc_session.specs.declared.session.Turn.TheVariants.{Did, Idle, Closed}
 use Rattle.mc_session.specs.declared.session.TurnFault.{TurnFault}
-use Rattle.mc_command.specs.Purge.{purged}
+use Rattle.mc_protocol.specs.Purge.{purged}
 use Rattle.mc_world.specs.Worlds.{WorldState, numbered, put, changed, open_session, IsIdle, in_plain, named}
 use Rattle.mc_world.specs.declared.event.Event.{Event}
 use Rattle.mc_world.specs.declared.event.Event.TheVariants.{Open, Piece, Turn, Clock, Grow, Purge, Close}

@@ -2,18 +2,18 @@
 use Rattle.std.specs.Prelude.{◌≡◌, ◌⊎◌, ℕ, zero, suc, ◌-◌, ◌%◌, ◌<◌, ◌==◌, Bool, true, false, List, [], ◌∷◌, ◌++◌, length, take, Option, Some, None, slice_get, slice_set, nat_lt, if◌then◌else◌, IsTrue, IsFalse, refl}
 use Rattle.std.specs.Coded.{Coded, code_by, coded×, coded_ℕ, coded_bool, coded_list}
 use Rattle.std.specs.Option.{MatchOption}
-use Rattle.mc_command.specs.Commands.{steps}
-use Rattle.mc_command.specs.Commands.{Command}
-use Rattle.mc_command.specs.Plain.{Plain, coded_plain, plain, Answered, Spent}
-use Rattle.mc_command.specs.declared.step.KeyStep.{KeyStep}
-use Rattle.mc_command.specs.declared.step.Steps.{Ghosts as Relations}
-use Rattle.mc_command.specs.declared.reply.Reply.{Reply}
+use Rattle.mc_protocol.specs.Commands.{steps}
+use Rattle.mc_protocol.specs.Commands.{Command}
+use Rattle.mc_protocol.specs.Plain.{Plain, coded_plain, plain, Answered, Spent}
+use Rattle.mc_protocol.specs.declared.step.KeyStep.{KeyStep}
+use Rattle.mc_protocol.specs.declared.step.Steps.{Ghosts as Relations}
+use Rattle.mc_protocol.specs.declared.reply.Reply.{Reply}
 use Rattle.mc_parse.specs.Units.{ProtocolUnit, Request}
 use Rattle.mc_parse.specs.Feeds.{Unread}
 use Rattle.mc_session.specs.Turns.{SessionState, Answers, NoTurnDue}
 use Rattle.mc_shelf.specs.Stores.{coded_settings}
 use Rattle.mc_shelf.specs.declared.settings.Settings.{Settings}
-use Rattle.mc_command.specs.Purge.{purged}
+use Rattle.mc_protocol.specs.Purge.{purged}
 use Rattle.mc_world.specs.Chains.{Chain}
 use Rattle.mc_world.specs.Connections.{Connection, IsNextTurn, HasNoNext, Stands, fresh, with_piece, after_turn, ended}
 use Rattle.mc_world.specs.declared.event.Event.{Event}

@@ -1,4 +1,4 @@
-use mc_command::Bytes;
+use mc_protocol::Bytes;
 use mc_time::Moment;
 
 /// What comes to a world. Sessions have numbers from 1 on, shelves from 0 on.

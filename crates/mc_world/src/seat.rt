@@ -1,6 +1,6 @@
 use crate::event::Event;
 use crate::world::World;
-use mc_command::Bytes;
+use mc_protocol::Bytes;
 use mc_hop::KeyHash;
 use mc_session::{Endpoint, Turn};
 use mc_time::Moment;

@@ -7,7 +7,7 @@ ghost use Rattle.mc_world.specs.Worlds.{output_of, IsIdle, IsClosed};
 ghost use Rattle.mc_world.specs.Sessions.{with_opened, at_session, IsOpened, IsOpenAt};
 ghost use Rattle.mc_world.specs.Sessions.{TurnGiven};
 
-use mc_command::Steps;
+use mc_protocol::Steps;
 use mc_session::{Session, Turn, TurnFault};
 use mc_time::Moment;
 use std::alloc::{AllocError, Global};

@@ -1,6 +1,6 @@
 ghost use Rattle.std.specs.Prelude.{◌≡◌, ◌≤◌, ◌↔◌, ◌∷◌, [], length};
 ghost use Rattle.std.specs.Prelude.{IsTrue, IfOk, IfErr, OnOk, Ok, None};
-ghost use Rattle.mc_command.specs.Plain.{opening, starting};
+ghost use Rattle.mc_protocol.specs.Plain.{opening, starting};
 ghost use Rattle.mc_session.specs.Turns.{sent};
 ghost use Rattle.mc_world.specs.Worlds.{CanStand, Told, ToldRefused, ToldUntil};
 ghost use Rattle.mc_world.specs.Worlds.{numbered, open_session, changed};

@@ -1,7 +1,7 @@
 //! Events that a table of a test may have.
 
 use crate::worlds::run;
-use mc_command::Bytes;
+use mc_protocol::Bytes;
 use mc_hop::Fnv;
 use mc_time::Moment;
 use mc_world::{Event, World};

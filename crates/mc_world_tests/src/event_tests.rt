@@ -9,7 +9,7 @@ use crate::set_ups::{EACH, SHELF_OF_A, SHELF_OF_B, SOME};
 use crate::texts::{HIT, MISS};
 use crate::told::{answers, is_told, second_finds};
 use crate::worlds::{opened_twice, opened_with, world_with};
-use mc_command::Bytes;
+use mc_protocol::Bytes;
 use mc_hop::Fnv;
 use mc_shelf::Settings;
 use mc_world::{Event, World};

@@ -4,7 +4,7 @@ use crate::set_ups::EACH;
 use crate::texts::{get_of, hit_of, set_of};
 use crate::told::{answers, answers_and_grows};
 use crate::worlds::opened_with;
-use mc_command::Bytes;
+use mc_protocol::Bytes;
 use mc_hop::Constant;
 use mc_shelf::{Settings, Store};
 use mc_time::Moment;

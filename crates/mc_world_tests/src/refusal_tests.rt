@@ -6,7 +6,7 @@
 ghost use Rattle.std.specs.Prelude.{◌≤◌};
 
 use crate::texts::{get_of, hit_of, set_of};
-use mc_command::Bytes;
+use mc_protocol::Bytes;
 use mc_hop::{Constant, Fnv, KeyHash};
 use mc_shelf::Settings;
 use mc_time::Moment;

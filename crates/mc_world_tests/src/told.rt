@@ -1,7 +1,7 @@
 //! What sessions are told, compared.
 
 use crate::worlds::{ask, run};
-use mc_command::Bytes;
+use mc_protocol::Bytes;
 use mc_hop::{Constant, Fnv, KeyHash};
 use mc_world::{Event, World};
 use std::alloc::Global;

@@ -3,7 +3,7 @@
 ghost use Rattle.std.specs.Prelude.{◌≤◌};
 
 use crate::set_ups::SOME;
-use mc_command::Bytes;
+use mc_protocol::Bytes;
 use mc_hop::{Fnv, KeyHash};
 use mc_shelf::Settings;
 use mc_time::Moment;

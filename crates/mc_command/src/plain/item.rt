@@ -2,8 +2,8 @@ ghost use Rattle.std.specs.Prelude.{◌≡◌, ◌+◌, ◌-◌, ◌/◌, ◌^�
 ghost use Rattle.mc_time.specs.Death as death;
 ghost use Rattle.mc_slab.specs.Classes.{IsClass};
 ghost use Rattle.mc_slab.specs.Needs.{IsNeed, need_of, need_for};
-ghost use Rattle.mc_command.specs.Plain.{charge, chunk_head, chunks_in, item_need};
-ghost use Rattle.mc_command.specs.Steps.{made};
+ghost use Rattle.mc_protocol.specs.Plain.{charge, chunk_head, chunks_in, item_need};
+ghost use Rattle.mc_protocol.specs.Steps.{made};
 
 use crate::block::Block;
 use crate::number::number_of;
@@ -31,7 +31,7 @@ pub(crate) struct Item {
 }
 
 impl Model for Item {
-    ghost use Rattle.mc_command.specs.Plain.{Entry, coded_entry};
+    ghost use Rattle.mc_protocol.specs.Plain.{Entry, coded_entry};
 
     ghost Value = { Entry };
 
@@ -65,7 +65,7 @@ pub(crate) struct LentWrite<'a> {
 
 impl<'a> Model for LentWrite<'a> {
     ghost use Rattle.std.specs.Prelude.{◌++◌};
-    ghost use Rattle.mc_command.specs.declared.plain.item.Written.{Written};
+    ghost use Rattle.mc_protocol.specs.declared.plain.item.Written.{Written};
 
     ghost Value = { Written };
 

@@ -1,5 +1,5 @@
 ghost use Rattle.std.specs.Prelude.{◌≡◌, ℕ, List, Bool};
-ghost use Rattle.mc_command.specs.Purge.{purged};
+ghost use Rattle.mc_protocol.specs.Purge.{purged};
 
 use crate::plain::PlainStore;
 use mc_time::Moment;

@@ -5,10 +5,10 @@ ghost use Rattle.std.specs.Prelude.{◌≡◌, ◌≢◌, ◌≤◌, ◌-◌, �
 ghost use Rattle.std.specs.FinMap.{get};
 ghost use Rattle.std.specs.Option.{option_copied};
 ghost use Rattle.mc_slab.specs.Needs.{IsNeed};
-ghost use Rattle.mc_command.specs.Commands.{longest_key};
-ghost use Rattle.mc_command.specs.Plain.{charge, block_need, has_room, keeps_chunk, written_block, CopiesBlock};
-ghost use Rattle.mc_command.specs.Steps.{Ends, Prepares, IsReady, StaysIn, needs_this, same_needs};
-ghost use Rattle.mc_command.specs.Steps.{number_in, block_in, found, drafting, writing, rewritten, placed, done};
+ghost use Rattle.mc_protocol.specs.Commands.{longest_key};
+ghost use Rattle.mc_protocol.specs.Plain.{charge, block_need, has_room, keeps_chunk, written_block, CopiesBlock};
+ghost use Rattle.mc_protocol.specs.Steps.{Ends, Prepares, IsReady, StaysIn, needs_this, same_needs};
+ghost use Rattle.mc_protocol.specs.Steps.{number_in, block_in, found, drafting, writing, rewritten, placed, done};
 
 use crate::plain::PlainStore;
 use crate::plain::item::{Item, LentWrite, Written, lend_write};

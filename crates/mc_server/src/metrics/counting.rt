@@ -2,7 +2,7 @@
 ghost use Rattle.std.specs.Prelude.{◌≡◌};
 ghost use Rattle.mc_server.specs.Counting.{counted_as, ways_of};
 
-use mc_command::KeyStep;
+use mc_protocol::KeyStep;
 use mc_guests::Outcome;
 use mc_metrics::Counted;
 

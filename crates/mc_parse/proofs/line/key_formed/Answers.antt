@@ -1,5 +1,5 @@
 use Rattle.std.proofs.Common.{◌∙◌, ap, sym, length, ◌-◌, ◌+◌, take, drop, Ok, Err, if◌then◌else◌}
-use Rattle.mc_command.specs.declared.fault.LineFault.TheVariants.{BadFormat}
+use Rattle.mc_protocol.specs.declared.fault.LineFault.TheVariants.{BadFormat}
 use Rattle.mc_parse.proofs.NoteLemmas.{word_in}
 use Rattle.mc_parse.proofs.line.key_formed.Goals as goal
 

@@ -1,6 +1,6 @@
 use Rattle.std.proofs.Common.{◌≡◌, ◌+◌, length}
 use Rattle.std.specs.List.{list_all}
-use Rattle.mc_command.specs.Words.{words}
+use Rattle.mc_protocol.specs.Words.{words}
 use Rattle.mc_parse.specs.Lines.{is_key}
 use Rattle.mc_parse.proofs.line.keys_formed.Given as goal
 

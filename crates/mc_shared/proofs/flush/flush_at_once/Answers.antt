@@ -1,6 +1,6 @@
 use Rattle.std.proofs.Common.{List, sym, ◌∙◌, subst}
 use Rattle.mc_shared.proofs.Words.{ShelfState, ArePartsOf}
-use Rattle.mc_command.proofs.CountLemmas.{count-empty}
+use Rattle.mc_protocol.proofs.CountLemmas.{count-empty}
 use Rattle.mc_shared.proofs.EmptyLemmas.{emptied}
 use Rattle.mc_shared.proofs.Stacked.{written_back}
 use Rattle.mc_shared.proofs.flush.flush_at_once.Goals as goal

@@ -1,5 +1,5 @@
 use Rattle.std.proofs.Common.{ℕ, List}
-use Rattle.mc_command.specs.Plain.{Plain}
+use Rattle.mc_protocol.specs.Plain.{Plain}
 use Rattle.mc_shelf.specs.Parts.{ArePartsOf}
 use Rattle.mc_shelf.proofs.FlushLemmas.{AreFlushedTo}
 use Rattle.mc_shelf.proofs.parts.flush_parts.Given as goal

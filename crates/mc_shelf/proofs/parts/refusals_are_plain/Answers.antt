@@ -1,5 +1,5 @@
 use Rattle.std.proofs.Common.{sym, refl}
-use Rattle.mc_command.specs.Commands.{key_of}
+use Rattle.mc_protocol.specs.Commands.{key_of}
 use Rattle.mc_shelf.specs.Plans.{next_of}
 use Rattle.mc_shelf.proofs.TakesLemmas.{is_spent}
 use Rattle.mc_shelf.proofs.RefusalLemmas.{can_wants, needs_can, writes_some}

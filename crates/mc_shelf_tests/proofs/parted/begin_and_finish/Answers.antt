@@ -1,5 +1,5 @@
 use Rattle.std.proofs.Common.{◌<◌, ◌%◌, sym, ap, ◌∙◌, arith}
-use Rattle.mc_command.specs.Commands.{key_of}
+use Rattle.mc_protocol.specs.Commands.{key_of}
 use Rattle.mc_shelf.proofs.PartLemmas.{is_at}
 use Rattle.mc_shelf_tests.proofs.PartLemmas.{shelf_here, stepped}
 use Rattle.mc_shelf_tests.proofs.parted.begin_and_finish.Goals as goal

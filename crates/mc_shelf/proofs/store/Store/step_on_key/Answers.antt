@@ -1,5 +1,5 @@
 use Rattle.std.proofs.Common.{◌≡◌, ◌<◌, ◌%◌, refl, sym, ap, ◌∙◌, arith}
-use Rattle.mc_command.specs.Commands.{key_of}
+use Rattle.mc_protocol.specs.Commands.{key_of}
 use Rattle.mc_shelf.specs.Parts.{shelf_of}
 use Rattle.mc_shelf.specs.Unions.{plain_of}
 use Rattle.mc_shelf.proofs.PartLemmas.{is_at}

@@ -1,5 +1,5 @@
 use Rattle.std.proofs.Common.{◌∙◌, subst, sym, OnOk}
-use Rattle.mc_command.specs.declared.reply.Reply.{Reply}
+use Rattle.mc_protocol.specs.declared.reply.Reply.{Reply}
 use Rattle.mc_shared.specs.Asking.{AskingState, AsksStep, AsksInVain}
 use Rattle.mc_workers.proofs.tending.TendingSteps.step_telling.Goals as goal
 

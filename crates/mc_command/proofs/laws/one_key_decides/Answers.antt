@@ -1,5 +1,0 @@
-use Rattle.mc_command.proofs.LawLemmas.{one_key}
-use Rattle.mc_command.proofs.laws.one_key_decides.Goals as goal
-
-pub returns : goal.returns
-returns c = one_key

@@ -1,5 +1,0 @@
-use Rattle.mc_command.proofs.PageLemmas.{pages_grow, limit_stays, pages_within}
-use Rattle.mc_command.proofs.laws.pages_stay.Goals as goal
-
-pub returns : goal.returns
-returns c = record { never_fall = pages_grow; limit = limit_stays; within = pages_within }

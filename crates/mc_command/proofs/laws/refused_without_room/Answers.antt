@@ -1,5 +1,0 @@
-use Rattle.mc_command.proofs.RefusalLemmas.{refused-exactly, refused-left}
-use Rattle.mc_command.proofs.laws.refused_without_room.Goals as goal
-
-pub returns : goal.returns
-returns c = record { exactly = refused-exactly; unchanged = refused-left }

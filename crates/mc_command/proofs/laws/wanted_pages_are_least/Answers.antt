@@ -1,5 +1,0 @@
-use Rattle.mc_command.proofs.PageLemmas.{enough, least}
-use Rattle.mc_command.proofs.laws.wanted_pages_are_least.Goals as goal
-
-pub returns : goal.returns
-returns c = record { enough = enough; least = least }

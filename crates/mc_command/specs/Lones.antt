@@ -1,9 +1,0 @@
--- What a command does that is its name alone.
-use Rattle.std.specs.Prelude.{Bool, true, false}
-use Rattle.mc_command.specs.declared.lone.Lone.{Lone}
-use Rattle.mc_command.specs.declared.lone.Lone.TheVariants.{Version, Quit}
-
--- it ends its stream
-abbrev pub closes : Lone → Bool
-closes Version = false
-closes Quit = true

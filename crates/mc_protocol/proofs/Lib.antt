@@ -1,0 +1,9 @@
+pub mod NumberLemmas
+pub mod WordLemmas
+pub mod ItemLemmas
+pub mod LawLemmas
+pub mod CountLemmas
+pub mod RoomLemmas
+pub mod WriteLemmas
+pub mod PageLemmas
+pub mod RefusalLemmas

@@ -1,0 +1,179 @@
+-- The shape of a command, and its steps.
+use Rattle.std.specs.Prelude.{◌≡◌, refl, ℕ, ℤ, Bool, true, false, IsTrue, List, [], ◌∷◌, map, length, drop, Option, Some, None, ◌≤◌, All}
+use Rattle.mc_protocol.specs.declared.command.CommandOf.{CommandOf}
+use Rattle.mc_protocol.specs.declared.command.CommandOf.TheVariants.{Store, Cas, Get, GetTouch, Touch, Delete, Count, FlushAll, Lone as LoneCommand}
+use Rattle.mc_protocol.specs.declared.lone.Lone.{Lone}
+use Rattle.mc_protocol.specs.declared.step.KeyStep.{KeyStep}
+use Rattle.mc_protocol.specs.declared.step.KeyStep.TheVariants.{Store as StoreStep, Cas as CasStep, Read as ReadStep, ReadTouch as ReadTouchStep, Touch as TouchStep, Delete as DeleteStep, Count as CountStep, Flush as FlushStep}
+
+-- a command as it is lent
+abbrev pub Command : Type 0
+Command = CommandOf (List ℕ) (List (List ℕ)) (List ℕ)
+
+-- the same command with its key, its keys and its block kept otherwise
+abbrev pub mapped : {K L B M N C : Type 0} → (K → M) → (L → N) → (B → C) → CommandOf K L B
+    → CommandOf M N C
+mapped f g h (Store verb key flags exptime block quiet) =
+    Store verb (f key) flags exptime (h block) quiet
+mapped f g h (Cas key flags exptime block unique quiet) =
+    Cas (f key) flags exptime (h block) unique quiet
+mapped f g h (Get keys with_unique) = Get (g keys) with_unique
+mapped f g h (GetTouch exptime keys with_unique) = GetTouch exptime (g keys) with_unique
+mapped f g h (Touch key exptime quiet) = Touch (f key) exptime quiet
+mapped f g h (Delete key quiet) = Delete (f key) quiet
+mapped f g h (Count key up by quiet) = Count (f key) up by quiet
+mapped f g h (FlushAll delay quiet) = FlushAll delay quiet
+mapped f g h (LoneCommand lone) = LoneCommand lone
+
+-- the block of a command that brings one
+abbrev pub block_in : {K L B : Type 0} → CommandOf K L B → Option B
+block_in (Store verb key flags exptime block quiet) = Some block
+block_in (Cas key flags exptime block unique quiet) = Some block
+block_in command = None
+
+-- what a retrieval asks: the exptime that it may set, its keys, and whether the unique number is told
+abbrev pub retrieval_in : {K L B : Type 0} → CommandOf K L B → Option (Option ℤ × L × Bool)
+retrieval_in (Get keys with_unique) = Some (None, keys, with_unique)
+retrieval_in (GetTouch exptime keys with_unique) = Some (Some exptime, keys, with_unique)
+retrieval_in command = None
+
+-- the step that a retrieval takes of a key: where it has an exptime it sets the item's expiry too
+abbrev pub read_step : Option ℤ → (key : List ℕ) → KeyStep
+read_step None key = ReadStep key
+read_step (Some exptime) key = ReadTouchStep key exptime
+
+-- the retrieval of these keys
+abbrev pub retrieval : Option ℤ → (keys : List (List ℕ)) → (with_unique : Bool) → Command
+retrieval None keys with_unique = Get keys with_unique
+retrieval (Some exptime) keys with_unique = GetTouch exptime keys with_unique
+
+-- What a command asks for: one step, with a block behind its line or without, of which a quiet one's
+-- reply isn't told; a step of each key of a retrieval; or no step.
+pub data Shape : Type 0 where
+  Single : KeyStep → (has_block quiet : Bool) → Shape
+  Retrieval : (exptime : Option ℤ) → (keys : List (List ℕ)) → (with_unique : Bool) → Shape
+  Alone : Lone → Shape
+
+-- a command's shape
+abbrev pub shape : Command → Shape
+shape (Store verb key flags exptime block quiet) =
+    Single (StoreStep verb key flags exptime block) true quiet
+shape (Cas key flags exptime block unique quiet) =
+    Single (CasStep key flags exptime block unique) true quiet
+shape (Get keys with_unique) = Retrieval None keys with_unique
+shape (GetTouch exptime keys with_unique) = Retrieval (Some exptime) keys with_unique
+shape (Touch key exptime quiet) = Single (TouchStep key exptime) false quiet
+shape (Delete key quiet) = Single (DeleteStep key) false quiet
+shape (Count key up by quiet) = Single (CountStep key up by) false quiet
+shape (FlushAll delay quiet) = Single (FlushStep delay) false quiet
+shape (LoneCommand lone) = Alone lone
+
+-- what a command of a shape asks of keys, in order
+abbrev pub steps_by : Shape → List KeyStep
+steps_by (Single step has_block quiet) = step ∷ []
+steps_by (Retrieval exptime keys with_unique) = map (λ key. read_step exptime key) keys
+steps_by (Alone lone) = []
+
+-- what a command asks of keys, in order
+abbrev pub steps : Command → List KeyStep
+steps command = steps_by (shape command)
+
+-- a command of a shape asks one step
+abbrev pub IsSingleBy : Shape → Type 0
+IsSingleBy (Single step has_block quiet) = Unit {0}
+IsSingleBy (Retrieval exptime keys with_unique) = ⊥
+IsSingleBy (Alone lone) = ⊥
+
+-- a command that asks one step of one key, or of all
+abbrev pub IsSingle : Command → Type 0
+IsSingle command = IsSingleBy (shape command)
+
+-- a block comes after the line of a command of a shape
+abbrev pub HasBlockBy : Shape → Type 0
+HasBlockBy (Single step has_block quiet) = IsTrue has_block
+HasBlockBy (Retrieval exptime keys with_unique) = ⊥
+HasBlockBy (Alone lone) = ⊥
+
+-- a block comes after its line
+abbrev pub HasBlock : Command → Type 0
+HasBlock command = HasBlockBy (shape command)
+
+-- a command of a shape ended in noreply
+abbrev pub is_quiet_by : Shape → Bool
+is_quiet_by (Single step has_block quiet) = quiet
+is_quiet_by (Retrieval exptime keys with_unique) = false
+is_quiet_by (Alone lone) = false
+
+-- it ended in noreply
+abbrev pub is_quiet : Command → Bool
+is_quiet command = is_quiet_by (shape command)
+
+-- what is left of a command of a shape: a retrieval of the keys that are left
+abbrev pub after_by : Shape → Command → ℕ → Command
+after_by (Single step has_block quiet) command taken = command
+after_by (Retrieval exptime keys with_unique) command taken =
+    retrieval exptime (drop taken keys) with_unique
+after_by (Alone lone) command taken = command
+
+-- what is left of a command after so many of its steps
+abbrev pub after_steps : Command → ℕ → Command
+after_steps command taken = after_by (shape command) command taken
+
+-- the shape of what is left after so many steps of a command of a shape
+abbrev pub shape_left : Shape → ℕ → Shape
+shape_left (Single step has_block quiet) taken = Single step has_block quiet
+shape_left (Retrieval exptime keys with_unique) taken =
+    Retrieval exptime (drop taken keys) with_unique
+shape_left (Alone lone) taken = Alone lone
+
+-- a retrieval has the shape of one
+pub retrieval-shape : (exptime : Option ℤ) (keys : List (List ℕ)) (with_unique : Bool)
+    → shape (retrieval exptime keys with_unique) ≡ Retrieval exptime keys with_unique
+retrieval-shape None keys with_unique = refl
+retrieval-shape (Some exptime) keys with_unique = refl
+
+after_by-shape : (its : Shape) (command : Command) (taken : ℕ) → shape command ≡ its
+    → shape (after_by its command taken) ≡ shape_left its taken
+after_by-shape (Single step has_block quiet) command taken is = is
+after_by-shape (Retrieval exptime keys with_unique) command taken is =
+    retrieval-shape exptime (drop taken keys) with_unique
+after_by-shape (Alone lone) command taken is = is
+
+-- what is left of a command has that shape
+pub after_steps-shape : (command : Command) (taken : ℕ)
+    → shape (after_steps command taken) ≡ shape_left (shape command) taken
+after_steps-shape command taken = after_by-shape (shape command) command taken refl
+
+-- A step as a store sees it: on a key, with the block that it brings or no bytes; or a flush of all
+-- keys.
+pub data View : Type 0 where
+  OnKey : (key block : List ℕ) → View
+  OnAll : (delay : ℕ) → View
+
+-- a step's view
+abbrev pub view : KeyStep → View
+view (StoreStep verb key flags exptime block) = OnKey key block
+view (CasStep key flags exptime block unique) = OnKey key block
+view (ReadStep key) = OnKey key []
+view (ReadTouchStep key exptime) = OnKey key []
+view (TouchStep key exptime) = OnKey key []
+view (DeleteStep key) = OnKey key []
+view (CountStep key up by) = OnKey key []
+view (FlushStep delay) = OnAll delay
+
+-- the key of a step that is seen so; a flush has none, said as the empty list
+abbrev pub key_seen : View → List ℕ
+key_seen (OnKey key block) = key
+key_seen (OnAll delay) = []
+
+-- the key of a step
+abbrev pub key_of : KeyStep → List ℕ
+key_of step = key_seen (view step)
+
+-- how many bytes a key has at most
+abbrev pub longest_key : ℕ
+longest_key = 250
+
+-- no key of the command's steps is longer than that
+abbrev pub HasShortKeys : Command → Type 0
+HasShortKeys command = All (λ step. length (key_of step) ≤ longest_key) (steps command)

@@ -1,0 +1,178 @@
+ghost use Rattle.std.specs.Prelude.{◌≡◌};
+ghost use Rattle.mc_protocol.specs.Commands.{key_of};
+ghost use Rattle.mc_protocol.specs.Plain.{block_of};
+ghost use Rattle.mc_protocol.specs.declared.step.StepFault.TheVariants.{NoMemory};
+
+use crate::answer::{Answer, Unanswered};
+use crate::bytes::Bytes;
+use crate::reply::Reply;
+use mc_time::Moment;
+use std::alloc::{AllocError, AllocFailed, Global};
+use thiserror::Error;
+
+/// How a storage command stores (protocol.txt, "Storage commands").
+#[derive(Clone, Copy, Debug, PartialEq, Eq)]
+pub enum Verb {
+    /// In any case.
+    Set,
+    /// Only if no item stands.
+    Add,
+    /// Only if an item stands.
+    Replace,
+    /// The block after the standing item's.
+    Append,
+    /// The block before the standing item's.
+    Prepend,
+}
+
+/// What a command asks of one key.
+#[derive(Drop)]
+pub enum KeyStep<'a> {
+    Store {
+        verb: Verb,
+        key: Bytes<'a>,
+        flags: u32,
+        exptime: i64,
+        block: Bytes<'a>,
+    },
+    Cas {
+        key: Bytes<'a>,
+        flags: u32,
+        exptime: i64,
+        block: Bytes<'a>,
+        unique: u64,
+    },
+    Read {
+        key: Bytes<'a>,
+    },
+    ReadTouch {
+        key: Bytes<'a>,
+        exptime: i64,
+    },
+    Touch {
+        key: Bytes<'a>,
+        exptime: i64,
+    },
+    Delete {
+        key: Bytes<'a>,
+    },
+    Count {
+        key: Bytes<'a>,
+        up: bool,
+        by: u64,
+    },
+    Flush {
+        delay: u64,
+    },
+}
+
+impl<'a> KeyStep<'a> {
+    /// Lends the key that the step is on. A flush is on none, for which it lends no bytes.
+    pub fn key(&self) -> &'a [u8]
+        ensures { result.now ≡ key_of self.now }
+    {
+        match self {
+            KeyStep::Store { key, .. }
+            | KeyStep::Cas { key, .. }
+            | KeyStep::Read { key }
+            | KeyStep::ReadTouch { key, .. }
+            | KeyStep::Touch { key, .. }
+            | KeyStep::Delete { key }
+            | KeyStep::Count { key, .. } => key.as_slice(),
+            KeyStep::Flush { .. } => &[],
+        }
+    }
+
+    /// Lends the block that the step brings, and no bytes if it brings none.
+    pub fn block(&self) -> &'a [u8]
+        ensures { result.now ≡ block_of self.now }
+    {
+        match self {
+            KeyStep::Store { block, .. } | KeyStep::Cas { block, .. } => block.as_slice(),
+            _ => &[],
+        }
+    }
+}
+
+/// Why a step was not taken. The store is as it was.
+#[derive(Debug, Drop, Error)]
+pub enum StepFault {
+    /// A growth was refused.
+    #[error("out of memory")]
+    NoMemory,
+    /// The write would draw the last unique number.
+    #[error("out of unique numbers")]
+    NumbersSpent,
+}
+
+impl From<AllocError> for StepFault {
+    ghost from_gives = { λ _ e. e ≡ NoMemory };
+
+    fn from(_e: AllocError) -> StepFault {
+        StepFault::NoMemory
+    }
+}
+
+impl<T: Drop> From<AllocFailed<T>> for StepFault {
+    ghost from_gives = { λ _ e. e ≡ NoMemory };
+
+    fn from(_e: AllocFailed<T>) -> StepFault {
+        StepFault::NoMemory
+    }
+}
+
+/// A store that takes steps.
+pub trait Steps {
+    ghost use Rattle.std.specs.Prelude.{◌≡◌, ◌≤◌, ℕ, length, IfOk, OnOk, OnErr, Err};
+    ghost use Rattle.mc_protocol.specs.declared.step.KeyStep.{KeyStep};
+    ghost use Rattle.mc_protocol.specs.declared.reply.Reply.{Reply};
+    ghost use Rattle.mc_protocol.specs.Commands.{key_of, longest_key};
+
+    /// The step may be taken at that moment with that reply, from one state to the other.
+    ghost took: { Self → KeyStep → ℕ → Reply → Self → Type 0 };
+    /// The unique numbers that the step needs at that moment are spent.
+    ghost spent: { Self → KeyStep → ℕ → Type 0 };
+    /// No step is answered differently by the one than by the other: what they hold is the same,
+    /// though how may differ.
+    ghost same: { Self → Self → Type 0 };
+
+    /// Takes one step on one key. If it isn't taken, what the store holds is the same.
+    fn step(&mut self, alloc: Global, step: &KeyStep<'_>, now: Moment) -> Result<Reply, StepFault>
+        requires { length (key_of step.now) ≤ longest_key }
+        ensures took { IfOk result (λ reply. took self.old step.now now reply self.new) }
+        ensures spent { result ≡ Err StepFault.NumbersSpent → spent self.old step.now now }
+        ensures err { OnErr result (same self.old self.new) };
+
+    /// Takes one step on one key, and has its reply told. A hit is told while its item stands where
+    /// it is, before the step is decided. If the step isn't taken, what the store holds is the
+    /// same.
+    fn step_telling<A: Answer>(
+        &mut self,
+        alloc: Global,
+        step: &KeyStep<'_>,
+        now: Moment,
+        answer: &mut A,
+    ) -> Result<(), Unanswered>
+        requires { length (key_of step.now) ≤ longest_key }
+        ensures told { OnOk result ((reply : Reply) × took self.old step.now now reply self.new
+            × A.told answer.old reply answer.new) }
+        ensures untold { result ≡ Err Unanswered.Untold →
+            (reply : Reply) × took self.old step.now now reply self.new }
+        ensures spent { result ≡ Err Unanswered.NumbersSpent →
+            spent self.old step.now now × same self.old self.new }
+        ensures refused { result ≡ Err Unanswered.NoMemory → same self.old self.new }
+        ensures err { OnErr result (answer.new ≡ answer.old) }
+    {
+        match self.step(alloc, step, now) {
+            Ok(reply) => match answer.reply(&reply) {
+                Ok(()) => Ok(()),
+                Err(_) => Err(Unanswered::Untold),
+            },
+            Err(StepFault::NumbersSpent) => Err(Unanswered::NumbersSpent),
+            Err(StepFault::NoMemory) => Err(Unanswered::NoMemory),
+        }
+    }
+
+    /// A store holds the same as itself.
+    ghost holds_itself: { (store : Self) → same store store };
+}
