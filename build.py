@@ -1,16 +1,18 @@
 #!/usr/bin/env python3
-"""Proves the crates that the program stands on, side by side, and then builds the program: `build.py [CRATE]`
+"""Proves the crates below the program, and then proves and builds the program: `build.py [CRATE]`
 
-`rt` works on one crate of a checkout at a time, with all that is below it. So the crates that the program waits for longest are proved here,
-and the others meanwhile in copies of the sources, which are gone at the end; what was proved lies in each crate's out/ here. A crate that
-stands is passed over. What is done, and a guess at what is left, is printed as it goes. The status is 1 where a crate isn't proved, or
-the program not built; what `rt` printed of it is printed then.
+`rt` works on one crate of a checkout at a time. So each processor has a checkout: this one and copies of the sources, which are removed
+at the end. Each takes the crate whose libraries are proved and whose longest chain of crates above it has the most lines, and lends its
+processors first to that chain. What is proved lies in each crate's out/ here; a crate that is proved already takes a second.
 
-The environment may name JOBS, how many processors are used: all, where it doesn't.
+It prints a line a crate with a guess at what is left, and at a failure what `rt` printed. The status is 0 if the program is built, 1 if a
+crate isn't proved, 2 if there is no `rt`, 128 and the signal's number if a signal ends it. JOBS is the number of processors to use: all,
+if it isn't set.
 """
 import contextlib
 import os
 import shutil
+import signal
 import subprocess
 import sys
 import tempfile
@@ -18,20 +20,15 @@ import threading
 import time
 
 ROOT = os.path.dirname(os.path.realpath(__file__))
-# Of a processor, in seconds, for the order and the guess alone. Another crate counts as the usual one.
-SECONDS = {
-    "mc_slab": 280, "mc_item": 90, "mc_hop": 85, "mc_protocol": 230, "mc_rows": 55, "mc_grow": 175, "mc_reply": 80, "mc_parse": 260,
-    "mc_session": 135, "mc_guests": 300, "mc_shelf": 615, "mc_world": 125, "mc_shared": 520, "mc_workers": 110, "mc_metrics": 115,
-    "mc_options": 155, "mc_host": 65, "mc_sockets": 205, "mc_server": 520, "mc_bench": 355,
-}
-USUAL = 30
 PARTS = ("src", "specs", "proofs")
-# How much less the copies' checks count where there are more of them than processors.
-NICE = 5
+# A program is compiled and linked as well: it costs twice what a library of its size does.
+PROGRAM = 2
+# Processor seconds a line of Rust, before a crate of this build tells better; and how many processors a single crate keeps busy.
+A_LINE, AT_ONCE = 0.15, 1.9
 
 
 def crates_of(root):
-    """The libraries of each crate that are crates here, by crates.txt."""
+    """Returns the crates of crates.txt, each with those of its libraries that are crates of the repository."""
     with open(f"{root}/crates.txt", encoding="utf-8") as lines:
         named = [line.split("#")[0].split(":") for line in lines if ":" in line.split("#")[0]]
     uses = {name.split()[0]: words.split() for name, words in named}
@@ -39,72 +36,89 @@ def crates_of(root):
 
 
 def below(crate, uses):
-    """The crates that a crate stands on, lowest first."""
+    """Returns the crates that a crate stands on, lowest first."""
     found = []
     for it in uses[crate]:
         found += [its for its in [*below(it, uses), it] if its not in found]
     return found
 
 
-def seconds_of(crate):
-    return SECONDS.get(crate, USUAL)
+def lines_of(crate):
+    """Returns a crate's lines of Rust, which its proof's time grows with; a program's count twice."""
+    files = [f"{place}/{it}" for place, _, names in os.walk(f"{ROOT}/crates/{crate}/src") for it in names if it.endswith(".rt")]
+    lines = 0
+    for file in files:
+        with open(file, "rb") as it:
+            lines += sum(1 for _ in it)
+    return lines * (PROGRAM if f"{ROOT}/crates/{crate}/src/main.rt" in files else 1)
 
 
 class Build:
-    """What is proved, what is being proved, and what waits."""
+    """The crates that wait, those that are being proved, and those that are proved."""
 
     def __init__(self, top, jobs):
         self.uses = crates_of(ROOT)
         self.top, self.jobs = top, jobs
         self.waiting = below(top, self.uses)
-        self.all = len(self.waiting) + 1
-        self.done, self.lanes = [], [ROOT]
-        # whether a crate is being proved here
-        self.busy = False
-        self.failed = None
-        self.start = time.monotonic()
+        self.whole = [*self.waiting, top]
+        self.lines = {it: lines_of(it) for it in self.whole}
+        self.chains = {it: self.chain_above(it) for it in self.whole}
+        self.at_work, self.done, self.lanes, self.started = [], [], [ROOT], []
+        self.failed = self.ended = None
+        # Lines and processor seconds of the crates that this build proved.
+        self.proved = [0, 0.0]
         self.turn = threading.Condition()
 
     def chain_above(self, crate):
-        """How long the longest chain is that waits for a crate, with itself."""
-        above = [it for it in [*self.waiting, self.top] if crate in self.uses[it]]
-        return seconds_of(crate) + max((self.chain_above(it) for it in above), default=0)
+        """Returns the lines of the longest chain of crates from this one to the program."""
+        return self.lines[crate] + max((self.chain_above(it) for it in self.whole if crate in self.uses[it]), default=0)
 
-    def next_for(self, lane):
-        """Waits for a crate whose libraries stand, and takes it: here the one that most waits for, in a copy one of the others."""
+    def next_crate(self):
+        """Waits for a crate whose libraries are proved, and takes the one with the longest chain; None if there is none left."""
         with self.turn:
-            while self.waiting and not self.failed:
+            while self.waiting and not self.failed and not self.ended:
                 ready = [it for it in self.waiting if all(low in self.done for low in self.uses[it])]
-                ready.sort(key=self.chain_above, reverse=True)
-                # what the longest chain begins with waits for here, where it has more processors, unless another is being proved here
-                longest = max(map(self.chain_above, self.waiting))
-                if lane != ROOT and not self.busy and ready and self.chain_above(ready[0]) == longest:
-                    ready = ready[1:]
                 if ready:
-                    self.busy = self.busy or lane == ROOT
-                    self.waiting.remove(ready[0])
-                    return ready[0]
+                    crate = max(ready, key=self.chains.get)
+                    self.waiting.remove(crate)
+                    self.at_work.append(crate)
+                    return crate
                 self.turn.wait(1)
         return None
 
+    def run(self, words, lane, crate, **how):
+        """Runs `rt` at a crate, and returns its status, what it printed, and the processor seconds that it took."""
+        # Crates of longer chains go first: 5 steps of niceness for each of them that is being proved.
+        nice = 5 * sum(self.chains[it] > self.chains[crate] for it in self.at_work)
+        with tempfile.TemporaryFile() as said:
+            with self.turn:
+                if self.ended:
+                    return 1, "", 0.0
+                words = ["nice", "-n", str(min(nice, 15)), "rt", *words]
+                ran = subprocess.Popen(words, cwd=f"{lane}/crates/{crate}", stdin=subprocess.DEVNULL, stdout=said, stderr=said, process_group=0, **how)
+                self.started.append(ran)
+            _, status, used = os.wait4(ran.pid, 0)
+            ran.returncode = os.waitstatus_to_exitcode(status)
+            said.seek(0)
+            return ran.returncode, said.read().decode(errors="replace"), used.ru_utime + used.ru_stime
+
     def prove(self, lane):
         """Proves one crate after another in a checkout."""
-        while crate := self.next_for(lane):
-            words = ["rt", "lib", "--jobs", str(self.jobs)] if lane == ROOT else ["nice", "-n", str(NICE), "rt", "lib", "--jobs", "1"]
+        while crate := self.next_crate():
             began = time.monotonic()
-            ran = subprocess.run(words, cwd=f"{lane}/crates/{crate}", stdin=subprocess.DEVNULL, capture_output=True, text=True, errors="replace")
+            status, said, used = self.run(["lib", "--jobs", str(self.jobs)], lane, crate)
             with self.turn:
-                self.busy = self.busy and lane != ROOT
-                if ran.returncode:
-                    self.failed = self.failed or (crate, ran.stdout + ran.stderr)
+                self.at_work.remove(crate)
+                if status:
+                    self.failed = self.failed or (crate, said)
                 else:
                     self.hand_on(crate, lane)
                     self.done.append(crate)
-                    self.tell(crate, time.monotonic() - began)
+                    self.note(crate, time.monotonic() - began, used)
                 self.turn.notify_all()
 
     def hand_on(self, crate, lane):
-        """Puts what was proved into the other checkouts: here all that is kept, in a copy what crates above want of it."""
+        """Puts what was proved into the other checkouts: all of it here, and what crates above read into a copy."""
         for other in self.lanes:
             if other != lane:
                 part = "out" if other == ROOT else "out/rlib"
@@ -112,26 +126,47 @@ class Build:
                 shutil.rmtree(place, ignore_errors=True)
                 shutil.copytree(f"{lane}/crates/{crate}/{part}", place, symlinks=True, copy_function=linked)
 
-    def tell(self, crate, seconds):
-        spent = time.monotonic() - self.start
-        known = sum(map(seconds_of, self.done))
-        left = spent / known * sum(map(seconds_of, [*below(self.top, self.uses), self.top])) - spent
-        print(f"[{len(self.done):2} of {self.all}] {crate:12} proved in {seconds:4.0f} s; some {left / 60:.0f} minutes are left", file=sys.stderr, flush=True)
+    def note(self, crate, seconds, used):
+        """Prints that a crate is proved, and how long the rest may take."""
+        # A crate that was proved before takes a few seconds, and says nothing about the others.
+        if used > self.lines[crate] * A_LINE / 4:
+            self.proved = [self.proved[0] + self.lines[crate], self.proved[1] + used]
+        a_line = (self.proved[1] + 1000 * A_LINE) / (self.proved[0] + 1000)
+        rest = [it for it in self.whole if it not in self.done]
+        at_once = min(AT_ONCE, self.jobs)
+        left = a_line * max(sum(map(self.lines.get, rest)) / self.jobs, max(map(self.chains.get, rest)) / at_once)
+        place = f"{len(self.done):2} of {len(self.whole)}"
+        print(f"[{place}] {crate:12} proved in {seconds:4.0f} s; about {left / 60:.0f} minutes are left", file=sys.stderr, flush=True)
 
-    def run(self):
-        """Proves all below the program, here and in a copy; from four processors on in two."""
+    def prove_libraries(self):
+        """Proves all below the program, in this checkout and in a copy for each further processor, four checkouts at most."""
         with contextlib.ExitStack() as held:
-            for _copy in range(min(self.jobs // 2, 2)):
+            for _ in range(min(self.jobs, 4, len(self.waiting)) - 1):
                 self.lanes.append(copied(held.enter_context(tempfile.TemporaryDirectory(prefix="mcserver-build-"))))
             threads = [threading.Thread(target=self.prove, args=(lane,)) for lane in self.lanes]
-            for it in threads:
-                it.start()
-            for it in threads:
-                it.join()
+            try:
+                for it in threads:
+                    it.start()
+                for it in threads:
+                    it.join()
+            finally:
+                self.end()
+                for it in threads:
+                    it.join()
+
+    def end(self):
+        """Ends all that was started."""
+        with self.turn:
+            self.ended = True
+            for it in self.started:
+                if it.returncode is None:
+                    with contextlib.suppress(ProcessLookupError):
+                        os.killpg(it.pid, signal.SIGTERM)
+            self.turn.notify_all()
 
 
 def linked(one, other):
-    """Copies a file, by a link where that can be made: `rt` replaces what it proved, and changes no file of it."""
+    """Copies a file, by a link if possible: `rt` replaces what it proved, and writes into none of these files."""
     if one.endswith(".oantt") or "/out/rlib/" in one:
         with contextlib.suppress(OSError):
             os.link(one, other)
@@ -140,27 +175,39 @@ def linked(one, other):
 
 
 def copied(place):
-    """Makes a copy of the sources, and of what stands of them."""
+    """Makes a copy of the sources and of the libraries that are proved."""
     for name in ("crates.txt", "HANDLES"):
         shutil.copy(f"{ROOT}/{name}", place)
     for crate in os.listdir(f"{ROOT}/crates"):
         for part in (*PARTS, "out/rlib"):
             if os.path.isdir(f"{ROOT}/crates/{crate}/{part}"):
-                shutil.copytree(f"{ROOT}/crates/{crate}/{part}", f"{place}/crates/{crate}/{part}", symlinks=True)
+                shutil.copytree(f"{ROOT}/crates/{crate}/{part}", f"{place}/crates/{crate}/{part}", symlinks=True, copy_function=linked)
     return place
 
 
 def main(words):
     top = words[0] if words else "mc_server"
+    if not shutil.which("rt"):
+        print("build.py: there is no command rt: README.md says where the toolchain is had", file=sys.stderr)
+        return 2
+    for number in (signal.SIGTERM, signal.SIGHUP):
+        signal.signal(number, lambda number, _: sys.exit(128 + number))
     build = Build(top, int(os.environ.get("JOBS") or len(os.sched_getaffinity(0))))
-    if not os.path.exists(f"{ROOT}/crates/{top}/out/{top}"):
-        build.run()
+    try:
+        build.prove_libraries()
+        build.ended = None
+        if not build.failed:
+            print(f"[{len(build.done):2} of {len(build.whole)}] {top:12} is being proved and built", file=sys.stderr, flush=True)
+            status, said, _ = build.run(["run", "--jobs", str(build.jobs), "--", "--help"], ROOT, top)
+            build.failed = (top, said) if status else None
+    except KeyboardInterrupt:
+        return 130
+    finally:
+        build.end()
     if build.failed:
         crate, said = build.failed
         print(f"{said}build.py: {crate} is not proved", file=sys.stderr)
-        return 1
-    last = subprocess.run(["rt", "run", "--jobs", str(build.jobs), "--", "--help"], cwd=f"{ROOT}/crates/{top}", stdin=subprocess.DEVNULL, stdout=subprocess.DEVNULL)
-    return 1 if last.returncode else 0
+    return 1 if build.failed else 0
 
 
 if __name__ == "__main__":
