@@ -20,7 +20,7 @@ ARGS ?=
 JOBS ?= $(shell nproc)
 MINUTES ?= 30
 
-.PHONY: build bench-build run test check crate rows history fmt bench bench-tcp bench-waiting clean
+.PHONY: build try bench-build run test check crate rows history fmt bench bench-tcp bench-waiting clean
 .PHONY: docs docs-check where test-clients test-scaling test-metrics soak man install uninstall deb is-built thin
 
 # Proves the program and what is below it, and builds it (build.py tells how far it is). It is run once, for --help, which ends it at once. What is
@@ -29,6 +29,10 @@ build:
 	@JOBS=$(JOBS) python3 build.py
 	@printf 'commit %s\ntoolchain %s\n' "$$(git describe --always --dirty 2> /dev/null)" "$$(rt version)" > $(dir $(PROGRAM))BUILD
 	@echo "$(PROGRAM) is proved and built" >&2
+
+# The program unproved, in a minute or two, to try it: out/try/mcserver. Nothing of it is proved, and it is never installed.
+try:
+	@python3 try.py
 
 # The same for the program that is measured and records calls.
 bench-build:
