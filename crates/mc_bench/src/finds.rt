@@ -6,8 +6,8 @@ ghost use Rattle.std.specs.Prelude.{◌≤◌};
 
 use crate::asked::Within;
 use crate::indexes::Indexes;
-use mc_protocol::{Bytes, KeyStep, Reply, Steps, Verb};
 use mc_hop::{Fnv, KeyHash};
+use mc_protocol::{Bytes, KeyStep, Reply, Steps, Verb};
 use mc_shelf::{Settings, Store};
 use mc_testing::Dice;
 use mc_time::Moment;

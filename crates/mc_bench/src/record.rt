@@ -2,8 +2,8 @@
 ghost use Rattle.std.specs.Prelude.{◌≡◌, IfOk};
 
 use crate::call::{Call, KEYS, draw_call, tell_reply};
-use mc_protocol::Reply;
 use mc_hop::Fnv;
+use mc_protocol::Reply;
 use mc_shared::{Caller, Shared};
 use mc_shelf::{Settings, Store};
 use mc_testing::Dice;

@@ -3,8 +3,8 @@ ghost use Rattle.std.specs.Prelude.{◌≡◌, ◌≤◌, length};
 ghost use Rattle.mc_protocol.specs.Commands.{key_of};
 
 use crate::asked::{Crew, Mix, Over, Threaded};
-use mc_protocol::{Bytes, KeyStep, Reply, StepFault, Steps, Verb};
 use mc_hop::Fnv;
+use mc_protocol::{Bytes, KeyStep, Reply, StepFault, Steps, Verb};
 use mc_shared::{Asking, Caller, NoGate, Shared};
 use mc_shelf::{Settings, Store};
 use mc_testing::Dice;

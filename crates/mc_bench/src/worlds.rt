@@ -2,8 +2,8 @@
 ghost use Rattle.std.specs.Prelude.{◌≡◌, [], ◌∷◌, OnOk};
 ghost use Rattle.mc_world.specs.Worlds.{Told};
 
-use mc_protocol::Bytes;
 use mc_hop::{Fnv, KeyHash};
+use mc_protocol::Bytes;
 use mc_shelf::Settings;
 use mc_time::Moment;
 use mc_world::{Event, World};

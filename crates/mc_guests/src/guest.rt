@@ -7,8 +7,8 @@ ghost use Rattle.mc_guests.specs.Visits.{Visited, Does, Writes, Reads};
 
 use crate::link::{Got, Link, LinkFault, Took};
 use crate::tap::Tap;
-use mc_protocol::Steps;
 use mc_parse::FIRST_PIECE;
+use mc_protocol::Steps;
 use mc_session::{Session, Turn};
 use mc_time::Moment;
 use std::alloc::{AllocError, Global};

@@ -10,8 +10,8 @@ ghost use Rattle.mc_parse.specs.Units.{ProtocolUnit};
 ghost use Rattle.mc_parse.specs.Streams.{AreUnits};
 
 use crate::guest::Visit;
-use mc_protocol::Steps;
 use mc_parse::no_spelling_begins_another;
+use mc_protocol::Steps;
 
 /// States that links take the texts of turns, in their order, and nothing else. What a link took
 /// and the output that waits for it, one behind the other, grow with each visit by the text of the

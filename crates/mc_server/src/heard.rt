@@ -1,8 +1,8 @@
 //! Who hears of the steps of a worker.
 
 use crate::metrics::{Counts, counted_as};
-use mc_protocol::KeyStep;
 use mc_guests::{Outcome, Tally};
+use mc_protocol::KeyStep;
 use mc_sockets::Refusals;
 
 /// Has the steps of a worker counted, and the log noted one that is refused as no chunk is left.

@@ -12,8 +12,8 @@ use crate::after_turn::AfterTurn;
 use crate::session::TurnFault;
 use crate::teller::{Asked, Teller};
 use crate::text::{Output, Text};
-use mc_protocol::{Command, LineFault, Steps, Unanswered, step_at, steps_of};
 use mc_parse::Peek;
+use mc_protocol::{Command, LineFault, Steps, Unanswered, step_at, steps_of};
 use mc_time::Moment;
 use std::alloc::Global;
 

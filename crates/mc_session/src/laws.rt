@@ -7,8 +7,8 @@ ghost use Rattle.mc_parse.specs.Feeds.{Unread, settled};
 ghost use Rattle.mc_session.specs.Turns.{SessionState, NoTurnDue, to_read, HasUnits, turns, opened, fed};
 ghost use Rattle.mc_session.specs.Serving.{Run, Course, with_written};
 
-use mc_protocol::Steps;
 use mc_parse::no_spelling_begins_another;
+use mc_protocol::Steps;
 use mc_time::Clock;
 
 /// States that the turns of a run are, in their order, the first turns of the units of what was

@@ -1,7 +1,7 @@
 //! What turns are answered with.
 
-use mc_protocol::{Bytes, Command, LineFault, Reply};
 use mc_parse::{Append, Queue};
+use mc_protocol::{Bytes, Command, LineFault, Reply};
 use mc_reply::{write, write_fault, write_hit, write_plain, write_spent, write_too_long};
 use std::alloc::AllocError;
 

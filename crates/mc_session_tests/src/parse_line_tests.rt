@@ -1,7 +1,7 @@
 //! What lines say, and their first faults.
 
-use mc_protocol::{Command, CommandOf, LineFault};
 use mc_parse::{Noted, lend, line_of};
+use mc_protocol::{Command, CommandOf, LineFault};
 use std::process::Abort;
 use std::test::*;
 

@@ -4,8 +4,8 @@ ghost use Rattle.std.specs.Prelude.{◌≡◌, ◌∷◌, []};
 ghost use Rattle.std.specs.Option.{option_map};
 ghost use Rattle.mc_parse.specs.Peeks.{unit_of};
 
-use mc_protocol::{Command, LineFault, Lone, Verb};
 use mc_parse::{Append, FIRST_PIECE, Feed, Peek, Queue, Source, peek_at};
+use mc_protocol::{Command, LineFault, Lone, Verb};
 use std::alloc::{AllocError, Global};
 use std::test::*;
 

@@ -2,8 +2,8 @@
 
 use crate::sole::{Act, Row, Sole};
 use crate::stores::{MANY, ONE, SOME};
-use mc_protocol::Verb;
 use mc_hop::{Constant, Fnv};
+use mc_protocol::Verb;
 use mc_rows::{Ask, filled_block};
 use mc_shelf::Settings;
 use std::alloc::Global;

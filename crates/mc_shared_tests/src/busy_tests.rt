@@ -2,8 +2,8 @@
 //! again.
 
 use crate::stores::{MANY, ONE, SOME, shared_store};
-use mc_protocol::{Bytes, KeyStep, Reply, StepFault};
 use mc_hop::Fnv;
+use mc_protocol::{Bytes, KeyStep, Reply, StepFault};
 use mc_rows::told_of;
 use mc_shared::{Caller, Gate, Shared, TryFault};
 use mc_shelf::Settings;

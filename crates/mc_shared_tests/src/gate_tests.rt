@@ -2,8 +2,8 @@
 
 use crate::stores::{SOME, shared_store};
 use crate::trial::Trial;
-use mc_protocol::{Answer, Bytes, Reply, Steps, Verb};
 use mc_hop::Fnv;
+use mc_protocol::{Answer, Bytes, Reply, Steps, Verb};
 use mc_rows::{Ask, step_of};
 use mc_shared::{Asking, Gate};
 use mc_time::Moment;

@@ -3,8 +3,8 @@
 ghost use Rattle.std.specs.Prelude.{◌≡◌, IfOk};
 
 use crate::stores::{SOME, stepped};
-use mc_protocol::Verb;
 use mc_hop::Constant;
+use mc_protocol::Verb;
 use mc_rows::{Ask, ask_step, step_of, told_of};
 use mc_shared::{Caller, Shared};
 use mc_shelf::Store;

@@ -6,9 +6,9 @@ ghost use Rattle.mc_shared.specs.Past.{start, spent};
 ghost use Rattle.mc_laws.specs.Laws.{Found, hit, IsNoOlder, HasDrawnNumbers, Call, PlainAnswers};
 ghost use Rattle.mc_laws.specs.Together.{IsMixOf};
 
-use mc_protocol::{Bytes, KeyStep, Reply, StepFault, Verb};
 use mc_hop::{Fnv, KeyHash};
 use mc_laws::{a_cas_is_of_what_was_read, callers_share_a_plain_store, no_read_goes_back};
+use mc_protocol::{Bytes, KeyStep, Reply, StepFault, Verb};
 use mc_rows::{Ask, Want, is_wanted, step_of};
 use mc_shared::{Caller, Shared};
 use mc_shelf::Settings;

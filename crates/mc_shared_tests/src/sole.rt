@@ -2,8 +2,8 @@
 //! is refused it asks again.
 
 use crate::stores::empty_store;
-use mc_protocol::{Reply, StepFault, Verb};
 use mc_hop::KeyHash;
+use mc_protocol::{Reply, StepFault, Verb};
 use mc_rows::{Ask, step_of, told_of};
 use mc_shared::{Caller, Shared};
 use mc_shelf::Settings;

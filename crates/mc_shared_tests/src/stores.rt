@@ -3,8 +3,8 @@
 ghost use Rattle.std.specs.Prelude.{◌≡◌, ◌≤◌, IfOk, length};
 ghost use Rattle.mc_protocol.specs.Commands.{key_of};
 
-use mc_protocol::{KeyStep, Reply, StepFault, Verb};
 use mc_hop::{Fnv, KeyHash};
+use mc_protocol::{KeyStep, Reply, StepFault, Verb};
 use mc_rows::{Ask, ask_step, step_of};
 use mc_shared::{Caller, CloseFault, Shared};
 use mc_shelf::{Settings, Store};

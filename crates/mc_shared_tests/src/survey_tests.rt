@@ -4,8 +4,8 @@ ghost use Rattle.std.specs.Prelude.{◌≡◌};
 
 use crate::sole::{Act, Row, Sole};
 use crate::stores::{MANY, ONE, SOME};
-use mc_protocol::Verb;
 use mc_hop::Fnv;
+use mc_protocol::Verb;
 use mc_rows::{Ask, filled_block};
 use mc_shared::{Caller, Shared};
 use mc_shelf::{Settings, ShelfCounts};

@@ -1,8 +1,8 @@
 //! Replies that are told, as one caller hears them. If an allocation is refused it asks again.
 
 use crate::stores::{LARGE, SOME, shared_store};
-use mc_protocol::{Answer, Block, Bytes, KeyStep, Reply, StepFault, Steps, Unanswered, Verb};
 use mc_hop::Fnv;
+use mc_protocol::{Answer, Block, Bytes, KeyStep, Reply, StepFault, Steps, Unanswered, Verb};
 use mc_rows::{Ask, Row, Want, filled_block, first_unlike, set, step_of};
 use mc_shared::{Asking, NoGate};
 use mc_time::Moment;

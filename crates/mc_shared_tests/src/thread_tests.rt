@@ -3,8 +3,8 @@
 ghost use Rattle.std.specs.Prelude.{◌≡◌};
 
 use crate::stores::{SOME, closed, empty_store, shared_store, stepped};
-use mc_protocol::{Reply, StepFault, Verb};
 use mc_hop::{Constant, Fnv, KeyHash};
+use mc_protocol::{Reply, StepFault, Verb};
 use mc_rows::{Ask, ask_step, filled_block, step_of, told_of};
 use mc_shared::{Caller, Shared};
 use mc_shelf::Settings;

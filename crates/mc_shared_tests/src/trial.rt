@@ -1,8 +1,8 @@
 //! A store with the caller that asks it.
 
 use crate::stores::{SOME, closed, last_store, shared_store};
-use mc_protocol::{KeyStep, Reply, StepFault, Steps};
 use mc_hop::Fnv;
+use mc_protocol::{KeyStep, Reply, StepFault, Steps};
 use mc_shared::{Caller, Shared};
 use mc_shelf::{Settings, Store};
 use mc_time::Moment;

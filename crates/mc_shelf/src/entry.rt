@@ -8,9 +8,9 @@ ghost use Rattle.mc_protocol.specs.Words.{is_space};
 ghost use Rattle.mc_protocol.specs.Plain.{charge, item_need, number_of};
 ghost use Rattle.mc_shelf.specs.States.{charge_in, entry_in, entry_with, parts_of};
 
-use mc_protocol::{Standing, number_of};
 use mc_hop::Keyed;
 use mc_item::{Head, Item, Parts};
+use mc_protocol::{Standing, number_of};
 use mc_slab::{Chunks, Need};
 use mc_time::{Expiry, Moment};
 use std::alloc::AllocError;

@@ -7,8 +7,8 @@
 use crate::aside::laid_aside;
 use crate::seen::{account, dead_chunks};
 use crate::stores::set_up;
-use mc_protocol::Verb;
 use mc_hop::Constant;
+use mc_protocol::Verb;
 use mc_rows::{Ask, ask_step, filled_block, step_of, told_of};
 use mc_shelf::{Settings, Store, StoreParts};
 use mc_slab::Chunks;

@@ -3,8 +3,8 @@
 use crate::lengths::{ByLength, front};
 use crate::seen::{counts, dead_chunks, keys};
 use crate::stores::open_with;
-use mc_protocol::Verb;
 use mc_hop::{Constant, KeyHash};
+use mc_protocol::Verb;
 use mc_rows::{Ask, Row, Want, ask_step, filled_block, first_unlike, set, step_of};
 use mc_shelf::{Shelf, Store};
 use mc_time::Moment;

@@ -5,8 +5,8 @@
 use crate::seen::account;
 use crate::store_tests::answers;
 use crate::stores::open;
-use mc_protocol::{Bytes, KeyStep, Reply, Verb};
 use mc_hop::Fnv;
+use mc_protocol::{Bytes, KeyStep, Reply, Verb};
 use mc_rows::{Ask, Row, Want, ask_step, filled_block, set};
 use mc_shelf::Store;
 use mc_time::Moment;

@@ -7,8 +7,8 @@ ghost use Rattle.mc_shelf.specs.States.{CanStandAt};
 ghost use Rattle.mc_shelf.specs.Plans.{CanLook, StepTaken};
 
 use crate::seen::account_at;
-use mc_protocol::{KeyStep, Reply, StepFault, Steps};
 use mc_hop::{Fnv, KeyHash};
+use mc_protocol::{KeyStep, Reply, StepFault, Steps};
 use mc_rows::{Row, ask_step, is_wanted, step_of};
 use mc_shelf::{Begun, Brought, Desk, Shelf, Store, StoreParts};
 use mc_time::Moment;

@@ -5,8 +5,8 @@
 use crate::parted::{Both, goes_alike};
 use crate::seen::{account, may_have_dead, remade};
 use crate::stores::{open, open_with, set_up};
-use mc_protocol::{Steps, Verb};
 use mc_hop::{Constant, Fnv};
+use mc_protocol::{Steps, Verb};
 use mc_rows::{Ask, Row, Want, ask_step, filled_block, first_unlike, set, step_of, told_of};
 use mc_shelf::{Settings, Store};
 use mc_time::Moment;

@@ -1,8 +1,8 @@
 //! Stores that are refused as no chunk is left, of which one line a minute tells.
 
 use crate::log::Log;
-use mc_protocol::{KeyStep, Verb};
 use mc_guests::{Outcome, Tally};
+use mc_protocol::{KeyStep, Verb};
 use std::sync::atomic::{AtomicU64, Ordering};
 
 /// How many bytes an item takes beside its key and its block.

@@ -4,9 +4,9 @@ ghost use Rattle.std.specs.Prelude.{◌≡◌, ◌%◌};
 ghost use Rattle.mc_workers.specs.Tending.{tidied_at_once, Tidied};
 
 use crate::tending::Tending;
-use mc_protocol::{Answer, Bytes, KeyStep, Reply, StepFault, Steps, Unanswered};
 use mc_guests::{Outcome, Tally};
 use mc_hop::KeyHash;
+use mc_protocol::{Answer, Bytes, KeyStep, Reply, StepFault, Steps, Unanswered};
 use mc_shared::Gate;
 use mc_time::Moment;
 use std::alloc::{AllocError, Global};

@@ -6,8 +6,8 @@ ghost use Rattle.mc_shared.specs.History.{start_of, Purged};
 ghost use Rattle.mc_shared.specs.Steps.{Agrees};
 ghost use Rattle.mc_workers.specs.Tending.{asked_by, in_turn, tidied_at_once, Tidied};
 
-use mc_protocol::{Answer, KeyStep, Reply, StepFault, Steps, Unanswered};
 use mc_hop::KeyHash;
+use mc_protocol::{Answer, KeyStep, Reply, StepFault, Steps, Unanswered};
 use mc_shared::{Asking, Caller, Gate, Shared};
 use mc_time::Moment;
 use std::alloc::Global;

@@ -3,9 +3,9 @@
 ghost use Rattle.std.specs.Prelude.{◌≡◌};
 
 use crate::held::{HeldLink, HeldLinks, Seen};
-use mc_protocol::Verb;
 use mc_guests::NoTally;
 use mc_hop::Fnv;
+use mc_protocol::Verb;
 use mc_rows::{Ask, filled_block, step_of, told_of};
 use mc_shared::{Caller, NoGate, Shared};
 use mc_shelf::Settings;

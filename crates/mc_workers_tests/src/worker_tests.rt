@@ -1,9 +1,9 @@
 //! Workers over links in memory, in one thread.
 
 use crate::held::{HeldLink, HeldLinks, Seen};
-use mc_protocol::{KeyStep, Reply, StepFault};
 use mc_guests::WorkEnd;
 use mc_hop::Fnv;
+use mc_protocol::{KeyStep, Reply, StepFault};
 use mc_rows::{Ask, step_of};
 use mc_shared::{NoGate, Shared};
 use mc_shelf::{Settings, Store};

@@ -1,7 +1,7 @@
 use crate::event::Event;
 use crate::world::World;
-use mc_protocol::Bytes;
 use mc_hop::KeyHash;
+use mc_protocol::Bytes;
 use mc_session::{Endpoint, Turn};
 use mc_time::Moment;
 use std::alloc::{AllocError, Global};

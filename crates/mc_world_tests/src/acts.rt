@@ -1,8 +1,8 @@
 //! Events that a table of a test may have.
 
 use crate::worlds::run;
-use mc_protocol::Bytes;
 use mc_hop::Fnv;
+use mc_protocol::Bytes;
 use mc_time::Moment;
 use mc_world::{Event, World};
 use std::alloc::{AllocError, Global};

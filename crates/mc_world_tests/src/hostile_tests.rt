@@ -3,8 +3,8 @@
 
 use crate::told::{answers, answers_and_grows, is_told};
 use crate::worlds::{opened, run, take_turns};
-use mc_protocol::Bytes;
 use mc_hop::{Constant, Fnv};
+use mc_protocol::Bytes;
 use mc_shelf::Settings;
 use mc_time::Moment;
 use mc_world::{Event, World};

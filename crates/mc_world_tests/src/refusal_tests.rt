@@ -6,8 +6,8 @@
 ghost use Rattle.std.specs.Prelude.{◌≤◌};
 
 use crate::texts::{get_of, hit_of, set_of};
-use mc_protocol::Bytes;
 use mc_hop::{Constant, Fnv, KeyHash};
+use mc_protocol::Bytes;
 use mc_shelf::Settings;
 use mc_time::Moment;
 use mc_world::{Event, Refused, World};

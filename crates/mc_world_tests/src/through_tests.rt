@@ -4,8 +4,8 @@
 use crate::texts::{HIT, MISS, get_of, hit_of, large_set, set_of};
 use crate::told::{is_told, second_finds};
 use crate::worlds::{opened_twice, run, world, world_of};
-use mc_protocol::Bytes;
 use mc_hop::{Constant, Fnv, KeyHash};
+use mc_protocol::Bytes;
 use mc_world::{Event, World};
 use std::alloc::{AllocError, Global};
 use std::process::Abort;

@@ -1,8 +1,8 @@
 //! What sessions are told, compared.
 
 use crate::worlds::{ask, run};
-use mc_protocol::Bytes;
 use mc_hop::{Constant, Fnv, KeyHash};
+use mc_protocol::Bytes;
 use mc_world::{Event, World};
 use std::alloc::Global;
 use std::process::Abort;

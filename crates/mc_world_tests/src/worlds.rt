@@ -3,8 +3,8 @@
 ghost use Rattle.std.specs.Prelude.{◌≤◌};
 
 use crate::set_ups::SOME;
-use mc_protocol::Bytes;
 use mc_hop::{Fnv, KeyHash};
+use mc_protocol::Bytes;
 use mc_shelf::Settings;
 use mc_time::Moment;
 use mc_world::{Event, World};

@@ -2,9 +2,9 @@
 ghost use Rattle.std.specs.Prelude.{◌≡◌};
 ghost use Rattle.mc_server.specs.Counting.{counted_as, ways_of};
 
-use mc_protocol::KeyStep;
 use mc_guests::Outcome;
 use mc_metrics::Counted;
+use mc_protocol::KeyStep;
 
 /// Says as what a step counts that came out so. One that was too large, and one on what is no number,
 /// count as nothing.
