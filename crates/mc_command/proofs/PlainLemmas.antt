@@ -9,12 +9,13 @@ use Rattle.mc_protocol.specs.Plain.{Plain, Entry, alive, standing}
 use Rattle.std.specs.BTreeMap.{insert_entry, is_at}
 use Rattle.std.specs.Map.{set_value}
 use Rattle.mc_slab.specs.Needs.{NeedState}
-use Rattle.mc_protocol.specs.Steps.{needs_this}
+use Rattle.mc_command.specs.Steps.{needs_this}
 use Rattle.std.specs.declared.vec.Vec.{Vec}
 use Rattle.std.specs.declared.alloc.Global.{Global}
-use Rattle.mc_protocol.specs.Accounts.{dead_item}
-use Rattle.mc_protocol.specs.Items.{items_of}
-use Rattle.mc_protocol.proofs.ItemLemmas.{Entries, key_cmp, bytes_cmp, item_at, items_of-set_value, items_of-insert_entry}
+use Rattle.mc_command.specs.Accounts.{dead_item}
+use Rattle.mc_command.specs.Items.{items_of}
+use Rattle.mc_command.proofs.ItemLemmas.{Entries, key_cmp, item_at, items_of-set_value, items_of-insert_entry}
+use Rattle.mc_protocol.proofs.ItemLemmas.{bytes_cmp}
 
 -- an item that stands is in the map
 alive-some : (cut : Option ℕ) (now : ℕ) (o : Option Entry) (item : Entry) → alive cut now o ≡ Some item → o ≡ Some item

@@ -9,15 +9,13 @@ ghost use Rattle.std.specs.Prelude.{◌≡◌, ◌≤◌, length, Err, IfOk, OnE
 ghost use Rattle.std.specs.Option.{option_copied};
 ghost use Rattle.std.specs.FinMap.{get, remove};
 ghost use Rattle.mc_protocol.specs.Commands.{key_of, longest_key};
-ghost use Rattle.mc_protocol.specs.Steps.{Ends, found, applied, reading};
+ghost use Rattle.mc_command.specs.Steps.{Ends, found, applied, reading};
 ghost use Rattle.mc_protocol.specs.Plain.{opening, starting, plain, stepped, standing, expiring, hit_of, living, Answered, Spent, CopiesBlock, MayFail};
 
 use crate::plain::item::Item;
 pub use crate::plain::purge::KeyTest;
 use crate::plain::room::CLASSES;
-use crate::reply::Reply;
-use crate::row::{Row, row_of};
-use crate::step::{KeyStep, StepFault, Steps};
+use mc_protocol::{KeyStep, Reply, Row, StepFault, Steps, row_of};
 use mc_time::{Expiry, Moment, cut_after};
 use std::alloc::{AllocError, Global};
 use std::collections::BTreeMap;
@@ -38,8 +36,8 @@ pub struct PlainStore {
 
 impl Model for PlainStore {
     ghost use Rattle.mc_protocol.specs.Plain.{Plain, coded_plain};
-    ghost use Rattle.mc_protocol.specs.Items.{items_of};
-    ghost use Rattle.mc_protocol.specs.Accounts.{AreCounted};
+    ghost use Rattle.mc_command.specs.Items.{items_of};
+    ghost use Rattle.mc_command.specs.Accounts.{AreCounted};
 
     ghost Value = { Plain };
 

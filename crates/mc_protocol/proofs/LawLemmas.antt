@@ -268,3 +268,12 @@ flushed_dead old new delay now later reply item some is come before =
     let b : ltb item.updated (moment_named delay now) ≡ true = lt-ltb _ _ before in
     let dead : is_dead item.expiry item.updated new.cut later ≡ true = rw (cut, a, b) (or_true (is_expired item.expiry later)) in
     ap (λ (t : Bool). cond t None (Some item)) dead
+
+-- what is left once a dead item is dropped
+pub found-greatest : (item : Option Entry) (key : List ℕ) (old : Plain) → (without_dead item key old).greatest ≡ old.greatest
+found-greatest None key old = refl
+found-greatest (Some item) key old = refl
+
+pub found-next : (item : Option Entry) (key : List ℕ) (old : Plain) → (without_dead item key old).next_unique ≡ old.next_unique
+found-next None key old = refl
+found-next (Some item) key old = refl

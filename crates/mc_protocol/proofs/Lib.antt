@@ -3,7 +3,5 @@ pub mod WordLemmas
 pub mod ItemLemmas
 pub mod LawLemmas
 pub mod CountLemmas
-pub mod RoomLemmas
-pub mod WriteLemmas
 pub mod PageLemmas
 pub mod RefusalLemmas

@@ -4,8 +4,5 @@ pub mod Lones
 pub mod Commands
 pub mod Plain
 pub mod Rows
-pub mod Accounts
-pub mod Items
 pub mod Laws
-pub mod Steps
 pub mod Purge

@@ -1,4 +1,4 @@
-//! Commands as they are lent, their steps on keys, the replies, and the plain store.
+//! Commands as they are lent, their steps on keys, the replies, and the plain machine.
 //!
 //! This is the protocol without its bytes: memcached's doc/protocol.txt as types, and as a machine
 //! that takes one step on one key. All stores are proved to do what it does, so it is short, and
@@ -14,14 +14,11 @@
 //! [`Steps`] is the seam of the program: above it sessions and workers, which ask steps of any
 //! store; below it the stores. An implementation says by ghost members which replies a step may
 //! have, when its numbers are spent, and which of its states are the same, and no more is asked of
-//! it. [`Answer`] takes a reply, and a hit's block where it lies. [`PlainStore`] is the machine
-//! itself over an ordered map, which faster stores are compared with.
+//! it. [`Answer`] takes a reply, and a hit's block where it lies. The machine itself, as a store
+//! over an ordered map, is `PlainStore` of the crate `mc_command`, on which tests stand alone.
 //!
-//! Contracts promise of the plain store exactly the machine's reply and the state after it: the
-//! memory error exactly if no chunk is left, and spent numbers exactly if the machine is out of
-//! them. A step that isn't taken, for want of the host's memory or of a number, leaves the store as
-//! it was. The laws say what follows of the definitions: that a step on one key changes no other,
-//! that the dead stay dead, that a flush leaves nothing that it was to drop.
+//! The laws say what follows of the definitions: that a step on one key changes no other, that the
+//! dead stay dead, that a flush leaves nothing that it was to drop.
 //!
 //! Begin with `src/command.rt`, `specs/Plain.antt` and `src/row.rt`.
 #![tactic(auto)]

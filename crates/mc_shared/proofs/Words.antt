@@ -50,7 +50,7 @@ pub use Rattle.std.proofs.lemmas.List.{append-nil}
 pub use prog.Atomic.{either}
 pub use Rattle.atomic_table.proofs.Lists.{at_set, set_here}
 pub use Rattle.mc_protocol.specs.declared.row.Row.{Row}
-pub use Rattle.mc_protocol.proofs.WriteLemmas.{found-next}
+pub use Rattle.mc_protocol.proofs.LawLemmas.{found-next}
 pub use Rattle.mc_protocol.specs.declared.row.Body.TheVariants.{Counted}
 pub use Rattle.std.proofs.lemmas.Nat.{same_from_place, mul-add-lt, div_below, mod_below}
 pub use Rattle.atomic_table.specs.Seated.{TableId}

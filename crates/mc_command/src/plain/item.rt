@@ -3,12 +3,9 @@ ghost use Rattle.mc_time.specs.Death as death;
 ghost use Rattle.mc_slab.specs.Classes.{IsClass};
 ghost use Rattle.mc_slab.specs.Needs.{IsNeed, need_of, need_for};
 ghost use Rattle.mc_protocol.specs.Plain.{charge, chunk_head, chunks_in, item_need};
-ghost use Rattle.mc_protocol.specs.Steps.{made};
+ghost use Rattle.mc_command.specs.Steps.{made};
 
-use crate::block::Block;
-use crate::number::number_of;
-use crate::reply::Reply;
-use crate::row::{Body, Draft, Standing};
+use mc_protocol::{Block, Body, Draft, Reply, Standing, number_of};
 use mc_slab::{Class, Need};
 use mc_time::{Expiry, Moment};
 use std::alloc::{AllocError, Global};
@@ -65,7 +62,7 @@ pub(crate) struct LentWrite<'a> {
 
 impl<'a> Model for LentWrite<'a> {
     ghost use Rattle.std.specs.Prelude.{◌++◌};
-    ghost use Rattle.mc_protocol.specs.declared.plain.item.Written.{Written};
+    ghost use Rattle.mc_command.specs.declared.plain.item.Written.{Written};
 
     ghost Value = { Written };
 

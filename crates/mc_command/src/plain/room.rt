@@ -6,9 +6,9 @@ ghost use Rattle.std.specs.Prelude.{◌≡◌, ◌+◌, ◌-◌, ◌*◌, ◌^�
 ghost use Rattle.mc_slab.specs.Classes.{IsClass};
 ghost use Rattle.mc_protocol.specs.Plain.{class_count, count_of, pages_of, chunks_of, unused, has_room, standing};
 ghost use Rattle.mc_protocol.specs.Laws.{of_class};
-ghost use Rattle.mc_protocol.specs.Accounts.{dead_item};
-ghost use Rattle.mc_protocol.specs.Items.{items_of};
-ghost use Rattle.mc_protocol.specs.Steps.{found, paged};
+ghost use Rattle.mc_command.specs.Accounts.{dead_item};
+ghost use Rattle.mc_command.specs.Items.{items_of};
+ghost use Rattle.mc_command.specs.Steps.{found, paged};
 
 use crate::plain::PlainStore;
 use crate::plain::item::Item;

@@ -7,15 +7,13 @@ ghost use Rattle.std.specs.Option.{option_copied};
 ghost use Rattle.mc_slab.specs.Needs.{IsNeed};
 ghost use Rattle.mc_protocol.specs.Commands.{longest_key};
 ghost use Rattle.mc_protocol.specs.Plain.{charge, block_need, has_room, keeps_chunk, written_block, CopiesBlock};
-ghost use Rattle.mc_protocol.specs.Steps.{Ends, Prepares, IsReady, StaysIn, needs_this, same_needs};
-ghost use Rattle.mc_protocol.specs.Steps.{number_in, block_in, found, drafting, writing, rewritten, placed, done};
+ghost use Rattle.mc_command.specs.Steps.{Ends, Prepares, IsReady, StaysIn, needs_this, same_needs};
+ghost use Rattle.mc_command.specs.Steps.{number_in, block_in, found, drafting, writing, rewritten, placed, done};
 
 use crate::plain::PlainStore;
 use crate::plain::item::{Item, LentWrite, Written, lend_write};
-use crate::reply::Reply;
-use crate::row::{Body, Draft};
-use crate::step::StepFault;
 use itoa::Buffer;
+use mc_protocol::{Body, Draft, Reply, StepFault};
 use mc_slab::Need;
 use mc_time::Moment;
 use std::alloc::{AllocError, Global};

@@ -2,8 +2,8 @@ use Rattle.std.proofs.Common.{ℕ, List, ap, subst, sym, ◌∙◌}
 use Rattle.mc_protocol.specs.declared.row.Row.{Row}
 use Rattle.mc_protocol.specs.Commands.{key_of}
 use Rattle.mc_protocol.specs.Plain.{Outcome}
-use Rattle.mc_protocol.specs.Steps.{Ends, applied, drafting}
-use Rattle.mc_protocol.proofs.plain.PlainStore.apply.Goals as goal
+use Rattle.mc_command.specs.Steps.{Ends, applied, drafting}
+use Rattle.mc_command.proofs.plain.PlainStore.apply.Goals as goal
 
 pub returns-in-Writes : goal.returns-in-Writes
 returns-in-Writes c =

@@ -2,9 +2,9 @@ use Rattle.std.proofs.Common.{◌≡◌, Option, Some, None, ap, sym, ◌∙◌}
 use Rattle.std.specs.FinMap.{get}
 use Rattle.mc_protocol.specs.Plain.{Entry}
 use Rattle.mc_protocol.specs.Laws.{of_class}
-use Rattle.mc_protocol.proofs.ItemLemmas.{get-items_of}
-use Rattle.mc_protocol.proofs.PlainLemmas.{dead-is, dead-none}
-use Rattle.mc_protocol.proofs.plain.PlainStore.dead_chunks.Goals as goal
+use Rattle.mc_command.proofs.ItemLemmas.{get-items_of}
+use Rattle.mc_command.proofs.PlainLemmas.{dead-is, dead-none}
+use Rattle.mc_command.proofs.plain.PlainStore.dead_chunks.Goals as goal
 
 pub returns-then-is_some-clause-value : goal.returns-then-is_some-clause-value
 returns-then-is_some-clause-value c =

@@ -1,8 +1,8 @@
 use Rattle.std.proofs.Common.{Option, ap}
 use Rattle.mc_protocol.specs.Plain.{Entry, expiring}
-use Rattle.mc_protocol.specs.Steps.{found}
-use Rattle.mc_protocol.proofs.WriteLemmas.{found-get}
-use Rattle.mc_protocol.proofs.plain.PlainStore.expire.Goals as goal
+use Rattle.mc_command.specs.Steps.{found}
+use Rattle.mc_command.proofs.WriteLemmas.{found-get}
+use Rattle.mc_command.proofs.plain.PlainStore.expire.Goals as goal
 
 pub returns : goal.returns
 returns c =

@@ -1,7 +1,7 @@
 use Rattle.std.proofs.Common.{◌+◌, ap, refl}
-use Rattle.mc_protocol.proofs.PlainLemmas.{items_of-put}
-use Rattle.mc_protocol.proofs.RoomLemmas.{shown}
-use Rattle.mc_protocol.proofs.plain.PlainStore.insert.Goals as goal
+use Rattle.mc_command.proofs.PlainLemmas.{items_of-put}
+use Rattle.mc_command.proofs.RoomLemmas.{shown}
+use Rattle.mc_command.proofs.plain.PlainStore.insert.Goals as goal
 
 pub returns-clause-ok : goal.returns-clause-ok
 returns-clause-ok c =

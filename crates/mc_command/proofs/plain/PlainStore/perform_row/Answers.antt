@@ -1,9 +1,9 @@
 use Rattle.std.proofs.Common.{ℕ, List, Option, ap, subst, ◌∙◌}
 use Rattle.mc_protocol.specs.declared.row.Row.{Row}
 use Rattle.mc_protocol.specs.Plain.{Entry, row_of, standing}
-use Rattle.mc_protocol.specs.Steps.{Ends, applied}
-use Rattle.mc_protocol.proofs.WriteLemmas.{stands-is}
-use Rattle.mc_protocol.proofs.plain.PlainStore.perform_row.Goals as goal
+use Rattle.mc_command.specs.Steps.{Ends, applied}
+use Rattle.mc_command.proofs.WriteLemmas.{stands-is}
+use Rattle.mc_command.proofs.plain.PlainStore.perform_row.Goals as goal
 
 pub returns : goal.returns
 returns c =

@@ -1,10 +1,10 @@
 use Rattle.std.proofs.Common.{◌≡◌, Err, ap, sym, ◌∙◌, rules}
-use Rattle.mc_protocol.specs.declared.plain.item.Written.{Written}
+use Rattle.mc_command.specs.declared.plain.item.Written.{Written}
 use Rattle.mc_protocol.specs.declared.step.StepFault.TheVariants.{NoMemory}
 use Rattle.mc_protocol.specs.Plain.{Answered}
-use Rattle.mc_protocol.specs.Steps.{placed}
-use Rattle.mc_protocol.proofs.WriteLemmas.{write-full, write-placed, Prepares-refused, need-by}
-use Rattle.mc_protocol.proofs.plain.PlainStore.prepare.Goals as goal
+use Rattle.mc_command.specs.Steps.{placed}
+use Rattle.mc_command.proofs.WriteLemmas.{write-full, write-placed, Prepares-refused, need-by}
+use Rattle.mc_command.proofs.plain.PlainStore.prepare.Goals as goal
 
 pub returns-then-not-has_room : goal.returns-then-not-has_room
 returns-then-not-has_room c = record {

@@ -1,9 +1,9 @@
 use Rattle.std.proofs.Common.{ap, ◌∙◌, rules}
 use Rattle.std.proofs.lemmas.Map.Made.{filter_same_pairs}
-use Rattle.mc_protocol.specs.Items.{items_of}
-use Rattle.mc_protocol.proofs.ItemLemmas.{items_of-purged, stays}
-use Rattle.mc_protocol.proofs.RoomLemmas.{shown}
-use Rattle.mc_protocol.proofs.plain.PlainStore.purge.Goals as goal
+use Rattle.mc_command.specs.Items.{items_of}
+use Rattle.mc_command.proofs.ItemLemmas.{items_of-purged, stays}
+use Rattle.mc_command.proofs.RoomLemmas.{shown}
+use Rattle.mc_command.proofs.plain.PlainStore.purge.Goals as goal
 
 pub returns : goal.returns
 returns g c =

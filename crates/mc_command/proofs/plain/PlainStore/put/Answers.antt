@@ -1,10 +1,10 @@
 use Rattle.std.proofs.Common.{◌≤◌, ◌-◌, ℕ, List, sum, ap, sym, subst, ◌∙◌}
 use Rattle.mc_slab.specs.Needs.{NeedState}
 use Rattle.mc_protocol.specs.Plain.{Plain, standing, unused, with_chunk}
-use Rattle.mc_protocol.specs.Steps.{found, paged, rewritten}
+use Rattle.mc_command.specs.Steps.{found, paged, rewritten}
 use Rattle.mc_protocol.proofs.PageLemmas.{pages-left}
-use Rattle.mc_protocol.proofs.RoomLemmas.{found-room, put-by}
-use Rattle.mc_protocol.proofs.plain.PlainStore.put.Goals as goal
+use Rattle.mc_command.proofs.RoomLemmas.{found-room, put-by}
+use Rattle.mc_command.proofs.plain.PlainStore.put.Goals as goal
 
 pub add_pages-requires : goal.add_pages-requires
 add_pages-requires c =

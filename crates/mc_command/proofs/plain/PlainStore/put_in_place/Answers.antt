@@ -2,12 +2,12 @@ use Rattle.std.proofs.Common.{◌+◌, sym, subst, ap}
 use Rattle.std.specs.Prelude.{IsSome, IsTrue}
 use Rattle.std.specs.FinMap.{get}
 use Rattle.mc_protocol.specs.Plain.{Plain, Entry, block_need}
-use Rattle.mc_protocol.specs.Items.{items_of}
-use Rattle.mc_protocol.specs.Steps.{needs_this}
-use Rattle.mc_protocol.proofs.ItemLemmas.{item_at, get-items_of}
-use Rattle.mc_protocol.proofs.PlainLemmas.{items_of-set, needs_this-some, is_some-copied}
-use Rattle.mc_protocol.proofs.RoomLemmas.{shown}
-use Rattle.mc_protocol.proofs.plain.PlainStore.put_in_place.Goals as goal
+use Rattle.mc_command.specs.Items.{items_of}
+use Rattle.mc_command.specs.Steps.{needs_this}
+use Rattle.mc_command.proofs.ItemLemmas.{item_at, get-items_of}
+use Rattle.mc_command.proofs.PlainLemmas.{items_of-set, needs_this-some, is_some-copied}
+use Rattle.mc_command.proofs.RoomLemmas.{shown}
+use Rattle.mc_command.proofs.plain.PlainStore.put_in_place.Goals as goal
 
 pub unwrap-item-requires : goal.unwrap-item-requires
 unwrap-item-requires c =

@@ -1,7 +1,7 @@
 use Rattle.std.proofs.Common.{ap}
-use Rattle.mc_protocol.proofs.ItemLemmas.{items_of-removed}
-use Rattle.mc_protocol.proofs.RoomLemmas.{shown}
-use Rattle.mc_protocol.proofs.plain.PlainStore.remove.Goals as goal
+use Rattle.mc_command.proofs.ItemLemmas.{items_of-removed}
+use Rattle.mc_command.proofs.RoomLemmas.{shown}
+use Rattle.mc_command.proofs.plain.PlainStore.remove.Goals as goal
 
 pub returns : goal.returns
 returns c =

@@ -1,10 +1,10 @@
 use Rattle.std.proofs.Common.{sym, refl}
 use Rattle.mc_protocol.specs.Plain.{Plain}
-use Rattle.mc_protocol.specs.Items.{items_of}
-use Rattle.mc_protocol.proofs.ItemLemmas.{expiring-is, expiring-none}
-use Rattle.mc_protocol.proofs.RoomLemmas.{shown}
-use Rattle.mc_protocol.proofs.plain.PlainStore.set_expiry.Goals as goal
-use Rattle.mc_protocol.proofs.plain.PlainStore.set_expiry.Goals.{in-Some, in_default}
+use Rattle.mc_command.specs.Items.{items_of}
+use Rattle.mc_command.proofs.ItemLemmas.{expiring-is, expiring-none}
+use Rattle.mc_command.proofs.RoomLemmas.{shown}
+use Rattle.mc_command.proofs.plain.PlainStore.set_expiry.Goals as goal
+use Rattle.mc_command.proofs.plain.PlainStore.set_expiry.Goals.{in-Some, in_default}
 
 pub returns : goal.returns
 returns c =

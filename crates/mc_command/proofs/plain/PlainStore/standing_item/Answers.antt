@@ -1,8 +1,8 @@
 use Rattle.std.proofs.Common.{ap, sym, ◌∙◌, arith}
 use Rattle.mc_protocol.specs.Plain.{alive}
-use Rattle.mc_protocol.proofs.ItemLemmas.{get-items_of, alive-is, alive-dead}
-use Rattle.mc_protocol.proofs.plain.PlainStore.standing_item.Goals as goal
-use Rattle.mc_protocol.proofs.plain.PlainStore.standing_item.Goals.{in_default-via-in-Some+else-not-is_dead, in_default-via-in_default}
+use Rattle.mc_command.proofs.ItemLemmas.{get-items_of, alive-is, alive-dead}
+use Rattle.mc_command.proofs.plain.PlainStore.standing_item.Goals as goal
+use Rattle.mc_command.proofs.plain.PlainStore.standing_item.Goals.{in_default-via-in-Some+else-not-is_dead, in_default-via-in_default}
 
 pub returns-in-Some : goal.returns-in-Some
 returns-in-Some c =

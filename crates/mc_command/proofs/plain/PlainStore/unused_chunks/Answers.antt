@@ -1,7 +1,7 @@
 use Rattle.std.proofs.Common.{◌≡◌, ◌+◌, ◌-◌, arith}
 use Rattle.mc_protocol.specs.Plain.{count_of, standing}
-use Rattle.mc_protocol.proofs.RoomLemmas.{found-unused}
-use Rattle.mc_protocol.proofs.plain.PlainStore.unused_chunks.Goals as goal
+use Rattle.mc_command.proofs.RoomLemmas.{found-unused}
+use Rattle.mc_command.proofs.plain.PlainStore.unused_chunks.Goals as goal
 
 pub returns-clause-value : goal.returns-clause-value
 returns-clause-value c =

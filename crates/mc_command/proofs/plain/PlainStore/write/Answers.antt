@@ -1,8 +1,8 @@
 use Rattle.std.proofs.Common.{◌≡◌, Err, rules}
 use Rattle.std.specs.Prelude.{decimal}
-use Rattle.mc_protocol.specs.Steps.{number_in}
-use Rattle.mc_protocol.proofs.WriteLemmas.{draft-is, draft-stays, Ends-refused, Ends-finished}
-use Rattle.mc_protocol.proofs.plain.PlainStore.write.Goals as goal
+use Rattle.mc_command.specs.Steps.{number_in}
+use Rattle.mc_command.proofs.WriteLemmas.{draft-is, draft-stays, Ends-refused, Ends-finished}
+use Rattle.mc_command.proofs.plain.PlainStore.write.Goals as goal
 
 pub prepare-requires-clause-stays : goal.prepare-requires-clause-stays
 prepare-requires-clause-stays c =

@@ -2,10 +2,10 @@ use Rattle.std.proofs.Common.{◌≡◌, ◌-◌, ℕ, List, ap, sym, subst, ◌
 use Rattle.std.specs.Map.Iter.{deref_pair}
 use Rattle.std.proofs.lemmas.Map.Iter.{rest_more, rest_all}
 use Rattle.mc_protocol.specs.Plain.{chunks_in, item_need}
-use Rattle.mc_protocol.proofs.ItemLemmas.{Entries}
-use Rattle.mc_protocol.proofs.CountLemmas.{count-entries}
-use Rattle.mc_protocol.proofs.RoomLemmas.{IsLeft, left-more}
-use Rattle.mc_protocol.proofs.plain.room.chunks_but.Goals as goal
+use Rattle.mc_command.proofs.ItemLemmas.{Entries}
+use Rattle.mc_command.proofs.CountLemmas.{count-entries}
+use Rattle.mc_command.proofs.RoomLemmas.{IsLeft, left-more}
+use Rattle.mc_command.proofs.plain.room.chunks_but.Goals as goal
 
 pub loop-key-init : goal.loop-key-init
 loop-key-init c =

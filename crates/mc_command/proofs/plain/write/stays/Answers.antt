@@ -1,6 +1,6 @@
 use Rattle.std.proofs.Common.{rules}
-use Rattle.mc_protocol.proofs.WriteLemmas.{stays-kept}
-use Rattle.mc_protocol.proofs.plain.write.stays.Goals as goal
+use Rattle.mc_command.proofs.WriteLemmas.{stays-kept}
+use Rattle.mc_command.proofs.plain.write.stays.Goals as goal
 
 pub returns-in-Some : goal.returns-in-Some
 returns-in-Some c = λ block made.

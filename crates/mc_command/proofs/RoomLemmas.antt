@@ -5,12 +5,14 @@ use Rattle.std.specs.declared.alloc.Global.{Global}
 use Rattle.mc_slab.specs.Classes.{chunks_a_page}
 use Rattle.mc_slab.specs.Needs.{NeedState}
 use Rattle.mc_protocol.specs.Plain.{Plain, Entry, Items, chunks_in, item_need, count_of, chunks_of, unused, has_room, pages_of, without_dead}
-use Rattle.mc_protocol.specs.Accounts.{dead_item}
+use Rattle.mc_command.specs.Accounts.{dead_item}
 use Rattle.mc_protocol.specs.Laws.{of_class}
-use Rattle.mc_protocol.specs.Steps.{paged, rewritten}
-use Rattle.mc_protocol.specs.declared.plain.item.Written.{Written}
-use Rattle.mc_protocol.proofs.ItemLemmas.{Entries, insert-remove}
-use Rattle.mc_protocol.proofs.CountLemmas.{count-remove, entries_in_class, entries_in_class-cons}
+use Rattle.mc_command.specs.Steps.{paged, rewritten}
+use Rattle.mc_command.specs.declared.plain.item.Written.{Written}
+use Rattle.mc_protocol.proofs.ItemLemmas.{insert-remove}
+use Rattle.mc_command.proofs.ItemLemmas.{Entries}
+use Rattle.mc_protocol.proofs.CountLemmas.{count-remove}
+use Rattle.mc_command.proofs.CountLemmas.{entries_in_class, entries_in_class-cons}
 
 -- ---- a walk over the entries that takes off what they have of a class
 

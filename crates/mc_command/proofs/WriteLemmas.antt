@@ -17,21 +17,14 @@ use Rattle.mc_protocol.specs.declared.reply.Reply.TheVariants.{NoChunk}
 use Rattle.mc_protocol.specs.declared.row.Draft.{Draft}
 use Rattle.mc_protocol.specs.declared.row.Body.{Body}
 use Rattle.mc_protocol.specs.declared.row.Body.TheVariants.{Given, Appended, Prepended, Counted}
-use Rattle.mc_protocol.specs.declared.plain.item.Written.{Written}
-use Rattle.mc_protocol.specs.declared.plain.write.Next.{Next}
+use Rattle.mc_command.specs.declared.plain.item.Written.{Written}
+use Rattle.mc_command.specs.declared.plain.write.Next.{Next}
 use Rattle.mc_protocol.specs.Plain.{Plain, Entry, Outcome, Answered, CopiesBlock, charge, item_need, has_room, keeps_chunk, standing, without_dead, write_reply, written_block}
 use Rattle.mc_protocol.specs.Rows.{standing_in}
-use Rattle.mc_protocol.specs.Steps.{Ends, Prepares, block_in, done, drafting, found, made, made_block, needs_this, number_in, placed, same_needs, rewritten, writing}
+use Rattle.mc_command.specs.Steps.{Ends, Prepares, block_in, done, drafting, found, made, made_block, needs_this, number_in, placed, same_needs, rewritten, writing}
 use Rattle.mc_protocol.proofs.ItemLemmas.{laws}
-use Rattle.mc_protocol.proofs.PlainLemmas.{needs_this-some, standing-there}
-
-pub found-greatest : (item : Option Entry) (key : List ℕ) (old : Plain) → (without_dead item key old).greatest ≡ old.greatest
-found-greatest None key old = refl
-found-greatest (Some item) key old = refl
-
-pub found-next : (item : Option Entry) (key : List ℕ) (old : Plain) → (without_dead item key old).next_unique ≡ old.next_unique
-found-next None key old = refl
-found-next (Some item) key old = refl
+use Rattle.mc_protocol.proofs.LawLemmas.{found-greatest, found-next}
+use Rattle.mc_command.proofs.PlainLemmas.{needs_this-some, standing-there}
 
 -- where an item stands none is dropped
 pub found-stands : (item : Option Entry) (key : List ℕ) (old : Plain) → IsSome item → without_dead item key old ≡ old

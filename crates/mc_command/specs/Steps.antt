@@ -11,9 +11,9 @@ use Rattle.mc_protocol.specs.declared.row.Row.{Row}
 use Rattle.mc_protocol.specs.declared.row.Draft.{Draft}
 use Rattle.mc_protocol.specs.declared.row.Body.{Body}
 use Rattle.mc_protocol.specs.declared.row.Body.TheVariants.{Given, Appended, Prepended, Counted}
-use Rattle.mc_protocol.specs.declared.plain.item.Written.{Written}
-use Rattle.mc_protocol.specs.declared.plain.write.Next.{Next}
-use Rattle.mc_protocol.specs.declared.plain.write.Next.TheVariants.{Answer, Rewrite, Place}
+use Rattle.mc_command.specs.declared.plain.item.Written.{Written}
+use Rattle.mc_command.specs.declared.plain.write.Next.{Next}
+use Rattle.mc_command.specs.declared.plain.write.Next.TheVariants.{Answer, Rewrite, Place}
 use Rattle.mc_protocol.specs.Plain.{Plain, Entry, Outcome, Answered, Spent, MayFail, CopiesBlock, block_need, item_need, has_room, pages_of, with_chunk, standing, without_dead, written, wrote, changed, hit_of, perhaps_expiring, keeps_chunk, write_reply, written_block}
 
 -- a step ends as the plain machine says, and if it isn't taken nothing changes

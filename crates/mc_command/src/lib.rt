@@ -1,0 +1,29 @@
+//! The plain store, and all names of the protocol that it is a store of.
+//!
+//! [`PlainStore`] is the plain machine over an ordered map: the store that faster ones are compared
+//! with, and that tests of sessions run on. Contracts promise exactly the machine's reply and the
+//! state after it: the memory error exactly if no chunk is left, and spent numbers exactly if the
+//! machine is out of them. A step that isn't taken, for want of the host's memory or of a number,
+//! leaves the store as it was. [`KeyTest`] says which keys a purge is for.
+//!
+//! The definitions (commands, steps, replies, the table, the laws) are in the crate `mc_protocol`,
+//! since the libraries of the program need no plain store. This crate exports their names too.
+//!
+//! Begin with `src/plain.rt`.
+#![tactic(auto)]
+
+mod plain;
+
+pub use mc_protocol::{
+    Answer, Block, Body, Bytes, Command, CommandOf, Draft, KeyStep, Keys, LineFault, Lone, Refusal,
+    Reply, Row, Standing, StepFault, Steps, Unanswered, Verb, Words,
+};
+pub use mc_protocol::{
+    a_front_tells_the_number, counts_follow, flushes_empty, one_key_decides, other_keys_stay,
+    pages_stay, refused_without_room, the_dead_stay_dead, wanted_pages_are_least,
+};
+pub use mc_protocol::{
+    count_up_or_down, first_key, first_word, first_word_len, is_quiet, number_of, number_up_to,
+    row_of, spaces_len, step_at, steps_of,
+};
+pub use plain::{KeyTest, PlainStore};
