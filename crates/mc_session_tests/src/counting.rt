@@ -1,6 +1,7 @@
 //! A store that counts what it is asked for.
 
-use mc_protocol::{KeyStep, PlainStore, Reply, StepFault, Steps};
+use mc_command::PlainStore;
+use mc_protocol::{KeyStep, Reply, StepFault, Steps};
 use mc_time::Moment;
 use std::alloc::{AllocError, Global};
 

@@ -3,7 +3,8 @@
 ghost use Rattle.std.specs.Prelude.{◌≡◌, OnOk, OnErr};
 ghost use Rattle.mc_protocol.specs.declared.reply.Reply.{Reply as Told};
 
-use mc_protocol::{Answer, Bytes, KeyStep, PlainStore, Reply, StepFault, Steps, Unanswered};
+use mc_command::PlainStore;
+use mc_protocol::{Answer, Bytes, KeyStep, Reply, StepFault, Steps, Unanswered};
 use mc_session::{Session, Turn, TurnFault};
 use mc_testing::SESSIONS;
 use mc_time::Moment;

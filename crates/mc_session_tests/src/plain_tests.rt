@@ -4,7 +4,8 @@
 ghost use Rattle.std.specs.Prelude.{◌≤◌, length};
 ghost use Rattle.mc_protocol.specs.Commands.{key_of};
 
-use mc_protocol::{Bytes, KeyStep, PlainStore, Reply, StepFault, Steps, Verb};
+use mc_command::PlainStore;
+use mc_protocol::{Bytes, KeyStep, Reply, StepFault, Steps, Verb};
 use mc_time::Moment;
 use std::alloc::Global;
 use std::test::Fail;

@@ -4,7 +4,8 @@
 
 ghost use Rattle.std.specs.Prelude.{◌≤◌};
 
-use mc_protocol::{PlainStore, Steps, Verb};
+use mc_command::PlainStore;
+use mc_protocol::{Steps, Verb};
 use mc_rows::{Ask, Row, Want, ask_step, filled_block, first_unlike, set, step_of, told_of};
 use mc_time::Moment;
 use std::alloc::{AllocError, Global};

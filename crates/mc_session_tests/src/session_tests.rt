@@ -1,7 +1,7 @@
 //! Sessions: whole runs over a reader and a writer, and turns by themselves.
 
+use mc_command::PlainStore;
 use mc_parse::Source;
-use mc_protocol::PlainStore;
 use mc_session::{ServeFault, Session, Turn, serve};
 use mc_testing::{Drip, SESSIONS, Sip};
 use mc_time::{Fixed, Moment};

@@ -5,8 +5,9 @@
 ghost use Rattle.std.specs.Prelude.{◌<◌, ◌≤◌, length};
 ghost use Rattle.mc_protocol.specs.Commands.{key_of};
 
+use mc_command::{KeyTest, PlainStore};
 use mc_hop::{Constant, Fnv, KeyHash};
-use mc_protocol::{Bytes, KeyStep, KeyTest, PlainStore, StepFault, Verb};
+use mc_protocol::{Bytes, KeyStep, StepFault, Verb};
 use mc_rows::{ask_step, is_same};
 use mc_shelf::{Settings, Store};
 use mc_testing::Dice;
