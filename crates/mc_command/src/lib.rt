@@ -16,14 +16,10 @@ mod plain;
 
 pub use mc_protocol::{
     Answer, Block, Body, Bytes, Command, CommandOf, Draft, KeyStep, Keys, LineFault, Lone, Refusal,
-    Reply, Row, Standing, StepFault, Steps, Unanswered, Verb, Words,
-};
-pub use mc_protocol::{
-    a_front_tells_the_number, counts_follow, flushes_empty, one_key_decides, other_keys_stay,
-    pages_stay, refused_without_room, the_dead_stay_dead, wanted_pages_are_least,
-};
-pub use mc_protocol::{
-    count_up_or_down, first_key, first_word, first_word_len, is_quiet, number_of, number_up_to,
-    row_of, spaces_len, step_at, steps_of,
+    Reply, Row, Standing, StepFault, Steps, Unanswered, Verb, Words, a_front_tells_the_number,
+    count_up_or_down, counts_follow, first_key, first_word, first_word_len, flushes_empty,
+    is_quiet, number_of, number_up_to, one_key_decides, other_keys_stay, pages_stay,
+    refused_without_room, row_of, spaces_len, step_at, steps_of, the_dead_stay_dead,
+    wanted_pages_are_least,
 };
 pub use plain::{KeyTest, PlainStore};

@@ -6,13 +6,9 @@ use Rattle.std.specs.Cmp.Lexicographic.{nat_list_cmp_total}
 use Rattle.std.specs.declared.cmp.Ordering.{Ordering}
 use Rattle.std.specs.declared.cmp.Ordering.TheVariants.{Less, Equal, Greater}
 use Rattle.std.specs.FinMap.{get, insert, remove, retain_keys, empty, entries, entries_sorted, entries-insert, entries-from_sorted, get-entries, get-remove, get-retain_keys}
-use Rattle.std.specs.FinMap.{get-from_sorted, get-from_entries, from_sorted, len-empty, len-entries, same_map, find, put, is_sorted}
+use Rattle.std.specs.FinMap.{get-from_sorted, from_sorted, len-empty, len-entries, same_map, find, put, is_sorted}
 use Rattle.std.specs.FinMap.Entries.{by_order, below_all, where_key, is_sorted-where_key, find-where_key}
-use Rattle.std.specs.List.{sum_by, AllByRecursion}
-use Rattle.std.specs.List.Sorted.{IsStrictlySortedBy}
-use Rattle.std.specs.Map.{keys_of}
-use Rattle.std.specs.declared.vec.Vec.{Vec}
-use Rattle.std.specs.declared.alloc.Global.{Global}
+use Rattle.std.specs.List.{sum_by}
 use Rattle.std.proofs.lemmas.List.Sums.{sum_by-cons}
 use Rattle.mc_time.specs.declared.expiry.Expiry.TheVariants.{Never}
 use Rattle.mc_protocol.specs.Plain.{Entry, Items, chunks_in, item_need, count_of}
