@@ -1,2 +1,3 @@
 pub mod Death
+pub mod Readings
 pub mod Stored

@@ -1,5 +1,5 @@
 use crate::moment::Moment;
-use std::time::{self, SystemTime, UNIX_EPOCH};
+use std::time::{self, Duration, SystemTime, UNIX_EPOCH};
 
 /// Gives the moment.
 pub trait Clock {
@@ -48,17 +48,17 @@ impl<R: time::Clock + Drop> Clock for SystemClock<R> {
     ghost may_give = { λ clock now. now ≤ 2 ^ 62 };
 
     fn now(&self) -> Moment {
-        Moment::from_seconds_at_most(unix_seconds(&self.rt))
+        Moment::from_seconds_at_most(unix_time(&self.rt).as_secs())
     }
 }
 
-/// The system's Unix seconds, 0 before 1970 and if they can't be read.
-fn unix_seconds(rt: &impl time::Clock) -> u64 {
+/// Returns the system's time since 1970: 0 before that, and if the clock can't be read.
+pub(crate) fn unix_time(rt: &impl time::Clock) -> Duration {
     let Ok(time) = SystemTime::now(rt) else {
-        return 0;
+        return Duration::ZERO;
     };
     match time.duration_since(UNIX_EPOCH) {
-        Ok(duration) => duration.as_secs(),
-        Err(_) => 0,
+        Ok(duration) => duration,
+        Err(_) => Duration::ZERO,
     }
 }
