@@ -7,7 +7,6 @@
                                   PROTOCOL.md or the manual page lacks, and the counts of style.py. Last line: 'N passed, M failed'
 """
 import json
-import os
 import re
 import subprocess
 import sys
@@ -32,9 +31,12 @@ LIBRARIES = {
     "crossbeam_queue": "hands connections to the workers", "httparse": "parses the head of an HTTP request",
     "atomic_table": "has the atomic steps of threads", "core": "",
 }
+# Of these documents the names in code spans are looked up, too; the others name what clients and systems have.
+INSIDE = ("README.md", "CONTRIBUTING.md", *(f"docs/{name}.md" for name in "ARCHITECTURE DECISIONS FIRST-CHANGE GAPS PROVING THEOREM".split()))
 # Words in code spans that no source of this repository has: those of the system, of other programs, and of examples.
-OTHERS = set("""EINTR SIGPIPE setrlimit signalfd mn MN mc_x mc_y eventfd O_NONBLOCK VmRSS MemoryMax LimitNOFILE touchif replicas
-    ExecStop Restart IPAddressAllow RT_JOBS""".split())
+OTHERS = set("""mn MN mc_x mc_y touchif mapped""".split())
+# Where a path in a code span may begin.
+PLACES = [ROOT, ROOT / "docs", ROOT / "tests", ROOT / "crates", *sorted((ROOT / "crates").iterdir())]
 FUNCTION = re.compile(r"^( *)(pub(?:\([\w ]+\))? )?(?:const |unsafe )*fn (\w+)")
 OWNER = re.compile(r"^(?:pub(?:\([\w ]+\))? )?(?:unsafe )?(?:impl(?:<[^{]*?>)? (?:([\w:]+)(?:<.*>)? for )?(\w+)|trait (\w+))")
 DEFINITION = re.compile(r"^ *(?:abbrev |unfoldable |pub )*(?:data |record )?([^\s:{(]+)(?= .*:|$)")
@@ -84,9 +86,8 @@ def calls(crate):
                 owner, trait = name or made, trait or made or ""
             found = FUNCTION.match(line)
             if found and "_tests" not in path.name:
-                end = next((to for to in range(at, len(lines)) if re.match(r" *\{$|.*[;}]$|.*\{\}$", lines[to])
-                            and not re.match(r" *(requires|ensures)", lines[to])), at)
-                clauses = re.findall(r"^ *ensures (\w*) ?\{", "\n".join(lines[at:end + 60]).split("\n" + found[1] + "{")[0], re.M)
+                end = next((to for to in range(at, len(lines)) if not lines[to] or re.match(rf"{found[1]}\S.*[{{}};]$|{found[1]}{{$", lines[to])), at)
+                clauses = re.findall(r"^ *ensures (\w+) {", "\n".join(lines[at:end]), re.M)
                 is_open = (bool(found[2] and "(" not in found[2]) or bool(trait)) and (owner or found[3]) in exported
                 yield path.name, at, owner, found[3], is_open, comment_above(lines, at, "///"), clauses
 
@@ -136,15 +137,14 @@ def list_definitions():
 
 def made_crates():
     """A row for each crate: what it is, the crates it stands on, its tests."""
-    below, rows = crates(), []
-    under = {}
+    below, rows, under = crates(), [], {}
     for name, libraries in below.items():
         under[name] = {low for own in libraries if own in below for low in under[own] | {own}}
         direct = [low for low in libraries if low in below and not any(low in under[other] for other in libraries if other in below)]
         tests = re.search(r"Tests: (.*?)\.?$", page(name)[-1])
-        what = re.split(r"(?<=[.:]) ", page(name)[0])[0].rstrip(".:")
+        what = re.split(r"(?<=\.) ", page(name)[0])[0].rstrip(".")
         rows.append(f"| `{name}` | {cell(what)} | {' '.join(direct)} | {tests.group(1).replace('`', '') if tests else ''} |\n")
-    return "| Crate | What it is | Directly above | Tests |\n|---|---|---|---|\n" + "".join(rows)
+    return "| Crate | What it is | Stands on | Tests |\n|---|---|---|---|\n" + "".join(rows)
 
 
 def made_libraries():
@@ -162,13 +162,9 @@ def made_libraries():
     return "| Library of the kit | What it does here |\n|---|---|\n" + "".join(uses)
 
 
-def run():
-    return json.loads(read(RUN))
-
-
 def made_figures():
     """README's figures: the ratios to memcached of the stored run."""
-    it, names = run(), ["get", "set", "get of 100 keys", "get, 32 deep", "set, 32 deep", "get of 10 KB", "set of 10 KB", "get of 1 MB", "set of 1 MB"]
+    it, names = json.loads(read(RUN)), ["get", "set", "get of 100 keys", "get, 32 deep", "set, 32 deep", "get of 10 KB", "set of 10 KB", "get of 1 MB", "set of 1 MB"]
     found = {row["title"]: row["ratios"] for row in it["rows"]}
     text = "| mcserver / memcached 1.6, 4 workers each | CPU time per request | Requests a second |\n|---|--:|--:|\n"
     text += "".join(f"| {name} | {found[name]['us']['median']:.2f} | {found[name]['a_second']['median']:.2f} |\n" for name in names)
@@ -177,7 +173,7 @@ def made_figures():
 
 def made_tcp():
     """BENCHMARKS's table of the stored run."""
-    it = run()
+    it = json.loads(read(RUN))
     text = f"Run of {it['date']}, commit `{it['commit']}`, {it['machine']}, {it['memcached']}: `{it['command']}`.\n\n"
     text += "| Workload | Requests/s, memcached | mcserver | Ratio | CPU us a request, memcached | mcserver | Ratio | p99 ratio |\n"
     text += "|---|--:|--:|--:|--:|--:|--:|--:|\n"
@@ -209,29 +205,27 @@ def line_of(name, file):
 KINDS = {"crates": made_crates, "libraries": made_libraries, "figures": made_figures, "tcp": made_tcp, "clauses": made_clauses}
 
 
-def documents():
-    listed = subprocess.run(["git", "-C", ROOT, "ls-files", "*.md"], stdout=subprocess.PIPE, check=True, text=True).stdout
-    return [path for path in listed.split() if (ROOT / path).exists()]
+def tracked(pattern="*"):
+    listed = subprocess.run(["git", "-C", ROOT, "ls-files", pattern], stdout=subprocess.PIPE, check=True, text=True).stdout
+    return [path for path in listed.split() if (ROOT / path).is_file()]
 
 
 def made_anew():
     """Each file that is made, in whole or in part, with the text it should have."""
-    for path in documents():
+    for path in tracked("*.md"):
         text = read(path)
         new = REGION.sub(lambda found: found[1] + KINDS[found[2].split()[0]](*found[2].split()[1:]) + found[4], text)
         here = (ROOT / path).parent
         new = PLACE.sub(lambda found: f"[`{found[1]}`]({found[2]}#L{line_of(found[1], here / found[2])})", new)
         if "<!-- made: " in text:
             yield path, new
-    yield "docs/tcp.svg", chart.chart(run()["rows"])
+    yield "docs/tcp.svg", chart.chart(json.loads(read(RUN))["rows"])
 
 
 def known_words():
     """Every word of the sources, and of the names of files."""
-    listed = subprocess.run(["git", "-C", ROOT, "ls-files"], stdout=subprocess.PIPE, check=True, text=True).stdout.split()
-    text = "\n".join(read(path) for path in listed if not path.endswith((".md", ".svg", ".json")) and (ROOT / path).is_file()
-                     and os.path.getsize(ROOT / path) < 1 << 20 and not path.startswith("tests/rows"))
-    return set(re.findall(r"\w+", text + " ".join(listed)))
+    text = "\n".join(read(path) for path in tracked() if not path.endswith((".md", ".svg", ".json")) and not path.startswith("tests/rows"))
+    return set(re.findall(r"\w+", text + " ".join(tracked())))
 
 
 def lost(path, words):
@@ -247,11 +241,10 @@ def lost(path, words):
     bare = re.sub(r"\[[^]]*\]\([^)]*\)", "", text)
     yield from (f"{path}: {name} is no link" for name in re.findall(r"[\w/]*[A-Z]+\.md\b", re.sub(r"`[^`]*`", "", bare)))
     for span in re.findall(r"`([^`\n]+)`", text):
-        if re.fullmatch(r"[\w.-]+(/[\w.-]+)+/?", span) and re.search(r"\.\w+$|/$", span) and not re.search(r"NAME|/out/|out/", span):
-            places = [ROOT, ROOT / "docs", *(ROOT / "crates").iterdir()]
-            if not any((place / span).exists() for place in places):
+        if re.fullmatch(r"[\w.-]+(/[\w.-]+)+/?", span) and re.search(r"\.\w+$|/$", span) and not re.search(r"[XA-Z]{4}|\bX|out/", span):
+            if not any((place / span).exists() for place in PLACES):
                 yield f"{path}: there is no {span}"
-        elif re.fullmatch(r"[A-Za-z_][\w:]*(\(\))?", span):
+        elif path in INSIDE and re.fullmatch(r"[A-Za-z_][\w:]*(\(\))?", span):
             yield from (f"{path}: nothing is named {word}" for word in re.findall(r"\w+", span) if word not in words | OTHERS)
 
 
@@ -273,7 +266,7 @@ def check():
     stale = [f"{path}: not what the sources say: make docs" for path, new in made_anew() if read(path) != new]
     untested = [f"{root_file(crate)}: no line 'Tests: CRATE, FILE'" for crate in crates()
                 if not crate.endswith("_tests") and not re.search(r"Tests: ", " ".join(page(crate)))]
-    for found in (stale, untested, list(lacking_options()), *(list(lost(path, words)) for path in documents()), *style.faults(ROOT)):
+    for found in (stale, untested, list(lacking_options()), *(list(lost(path, words)) for path in tracked("*.md")), *style.faults(ROOT)):
         faults += found
         passed += not found
     print("\n".join([*faults, f"{passed} passed, {len(faults)} failed"]))

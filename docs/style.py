@@ -1,5 +1,5 @@
 #!/usr/bin/env python3
-"""Counts what docs/STYLE.md asks for. `python3 docs/style.py` prints the counts; `make docs-check` fails if one is above its limit."""
+"""Counts what docs/STYLE.md asks for. `python3 docs/style.py 9` prints them with the nine worst places; `make docs-check` fails if one is above its limit."""
 import re
 import subprocess
 import sys
@@ -11,7 +11,6 @@ WEAK = re.compile(r"\b(?:told|tells|tell|said|says)\b")
 PILED = re.compile(r"\b(?:of which|for which|so many|whoever|those that)\b", re.I)
 SHORT = ["README.md", "docs/OPERATING.md"]
 MOST_WORDS = 30
-# What was once wrong in a file and must not come back.
 STALE = [("crates/mc_parse/src/lib.rt", r"`done` passes over"), ("docs/DECISIONS.md", r"`items`, `account`"),
          ("docs/DECISIONS.md", r"greatest charge of at most 1048576"), ("docs/BENCHMARKS.md", r"1\.18 times"),
          ("docs/BENCHMARKS.md", r"parameters that nobody reads"), ("CONTRIBUTING.md", r"\bten files\b"),
@@ -30,8 +29,8 @@ def sentences(text):
 def counted(root):
     """For each limit the places that count, as (amount, what)."""
     listed = subprocess.run(["git", "-C", root, "ls-files"], stdout=subprocess.PIPE, check=True, text=True).stdout.split()
-    texts = {path: (root / path).read_text(encoding="utf-8") for path in listed if (root / path).is_file()
-             and (path.endswith(".md") or re.fullmatch(r"crates/[^/]+/src/.*\.rt", path))}
+    texts = {path: (root / path).read_text(encoding="utf-8") for path in listed
+             if (root / path).is_file() and re.fullmatch(r".*\.md|crates/[^/]+/src/.*\.rt", path)}
     documents = {path: text for path, text in texts.items() if path.endswith(".md")}
     comments = {path: re.findall(r"^ *//.*", text, re.M) for path, text in texts.items() if path.endswith(".rt")}
     first = re.search(r"\*\*Before a first change\*\*.*?\n\n", documents["CONTRIBUTING.md"], re.S).group(0)
@@ -57,5 +56,5 @@ def faults(root):
 
 if __name__ == "__main__":
     for title, places in counted(Path(__file__).resolve().parent.parent).items():
-        print(f"{title}: {sum(n for n, _ in places):,} of {LIMITS[title]:,}")
-        print("".join(f"  {n:6} {it}\n" for n, it in sorted(places, key=lambda it: -it[0])[:int(sys.argv[1]) if sys.argv[1:] else 0]), end="")
+        shown = sorted(places, key=lambda it: -it[0])[:int(sys.argv[1]) if sys.argv[1:] else 0]
+        print(f"{title}: {sum(n for n, _ in places):,} of {LIMITS[title]:,}", *(f"  {n:6} {it}" for n, it in shown), sep="\n")
