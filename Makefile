@@ -11,7 +11,7 @@ DOC = $(DESTDIR)$(PREFIX)/share/doc/mcserver
 UNITS = $(DESTDIR)$(PREFIX)/lib/systemd/system
 USER_UNITS = $(DESTDIR)$(PREFIX)/share/systemd/user
 DEFAULTS = $(DESTDIR)/etc/default
-DOCS = LICENSE CHANGELOG.md README.md docs/OPERATING.md docs/PROTOCOL.md docs/CLIENTS.md docs/SCALING.md
+DOCS = LICENSE CHANGELOG.md docs/OPERATING.md docs/PROTOCOL.md docs/CLIENTS.md docs/SCALING.md
 # Where the prefix is below a home, nothing of the system's is touched: of units there is at most the user's own.
 IN_HOME = $(filter $(HOME)/% /home/% /root/%,$(PREFIX)/)
 # The program's own version, as --version prints it.
@@ -66,11 +66,11 @@ rows:
 history: bench-build
 	@CALLS=$(CALLS) python3 -m tests history
 
-# What the sources tell of themselves in README.md and docs/, written anew after a change of a call, a comment, a definition or an edit.
+# The regions of documents that are made from the sources, and out/docs/: every public call, every definition.
 docs:
 	@python3 docs/make.py
 
-# Whether the documents say what the sources say.
+# Whether documents match the sources, and the counts of docs/STYLE.md.
 docs-check:
 	@python3 docs/make.py --check
 

@@ -1,363 +1,284 @@
 #!/usr/bin/env python3
-"""Writes the parts of the documents that the sources tell, and looks whether the rest speaks of what is there.
+"""Writes the parts of the documents that the sources hold, and checks the rest.
 
-  python3 docs/make.py            writes each region anew that begins with a line `<!-- made from the sources: KIND WORD.. -->`
-  python3 docs/make.py --check    writes nothing, and tells each region that differs, each name and path in the text around them that
-                                  the sources don't have, and what no region lists. Its last line is 'N passed, M failed'
-
-The kinds of a region:
-
-  calls CRATE                     the crate's public calls with their contracts, and the wrong bodies that are refused
-  definitions PART CRATE FILE..   the definitions of these files of specs/ that public contracts rest on (`types`: the code's types
-                                  that definitions speak of; `*`: all of the crate). Of PART `events` those behind the contract of
-                                  `World::run`, of `threads` those that the laws of threads and links add, and of `others` all that
-                                  no region before it lists
-  layers                          the crates, each above those that it stands on, and the kit's libraries
-  libraries                       the libraries that the program links, of the kit's
-  counts                          how many crates, calls, definitions and wrong bodies there are
+  python3 docs/make.py            writes out/docs/CALLS.md and out/docs/DEFINITIONS.md, the regions `<!-- made: KIND -->` of README.md
+                                  and docs/, and docs/tcp.svg
+  python3 docs/make.py --check    writes nothing. Prints each stale region, each link, path and name that isn't there, each option that
+                                  PROTOCOL.md or the manual page lacks, and the counts of style.py. Last line: 'N passed, M failed'
 """
-import argparse
-import os
+import json
 import re
+import subprocess
 import sys
 import textwrap
+from pathlib import Path
 
-from rests import Names, contracts, rests_on
-from sources import ROOT, all_crates, read
+ROOT = Path(__file__).resolve().parent.parent
+sys.path[:0] = [str(ROOT / "bench"), str(ROOT / "docs")]
+import chart  # noqa: E402
+import style  # noqa: E402
 
-DOCUMENTS = ["README.md", "CONTRIBUTING.md", *(f"docs/{name}.md" for name in (
-    "ARCHITECTURE", "DECISIONS", "DEFINITIONS", "GATE", "PROMISES"))]
-MAP = "docs/ARCHITECTURE.md"
-# Of these the paths alone are looked at; and whether the second tell of each option.
-FOR_USERS = ["CHANGELOG.md", *(f"docs/{name}.md" for name in ("BENCHMARKS", "CLIENTS", "OPERATING", "PROTOCOL", "SCALING"))]
-OPTIONS = ["docs/PROTOCOL.md", "man/mcserver.1"]
-REGION = re.compile(r"(<!-- made from the sources: ([^>]*?) -->\n)(.*?)(<!-- end -->)", re.S)
-KINDS = ["calls", "definitions", "layers", "libraries", "counts"]
 PROGRAM = "mc_server"
-# What tests alone stand on.
-TESTING = ("mc_testing", "mc_rows")
-# Of the libraries that crates.txt names these are the toolchain's own, and no ports.
-OWN = {"core": None, "atomic_table": "has the atomic steps of threads under their rule"}
-PORTS = {
-    "memchr": "finds line ends and words' ends",
-    "itoa": "prints numbers",
-    "byteorder": "reads and writes an item's header",
-    "thiserror": "makes fault types",
-    "clap": "reads the command line",
-    "mio": "tells which sockets are ready",
-    "crossbeam_queue": "hands connections to the workers",
-    "httparse": "reads the head of a request over HTTP",
+# The run that README.md, docs/BENCHMARKS.md and docs/tcp.svg show.
+RUN = "bench/results/2026-11-24-3394e2fc.json"
+REGION = re.compile(r"(<!-- made: ([^>]+?) -->\n)(.*?)(<!-- end -->)", re.S)
+# A link to a definition, whose line is kept right.
+PLACE = re.compile(r"\[`(\w+)`\]\(([^)#]+)#L\d+\)")
+# What the kit's libraries are for, in the order in which README.md names them.
+LIBRARIES = {
+    "memchr": "finds line ends and word ends", "itoa": "prints numbers", "byteorder": "reads and writes an item's header",
+    "thiserror": "makes error types", "clap": "parses the command line", "mio": "polls sockets",
+    "crossbeam_queue": "hands connections to the workers", "httparse": "parses the head of an HTTP request",
+    "atomic_table": "has the atomic steps of threads", "core": "",
 }
-# What ports bring with them, as the prints of a check of the program say ("statements NAME").
-BROUGHT = {"clap": "strsim", "crossbeam_queue": "crossbeam_utils"}
-# Words of documents that the sources don't have: the system's and the kit's, and examples of names.
-OTHERS = set("""Stdin Stdout SIGPIPE signalfd tokio mn MN mc_x mc_y EINTR setrlimit epoll eventfd""".split())
-EXAMPLES = re.compile(r"\b(XLemmas|FILE|FUNCTION|NAME|X)\b")
-# The contracts that the first two parts of the definitions are of.
-PARTS = {
-    "events": {"mc_world": ["World::run"]},
-    "threads": {
-        "mc_shared": ["Shared::agree"],
-        "mc_laws": ["callers_share_a_plain_store", "calls_keep_their_order", "a_history_has_nothing_else",
-                    "no_read_goes_back", "a_known_write_is_read"],
-        "mc_guests": ["links_are_answered_what_they_gave", "links_take_texts_of_turns"],
-        "mc_workers": ["work"],
-    },
-}
+# Of these documents the names in code spans are looked up, too; the others name what clients and systems have.
+INSIDE = ("README.md", "CONTRIBUTING.md", *(f"docs/{name}.md" for name in "ARCHITECTURE DECISIONS FIRST-CHANGE GAPS PROVING THEOREM".split()))
+# Words in code spans that no source of this repository has: those of the system, of other programs, and of examples.
+OTHERS = set("""mn MN mc_x mc_y touchif mapped""".split())
+# Where a path in a code span may begin.
+PLACES = [ROOT, ROOT / "docs", ROOT / "tests", ROOT / "crates", *sorted((ROOT / "crates").iterdir())]
+FUNCTION = re.compile(r"^( *)(pub(?:\([\w ]+\))? )?(?:const |unsafe )*fn (\w+)")
+OWNER = re.compile(r"^(?:pub(?:\([\w ]+\))? )?(?:unsafe )?(?:impl(?:<[^{]*?>)? (?:([\w:]+)(?:<.*>)? for )?(\w+)|trait (\w+))")
+DEFINITION = re.compile(r"^ *(?:abbrev |unfoldable |pub )*(?:data |record )?([^\s:{(]+)(?= .*:|$)")
+
+
+def read(path):
+    return (ROOT / path).read_text(encoding="utf-8")
+
+
+def crates():
+    """The crates of crates.txt in its order, each with its libraries."""
+    lines = [line.partition(":") for line in read("crates.txt").splitlines() if line.strip() and not line.startswith("#")]
+    return {name.split()[0]: libraries.split() for name, _, libraries in lines}
+
+
+def root_file(crate):
+    return next(path for path in (f"crates/{crate}/src/lib.rt", f"crates/{crate}/src/main.rt") if (ROOT / path).exists())
+
+
+def page(crate):
+    """What a crate's root file says of it: the paragraphs of its `//!` lines, each as one line."""
+    lines = [line[3:].strip() for line in read(root_file(crate)).splitlines() if line.startswith("//!")]
+    return [" ".join(part.split("\n")) for part in "\n".join(lines).split("\n\n")]
+
+
+def comment_above(lines, at, mark):
+    """The first paragraph of the comment that ends above a line."""
+    found = []
+    while at and lines[at - 1].strip().startswith((mark, "#[")):
+        at -= 1
+        if not lines[at].strip().startswith("#["):
+            found.insert(0, lines[at].strip()[len(mark):].strip())
+    return " ".join("\n".join(found).split("\n\n")[0].split("\n"))
+
+
+def calls(crate):
+    """The functions of a crate's code: file, line, owner, name, whether it is open to other crates, comment, clauses."""
+    uses = " ".join(re.findall(r"^pub use ([^;]+);", read(root_file(crate)), re.M))
+    exported = set(re.findall(r"\w+", uses))
+    for path in sorted((ROOT / f"crates/{crate}/src").rglob("*.rt")):
+        lines, owner, trait = path.read_text(encoding="utf-8").splitlines(), "", ""
+        for at, line in enumerate(lines):
+            if line == "}":
+                owner = trait = ""
+            elif OWNER.match(line):
+                trait, name, made = OWNER.match(line).groups()
+                owner, trait = name or made, trait or made or ""
+            found = FUNCTION.match(line)
+            if found and "_tests" not in path.name:
+                end = next((to for to in range(at, len(lines)) if not lines[to] or re.match(rf"{found[1]}\S.*[{{}};]$|{found[1]}{{$", lines[to])), at)
+                clauses = re.findall(r"^ *ensures (\w+) {", "\n".join(lines[at:end]), re.M)
+                is_open = (bool(found[2] and "(" not in found[2]) or bool(trait)) and (owner or found[3]) in exported
+                yield path.name, at, owner, found[3], is_open, comment_above(lines, at, "///"), clauses
+
+
+def edits(crate, functions):
+    """The wrong bodies that a crate must refuse, each with the function that it changes."""
+    for path in sorted((ROOT / f"crates/{crate}/must-fail").glob("*.edit")):
+        text = path.read_text(encoding="utf-8")
+        file, old = (re.search(rf"^{word}: ?(.*)$", text, re.M).group(1) for word in ("file", "old"))
+        lines = read(f"crates/{crate}/{file.strip()}").splitlines()
+        at = next((at for at, line in enumerate(lines) if old.strip() in line), -1)
+        inside = [call for call in functions if call[0] == Path(file.strip()).name and call[1] <= at]
+        yield path.stem, (inside[-1][2], inside[-1][3]) if inside else ("", file.strip())
 
 
 def cell(text):
-    """A text as a cell of a table, in which what isn't code stands as it is written."""
-    parts = text.replace("|", "\\|").split("`")
-    parts[::2] = [part.replace("<", "&lt;").replace("*", "\\*") for part in parts[::2]]
-    return "`".join(parts)
+    return text.replace("|", "\\|").replace("<", "&lt;")
 
 
-def table(head, rows):
-    """Rows as a table; none as no lines."""
-    if not rows:
-        return ""
-    lines = [head, ["---"] * len(head), *rows]
-    return "".join("| " + " | ".join(map(cell, line)) + " |\n" for line in lines)
+def list_calls():
+    """Which call carries what: a table for each crate."""
+    text = "# Public calls\n\nWritten by `make docs`: each call, its comment, its named clauses, and the wrong bodies that must fail.\n"
+    for crate in crates():
+        functions = list(calls(crate))
+        wrong = list(edits(crate, functions))
+        text += f"\n## {crate}\n\n{page(crate)[0]}\n\n| Call | What it does | Clauses | Must fail |\n|---|---|---|---|\n"
+        for _, _, owner, name, is_open, doc, clauses in functions:
+            refused = [edit for edit, place in wrong if place == (owner, name)]
+            if is_open or refused:
+                title = f"{owner}::{name}" if owner else name
+                text += f"| `{title}` | {cell(doc)} | {', '.join(filter(None, clauses))} | {', '.join(refused)} |\n"
+    return text
 
 
-def filled(text):
-    """A paragraph, in lines of at most 120 columns."""
-    return textwrap.fill(text, 120, break_long_words=False, break_on_hyphens=False) + "\n"
+def list_definitions():
+    """Every definition of specs/, with its comment and its place."""
+    text = "# Definitions\n\nWritten by `make docs`: what contracts cite, file by file.\n"
+    for crate in crates():
+        for path in sorted((ROOT / f"crates/{crate}/specs").glob("*.antt")):
+            lines = path.read_text(encoding="utf-8").splitlines()
+            rows = [f"- `{found[1]}` (line {at + 1}) {comment_above(lines, at, '--')}\n" for at, line in enumerate(lines)
+                    for found in [DEFINITION.match(line)] if found and re.match(r" *(abbrev|unfoldable|pub |data|record)", line)
+                    and not re.match(r" *pub (mod|use) | {4}pub ", line)]
+            text += f"\n## {crate}/specs/{path.name}\n\n{''.join(rows)}" if rows else ""
+    return text
 
 
-def listed(names):
-    return ", ".join(f"`{name}`" for name in names)
+def made_crates():
+    """A row for each crate: what it is, the crates it stands on, its tests."""
+    below, rows, under = crates(), [], {}
+    for name, libraries in below.items():
+        under[name] = {low for own in libraries if own in below for low in under[own] | {own}}
+        direct = [low for low in libraries if low in below and not any(low in under[other] for other in libraries if other in below)]
+        tests = re.search(r"Tests: (.*?)\.?$", page(name)[-1])
+        what = re.split(r"(?<=\.) ", page(name)[0])[0].rstrip(".")
+        rows.append(f"| `{name}` | {cell(what)} | {' '.join(direct)} | {tests.group(1).replace('`', '') if tests else ''} |\n")
+    return "| Crate | What it is | Stands on | Tests |\n|---|---|---|---|\n" + "".join(rows)
 
 
-class Maker:
-    """Makes the regions, of sources that are read once."""
-
-    def __init__(self):
-        self.crates = all_crates()
-        self.names = Names(self.crates)
-        self.parts = self.parted()
-        self.shown = set()
-
-    def parted(self):
-        """What each part of the definitions has, each definition in one part."""
-        seen, parts = set(), {}
-        for part, roots in [*PARTS.items(), ("others", None)]:
-            crates = self.crates.values() if roots is None else [self.crates[name] for name in roots]
-            texts = [text for crate in crates for text in contracts(crate)
-                     if roots is None or any(text[2] == call.contract for call in crate.calls if call.title in roots[crate.name])]
-            texts += [(name, found.file, found.model) for name, titles in (roots or {}).items()
-                      for title in titles for found in [self.crates[name].types.get(title.split("::")[0])] if found and "::" in title]
-            found = [(crate, what) for crate, what in rests_on(self.names, texts) if id(what) not in seen]
-            seen.update(id(what) for _, what in found)
-            parts[part] = {id(what): (crate, what) for crate, what in found}
-        return parts
-
-    def calls(self, name):
-        """A crate's public calls, and beneath them the wrong bodies of what these call."""
-        crate = self.crates[name]
-        public = crate.public
-        rows = []
-        for call in public:
-            if not call.says_what:
-                continue
-            edits = [edit.name for edit in crate.edits if call in edit.calls]
-            clauses = [clause for kind, clause in call.clauses if clause and kind == "ensures"]
-            rows.append([f"`{call.title}`", call.doc, listed(clauses), listed(edits)])
-        text = table(["Call", "What it does", "Clauses", "Wrong bodies"], rows)
-        bare = [call.title for call in public if not call.says_what]
-        if bare:
-            text += "\n" + filled(f"No clause says what comes of {listed(bare)}.")
-        inner = [f"{listed([edit.name])} ({self.place(edit)})" for edit in crate.edits
-                 if not any(call in public and call.says_what for call in edit.calls)]
-        if inner:
-            text += "\n" + filled("Wrong bodies in what these call: " + ", ".join(inner) + ".")
-        return text
-
-    def place(self, edit):
-        """Where an edit changes the code."""
-        titles = list(dict.fromkeys(call.title for call in edit.calls))
-        return listed(titles) if titles else listed(sorted(set(edit.files)))
-
-    def definitions(self, part, name, *files):
-        """The definitions of these files that the part's contracts rest on."""
-        if files == ("*",):
-            files = ("types", *self.crates[name].specs)
-        return "\n".join(filter(None, [self.listing(part, name, file) for file in files]))
-
-    def listing(self, part, name, file):
-        """What one file of a crate has of a part, or its code, as a table with what the file says of itself."""
-        crate = self.crates[name]
-        of_part = {key for other in ([part] if part in PARTS else self.parts) for key in self.parts[other]} - self.shown
-        if file == "types":
-            found = sorted((what for what in crate.types.values() if id(what) in of_part), key=lambda what: what.name)
-            rows = [[f"`{what.name}`", what.doc or f"the {what.kind}", f"`src/{what.file}`"] for what in found]
-            text = table([f"Type of `{name}`", "It is", "Where"], rows)
-        else:
-            found = [what for what in crate.specs[file] if id(what) in of_part]
-            rows = [[f"`{what.name}`", what.doc or shown_text(what)] for what in found]
-            head = f"`{name}/specs/{file}.antt`" + (f": {crate.heads[file]}" if crate.heads[file] else "")
-            text = rows and f"{head}\n\n{table(['Definition', 'It says'], rows)}"
-        self.shown.update(map(id, found))
-        return text
-
-    def layers(self):
-        """The crates, each above those that it stands on. Named are those that none of the others named stands on."""
-        under, depths = {}, {}
-        for name, crate in self.crates.items():
-            own = [library for library in crate.libraries if library in self.crates and library not in TESTING]
-            under[name] = set(own).union(*(under[library] for library in own))
-            depths[name] = max((depths[library] for library in own), default=0) + 1
-        lines = []
-        for name in sorted(self.crates, key=lambda name: -depths[name]):
-            own = under[name] - {low for library in under[name] for low in under[library]}
-            kit = [library for library in self.crates[name].libraries if library not in self.crates]
-            named = " ".join(library for library in self.crates if library in own)
-            lines.append(f"{depths[name]}  {name:<18}{named:<42}{'+ ' + ' '.join(kit) if kit else ''}".rstrip() + "\n")
-        return "```\n" + "".join(lines) + "```\n"
-
-    def linked(self):
-        """The kit's libraries that the program links, in the order of crates.txt."""
-        below, waiting = [], [PROGRAM]
-        while waiting:
-            for library in self.crates[waiting.pop()].libraries:
-                if library not in below:
-                    below.append(library)
-                    waiting.extend([library] if library in self.crates else [])
-        kit = [library for library in below if library not in self.crates]
-        unknown = [library for library in kit if library not in OWN and library not in PORTS]
-        if unknown:
-            raise SystemExit(f"docs/make.py: PORTS and OWN don't say what {listed(unknown)} is for")
-        return kit
-
-    def libraries(self):
-        """What the program links beside its own crates: the ports that crates.txt names, what they bring, and the toolchain's own."""
-        kit = self.linked()
-        ports = [f"`{name}` {does}" for name, does in PORTS.items() if name in kit]
-        brought = [f"`{name}` (of `{port}`)" for port, name in BROUGHT.items() if port in kit]
-        own = [f"`{name}` {does}" for name, does in OWN.items() if name in kit and does]
-        text = (f"The crates stand on {number(len(ports) + len(own))} libraries of the kit. {number(len(ports)).capitalize()} are ported "
-                f"crates: {', '.join(ports)}; they bring {joined(brought)}. {number(len(own)).capitalize()} is the toolchain's own, beside "
-                f"its standard library: {', '.join(own)}.")
-        return filled(text)
-
-    def counts(self):
-        crates = self.crates.values()
-        edits = sum(len(crate.edits) for crate in crates)
-        calls = [call for crate in crates for call in crate.public if call.says_what]
-        clauses = sum(len(call.clauses) for call in calls)
-        rest = [what for part in self.parts.values() for _, what in part.values() if hasattr(what, "text")]
-        events = [what for _, what in self.parts["events"].values() if hasattr(what, "text")]
-        return filled(
-                f"{len(self.crates)} crates; {len(calls)} public calls with {clauses:,} clauses, which rest on {len(rest)} definitions, "
-                f"{len(events)} of them behind the contract of `World::run`; {edits} wrong bodies that the gate tries.")
-
-    def region(self, words):
-        kind, *rest = words.split()
-        if kind not in KINDS or (kind in ("calls", "definitions") and not self.knows(kind, rest)):
-            raise SystemExit(f"docs/make.py: no region is made of: {words}")
-        return getattr(self, kind)(*rest)
-
-    def knows(self, kind, words):
-        """Whether there is the part, the crate and the files that a region asks for."""
-        name, *files = words if kind == "calls" else words[1:]
-        crate = self.crates.get(name)
-        known = {"types", "*", *crate.specs} if crate else set()
-        return crate and set(files) <= known and (kind == "calls" or words[0] in self.parts)
-
-    def unlisted(self):
-        """The definitions that public contracts rest on and no region lists, by their files."""
-        left = {}
-        for part, found in self.parts.items():
-            for other, what in found.values():
-                if id(what) not in self.shown:
-                    left.setdefault(f"{part} {other} {what.file if hasattr(what, 'text') else 'types'}", []).append(what.name)
-        return left
+def made_libraries():
+    """The kit's libraries that the program links."""
+    below, linked, waiting = crates(), [], [PROGRAM]
+    while waiting:
+        for library in below.get(waiting.pop(), []):
+            if library not in linked:
+                linked.append(library)
+                waiting.append(library)
+    kit = [name for name in linked if name not in below]
+    if set(kit) - set(LIBRARIES):
+        raise SystemExit(f"docs/make.py: LIBRARIES lacks {set(kit) - set(LIBRARIES)}")
+    uses = [f"| `{name}` | {use} |\n" for name, use in LIBRARIES.items() if name in kit and use]
+    return "| Library of the kit | What it does here |\n|---|---|\n" + "".join(uses)
 
 
-def joined(words):
-    return " and ".join(words) if len(words) < 3 else ", ".join(words[:-1]) + " and " + words[-1]
+def made_figures():
+    """README's figures: the ratios to memcached of the stored run."""
+    it, names = json.loads(read(RUN)), ["get", "set", "get of 100 keys", "get, 32 deep", "set, 32 deep", "get of 10 KB", "set of 10 KB", "get of 1 MB", "set of 1 MB"]
+    found = {row["title"]: row["ratios"] for row in it["rows"]}
+    text = "| mcserver / memcached 1.6, 4 workers each | CPU time per request | Requests a second |\n|---|--:|--:|\n"
+    text += "".join(f"| {name} | {found[name]['us']['median']:.2f} | {found[name]['a_second']['median']:.2f} |\n" for name in names)
+    return text + f"\nRun of {it['date']}, commit `{it['commit']}`, {it['machine']}.\n"
 
 
-def number(count):
-    words = "no one two three four five six seven eight nine ten eleven twelve".split()
-    return words[count] if count < len(words) else str(count)
+def made_tcp():
+    """BENCHMARKS's table of the stored run."""
+    it = json.loads(read(RUN))
+    text = f"Run of {it['date']}, commit `{it['commit']}`, {it['machine']}, {it['memcached']}: `{it['command']}`.\n\n"
+    text += "| Workload | Requests/s, memcached | mcserver | Ratio | CPU us a request, memcached | mcserver | Ratio | p99 ratio |\n"
+    text += "|---|--:|--:|--:|--:|--:|--:|--:|\n"
+    for row in it["rows"]:
+        theirs, ours = row["sides"]["memcached"], row["sides"]["mcserver"]
+        shown = {name: f"{ratio['median']:.2f} ({ratio['least']:.2f}-{ratio['most']:.2f})" for name, ratio in row["ratios"].items()}
+        text += (f"| {row['title']} | {theirs['a_second']:,} | {ours['a_second']:,} | {shown['a_second']} | {theirs['us']:.2f} | "
+                 f"{ours['us']:.2f} | {shown['us']} | {shown['p99']} |\n")
+    return text
 
 
-def shown_text(what):
-    """A definition without a comment: its variants, or its equations where they are short, else its type; as code."""
-    if what.makers:
-        return "one of " + ", ".join(f"`{maker}`" for maker in what.makers)
-    lines = [" ".join(line.split()) for line in what.text.split("\n") if line.strip()]
-    equations = ""
-    for line in lines[1:]:
-        equations += ("; " if equations and line.startswith(what.name + " ") else " ") + line
-    return f"`{equations.strip() if equations and len(equations) <= 100 else lines[0]}`"
+def made_clauses(file, name, *clauses):
+    """The contract of a function as it stands, or some of its clauses."""
+    head = re.search(rf"^ *(?:pub )?fn {name}\b.*?\n *(?:{{\n|{{}}\n)", read(file), re.S | re.M).group(0)
+    found = re.findall(r"^ *(?:requires|ensures) (\w*).*?(?=\n *(?:requires|ensures|{\n|{}\n|//))", head, re.S | re.M)
+    texts = re.findall(r"^ *(?:requires|ensures) .*?(?=\n *(?:requires|ensures|{\n|{}\n|//))", head, re.S | re.M)
+    kept = [text for text, clause in zip(texts, found) if not clauses or clause in clauses]
+    return "```\n" + textwrap.dedent("\n".join(kept)) + "\n```\n"
 
 
-def written(maker, text):
-    """A document with its regions made anew."""
-    return REGION.sub(lambda found: f"{found.group(1)}{maker.region(found.group(2))}{found.group(4)}", text)
+def line_of(name, file):
+    """The line at which a definition or a function begins."""
+    for number, line in enumerate(file.read_text(encoding="utf-8").splitlines(), 1):
+        if re.match(rf" *(?:(?:pub|abbrev|unfoldable|record|data|fn) )+{name}\b", line):
+            return number
+    raise SystemExit(f"docs/make.py: {file} has no {name}")
+
+
+KINDS = {"crates": made_crates, "libraries": made_libraries, "figures": made_figures, "tcp": made_tcp, "clauses": made_clauses}
+
+
+def tracked(pattern="*"):
+    listed = subprocess.run(["git", "-C", ROOT, "ls-files", pattern], stdout=subprocess.PIPE, check=True, text=True).stdout
+    return [path for path in listed.split() if (ROOT / path).is_file()]
+
+
+def made_anew():
+    """Each file that is made, in whole or in part, with the text it should have."""
+    for path in tracked("*.md"):
+        text = read(path)
+        new = REGION.sub(lambda found: found[1] + KINDS[found[2].split()[0]](*found[2].split()[1:]) + found[4], text)
+        here = (ROOT / path).parent
+        new = PLACE.sub(lambda found: f"[`{found[1]}`]({found[2]}#L{line_of(found[1], here / found[2])})", new)
+        if "<!-- made: " in text:
+            yield path, new
+    yield "docs/tcp.svg", chart.chart(json.loads(read(RUN))["rows"])
 
 
 def known_words():
-    """Every word of the sources, and the name of every file and folder."""
-    words = set()
-    for path, folders, files in os.walk(ROOT):
-        folders[:] = [folder for folder in folders if folder not in (".git", "out", "docs", "__pycache__")]
-        for file in files:
-            words.update(re.findall(r"\w+", os.path.relpath(f"{path}/{file}", ROOT)))
-            if file.endswith((".rt", ".antt", ".py", ".c", ".h", ".sh", ".txt", ".edit", ".1")) or file in ("Makefile", "HANDLES"):
-                words.update(re.findall(r"\w+", read(f"{path}/{file}")))
-    return words
+    """Every word of the sources, and of the names of files."""
+    text = "\n".join(read(path) for path in tracked() if not path.endswith((".md", ".svg", ".json")) and not path.startswith("tests/rows"))
+    return set(re.findall(r"\w+", text + " ".join(tracked())))
 
 
-def is_there(path, crate):
-    """Whether a path of a document is there: in the crate that is spoken of, or else from the top, in docs/, or in some crate."""
-    crates = [crate] if crate else os.listdir(f"{ROOT}/crates")
-    places = [*(f"{ROOT}/crates/{entry}" for entry in crates), *([] if crate else [ROOT, f"{ROOT}/docs"])]
-    return any(os.path.exists(f"{place}/{path}") for place in places)
+def lost(path, words):
+    """What a document names that isn't there: links, paths and names in code spans; and documents that it names without a link."""
+    text = re.sub(r"^```.*?^```", "", REGION.sub("", read(path)), flags=re.S | re.M)
+    here = (ROOT / path).parent
+    for target, _, anchor in (found.partition("#") for found in re.findall(r"\]\(([^)\s]+)\)", text)):
+        if not re.match(r"\w+:", target):
+            to = here / target if target else ROOT / path
+            heads = re.findall(r"^#+ (.*)", to.read_text(encoding="utf-8"), re.M) if to.is_file() and anchor else []
+            if not to.exists() or (anchor and not re.fullmatch(r"L\d+", anchor) and anchor not in [re.sub(r"[^\w -]", "", head).replace(" ", "-").lower() for head in heads]):
+                yield f"{path}: there is no {target}{'#' + anchor if anchor else ''}"
+    bare = re.sub(r"\[[^]]*\]\([^)]*\)", "", text)
+    yield from (f"{path}: {name} is no link" for name in re.findall(r"[\w/]*[A-Z]+\.md\b", re.sub(r"`[^`]*`", "", bare)))
+    for span in re.findall(r"`([^`\n]+)`", text):
+        if re.fullmatch(r"[\w.-]+(/[\w.-]+)+/?", span) and re.search(r"\.\w+$|/$", span) and not re.search(r"[XA-Z]{4}|\bX|out/", span):
+            if not any((place / span).exists() for place in PLACES):
+                yield f"{path}: there is no {span}"
+        elif path in INSIDE and re.fullmatch(r"[A-Za-z_][\w:]*(\(\))?", span):
+            yield from (f"{path}: nothing is named {word}" for word in re.findall(r"\w+", span) if word not in words | OTHERS)
 
 
-def faults_of(document, text, words):
-    """What a document names, in the text that a hand wrote, that isn't there."""
-    text = re.sub(r"^```.*?^```", "", REGION.sub("", text), flags=re.S | re.M)
-    faults = []
-    for line in text.splitlines():
-        row = re.match(r"\| `(mc_\w+)` \|", line)
-        for span in re.findall(r"`([^`]+)`", line):
-            if re.fullmatch(r"[\w.]+(/[\w.]+)+/?", span) and re.search(r"\.\w+$|/$", span) and not EXAMPLES.search(span):
-                faults += [] if is_there(span, row and row.group(1)) else [f"{document}: there is no {span}"]
-            if re.fullmatch(r"[A-Za-z_][\w:]*(\(\))?", span):
-                faults += [f"{document}: nothing is named {word} (`{span}`)" for word in re.findall(r"\w+", span)
-                           if word not in words and word not in OTHERS]
-    return faults + lost_paths(document, text)
+def lacking_options():
+    """Options that PROTOCOL.md or the manual page lacks, and documents of another version."""
+    code, rows = (read(f"crates/mc_options/src/{name}.rt") for name in ("options", "served"))
+    version = re.search(r'const VERSION: .*"([\d.]+) ', code).group(1)
+    for path in ("docs/PROTOCOL.md", "man/mcserver.1"):
+        text = read(path).replace("\\-", "-")
+        yield from (f"{path}: --{option} is missing" for option in re.findall(r'long: "([\w-]+)"', rows) if f"--{option}" not in text)
+        if f"mcserver {version}" not in text:
+            yield f"{path}: the version isn't {version}"
+    if f"\n## {version}\n" not in read("CHANGELOG.md"):
+        yield f"CHANGELOG.md: {version} is missing"
 
 
-def lost_paths(document, text):
-    """The paths of a document, as it names them from the top, that aren't there."""
-    paths = re.findall(r"(?<![\w/])(?:docs|tests|bench|man|packaging)/[\w/]+\.(?:md|py|svg|c|sh)\b", text)
-    return [f"{document}: there is no {path}" for path in paths if not os.path.exists(f"{ROOT}/{path}")]
-
-
-def untold_options():
-    """The options of the program that a document for users doesn't tell, and documents that tell another version."""
-    code, rows = (read(f"{ROOT}/crates/mc_options/src/{name}.rt") for name in ("options", "served"))
-    faults, version = [], re.search(r'const VERSION: .*"([\d.]+) ', code).group(1)
-    for document in OPTIONS:
-        text = read(f"{ROOT}/{document}").replace("\\-", "-")
-        faults += [f"{document}: there is nothing of --{option}" for option in re.findall(r'long: "([\w-]+)"', rows)
-                   if f"--{option}" not in text]
-        faults += [] if f"mcserver {version}" in text else [f"{document}: the version isn't {version}"]
-    if f"\n## {version}\n" not in read(f"{ROOT}/CHANGELOG.md"):
-        faults.append(f"CHANGELOG.md: there is nothing of {version}")
-    return faults
-
-
-def check(maker):
-    """Compares every document with what it would be; the number of faults."""
+def check():
     passed, faults, words = 0, [], known_words()
-    for document in DOCUMENTS:
-        text = read(f"{ROOT}/{document}")
-        regions = [(found.group(0), found.group(2)) for found in REGION.finditer(text)]
-        if len(regions) != len(re.findall("^<!-- made from the sources", text, re.M)):
-            faults.append(f"{document}: a region has no end")
-        for whole, words_of in regions:
-            if written(maker, whole) == whole:
-                passed += 1
-            else:
-                faults.append(f"{document}: {words_of} isn't what the sources say: make docs")
-        wrong = faults_of(document, text, words)
-        wrong += [f"{document}: the map has no row of {name}" for name in maker.crates
-                  if document == MAP and f"| `{name}` |" not in text]
-        faults += wrong
-        passed += not wrong
-    for wrong in [untold_options(), *(lost_paths(document, read(f"{ROOT}/{document}")) for document in FOR_USERS)]:
-        faults += wrong
-        passed += not wrong
-    for place, names in maker.unlisted().items():
-        faults.append(f"docs/DEFINITIONS.md: no region lists {place}: {', '.join(names)}")
-    for fault in faults:
-        print(fault)
-    print(f"{passed} passed, {len(faults)} failed")
-    return 1 if faults or not passed else 0
+    stale = [f"{path}: not what the sources say: make docs" for path, new in made_anew() if read(path) != new]
+    untested = [f"{root_file(crate)}: no line 'Tests: CRATE, FILE'" for crate in crates()
+                if not crate.endswith("_tests") and not re.search(r"Tests: ", " ".join(page(crate)))]
+    for found in (stale, untested, list(lacking_options()), *(list(lost(path, words)) for path in tracked("*.md")), *style.faults(ROOT)):
+        faults += found
+        passed += not found
+    print("\n".join([*faults, f"{passed} passed, {len(faults)} failed"]))
+    return int(bool(faults) or not passed)
 
 
 def main():
-    parser = argparse.ArgumentParser(description="Makes the parts of the documents that the sources tell.")
-    parser.add_argument("--check", action="store_true", help="write nothing, and tell what differs")
-    asked, maker = parser.parse_args(), Maker()
-    if asked.check:
-        return check(maker)
-    for document in DOCUMENTS:
-        text = read(f"{ROOT}/{document}")
-        new = written(maker, text)
-        if new != text:
-            with open(f"{ROOT}/{document}", "w", encoding="utf-8") as opened:
-                opened.write(new)
-            print(f"{document} is made anew")
-    for place, names in maker.unlisted().items():
-        print(f"docs/DEFINITIONS.md: no region lists {place}: {', '.join(names)}")
+    if sys.argv[1:] == ["--check"]:
+        return check()
+    (ROOT / "out/docs").mkdir(parents=True, exist_ok=True)
+    for path, text in [("out/docs/CALLS.md", list_calls()), ("out/docs/DEFINITIONS.md", list_definitions()), *made_anew()]:
+        (ROOT / path).write_text(text, encoding="utf-8")
     return 0
 
 
