@@ -15,6 +15,8 @@
 //! becomes a stray only if no bucket is possible.
 //!
 //! Begin with `specs/Moves.antt` and `src/displace.rt`.
+//!
+//! Tests: mc_grow_tests, src/displace_tests.rt.
 #![tactic(auto)]
 
 mod displace;

@@ -1,4 +1,8 @@
 //! An index that grows: two tables and strays.
+//!
+//! A place is the number of a cell: the old table's buckets come first, then the table's, then the
+//! strays. A sweep goes by these numbers. One call (`update`) changes an entry, and keeps its hash
+//! and key.
 
 ghost use Rattle.std.specs.Prelude.{◌≡◌, ℕ, List, Option, ◌+◌, ◌-◌, ◌<◌, ◌≤◌, ◌^◌, ◌∷◌, Some, None, IfOk, IfSome, OnOk, OnErr};
 ghost use Rattle.std.specs.Prelude.{IsNone, option_copied, min, nat_lt, true, false, length};

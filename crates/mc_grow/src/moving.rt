@@ -14,8 +14,7 @@ use crate::adding::add;
 use crate::strays::Strays;
 use mc_hop::{Hop, Keyed};
 
-/// Adds an entry of a new key to a bucket near its home or else to the strays, and returns its
-/// place.
+/// Adds an entry of a new key to a bucket near its home, else to the strays; returns its place.
 ///
 /// Places count the buckets, and then the strays. It takes no memory.
 pub(crate) fn place<T: Keyed + Drop>(table: &mut Hop<T>, strays: &mut Strays<T>, entry: T) -> usize

@@ -1,4 +1,8 @@
 //! The strays of an index: a list, and an order for searching it.
+//!
+//! The order is by hash, then key, so a search among n strays reads at most as many as n has binary
+//! digits. Keys with one hash are cheap to make, and each beyond 32 in a home is a stray. Inserting
+//! moves 8 bytes for each following stray, and no entries.
 
 ghost use Rattle.std.specs.Prelude.{◌≡◌, ℕ, ◌+◌, ◌<◌, ◌≤◌, ◌^◌, ◌∷◌, ◌++◌, [], Some, None, IfSome, IsNone, IfOk, IfErr, OnOk, map, length};
 ghost use Rattle.std.specs.Prelude.{option_copied, slice_index_or, vec_len, vec_capacity};

@@ -91,8 +91,7 @@ fn set_word_in(cells: &mut Vec<Cell>, at: usize, word: u32)
     cells[at].word = word;
 }
 
-/// Renumbers the value that was the last of the list and is now at `place`, unless `place` was the
-/// last.
+/// Renumbers the value now at `place`, which was the last, unless `place` was the last place.
 fn renumber(cells: &mut Vec<Cell>, places: &Vec<u32>, place: usize)
     requires inside { place < vec_len places.now →
         slice_index_or places.now.items place 0 < vec_len cells.old }

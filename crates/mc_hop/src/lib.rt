@@ -1,11 +1,11 @@
-//! Hashes of keys, and one hopscotch table (Herlihy, Shavit and Tzafrir, "Hopscotch Hashing", DISC
-//! 2008).
+//! Hashes of keys, and one hopscotch table.
 //!
 //! The search for a key decides what a cache costs, and clients may choose the keys. In a hopscotch
-//! table an entry is within 31 buckets of its home, and a word beside the home has a bit for each
-//! of these 32 buckets. So a search reads at most 32 entries, found or not, however full the table
-//! is, and a removal leaves nothing behind that later searches read. A bucket also has seven bits
-//! of its entry's hash, its tag, and a search reads an entry only if the tag is equal.
+//! table (Herlihy, Shavit and Tzafrir, "Hopscotch Hashing", DISC 2008) an entry is within 31
+//! buckets of its home, and a word beside the home has a bit for each of these 32 buckets. So a
+//! search reads at most 32 entries, found or not, however full the table is, and a removal leaves
+//! nothing behind that later searches read. A bucket also has seven bits of its entry's hash, its
+//! tag, and a search reads an entry only if the tag is equal.
 //!
 //! A [`Hop`] is a table of 2^k homes, k from 6 to 24, and 255 further buckets, so that nothing
 //! wraps around. It never grows, and moves no entry by itself: `mc_displace` makes room near a
@@ -19,6 +19,8 @@
 //! map at one key; the words are in the invariant. The laws state the same of lists of buckets.
 //!
 //! Begin with `specs/Tables.antt` and `src/table.rt`; how a bucket is stored is `src/cells.rt`.
+//!
+//! Tests: mc_grow_tests, src/hop_tests.rt.
 #![tactic(auto)]
 
 mod bits;

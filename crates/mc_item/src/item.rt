@@ -232,8 +232,7 @@ impl Item {
         );
     }
 
-    /// Appends bytes to its block in place, and sets flags, expiry, unique number and time of
-    /// update.
+    /// Appends bytes to its block in place, and sets flags, expiry, unique number and `updated`.
     ///
     /// The key, its hash and the chunks are unchanged. It copies only the new bytes, and takes no
     /// memory.

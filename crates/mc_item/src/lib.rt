@@ -16,6 +16,8 @@
 //! byte first, is proved once, below (`src/header.rt`, `src/run.rt`).
 //!
 //! Begin with `specs/Layout.antt` and `src/item.rt`.
+//!
+//! Tests: mc_item_tests, src/item_tests.rt.
 #![tactic(auto)]
 
 mod header;

@@ -67,8 +67,9 @@ impl Ahead {
         }
     }
 
-    /// Returns the cursor before the first turn of the retrieval at the front, or `None` for
-    /// anything else.
+    /// Returns the cursor before the first turn of the retrieval at the front.
+    ///
+    /// It is `None` if anything else is there.
     pub fn cursor(&self, unread: &[u8]) -> Option<Cursor>
         requires { (greatest : ℕ) × Knows greatest self.now unread.now }
         ensures some { (greatest : ℕ) →

@@ -161,8 +161,8 @@ impl Buffer {
 
 /// Shrinks a large allocation whose bytes are no longer wanted.
 ///
-/// The C library caches allocations up to the size of the largest one that was freed whole, and
-/// twice as many bytes for each thread.
+/// The C library caches freed allocations up to the size of the largest mapping that was freed
+/// whole, and twice as many bytes for each thread.
 fn make_small(all: &mut Vec<u8>) {
     if all.capacity() > LARGE {
         all.clear();

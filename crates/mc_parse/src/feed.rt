@@ -140,8 +140,8 @@ impl Feed {
         self.unit_after(taken)
     }
 
-    /// Notes that `taken` turns of the first unit were taken, so that `peek_after` finds the next
-    /// at once.
+    /// Notes that `taken` turns of the first unit were taken. `peek_after` then finds the next at
+    /// once.
     pub fn mark(&mut self, taken: usize)
         ensures { self.new ≡ self.old }
     {
@@ -262,8 +262,9 @@ impl Feed {
         }
     }
 
-    /// Returns the cursor after `taken` turns of the retrieval at the front, or `None` for anything
-    /// else.
+    /// Returns the cursor after `taken` turns of the retrieval at the front.
+    ///
+    /// It is `None` if anything else is there.
     fn cursor_at(&self, taken: usize) -> Option<Cursor>
         ensures some { IsCursor self.now.greatest result self.now.bytes }
         ensures taken { IfSome result (λ cursor. cursor.taken ≡ taken) }

@@ -22,6 +22,8 @@
 //! that it makes no difference how a stream is cut into pieces.
 //!
 //! Begin with `specs/Lines.antt` and `src/line.rt` for the grammar, `src/feed.rt` for the stream.
+//!
+//! Tests: mc_session_tests, src/parse_tests.rt.
 #![tactic(auto)]
 
 mod ahead;

@@ -199,8 +199,7 @@ impl Note {
         }
     }
 
-    /// Returns the length in bytes of the line and the block that it announces, or 0 without a
-    /// block.
+    /// Returns the length in bytes of the line with the block that it announces, or 0 without one.
     pub fn announced_bytes(&self) -> usize {
         match self.said {
             Ok(noted) => match announced_block(&noted) {
@@ -230,8 +229,9 @@ impl Note {
         }
     }
 
-    /// Returns the cursor before the first turn of the line's retrieval, or `None` for anything
-    /// else.
+    /// Returns the cursor before the first turn of the line's retrieval.
+    ///
+    /// It is `None` if the line is anything else.
     pub fn cursor(&self, unread: &[u8]) -> Option<Cursor>
         requires { (greatest : ℕ) × IsNoted greatest self.now unread.now }
         ensures some { (greatest : ℕ) →

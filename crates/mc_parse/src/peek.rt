@@ -59,10 +59,9 @@ pub fn first_feed(unread: &[u8], searched: usize) -> Option<usize>
     }
 }
 
-/// Returns what the unread bytes begin with, given the parsed first line with its line feed at
-/// `end`.
+/// Returns what the unread bytes begin with, if the line that ends at `end` announces a block.
 ///
-/// The line announces a block of `len` bytes.
+/// The line is parsed, and its block has `len` bytes.
 #[inline]
 pub fn block_peeked<'a>(
     noted: &Noted,

@@ -16,6 +16,8 @@
 //! fails only if the vector has no room for the text.
 //!
 //! Begin with `specs/Texts.antt` and `src/texts.rt`.
+//!
+//! Tests: mc_session_tests, src/reply_tests.rt.
 #![tactic(auto)]
 
 mod numbers;

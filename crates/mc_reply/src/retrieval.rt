@@ -37,8 +37,7 @@ pub(crate) fn write_retrieval(
     }
 }
 
-/// Appends a retrieval's text of a hit with these flags, this unique number and the block in these
-/// parts.
+/// Appends a retrieval's text of a hit, whose block is the parts one after another.
 pub(crate) fn write_found(
     keys: &Keys<'_>,
     with_unique: bool,

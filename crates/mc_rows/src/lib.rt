@@ -11,6 +11,8 @@
 //! `mc_session_tests` (`src/rows_tests.rt`).
 //!
 //! Begin with `src/steps.rt`.
+//!
+//! Tests: mc_session_tests, src/rows_tests.rt.
 #![tactic(auto)]
 
 mod steps;

@@ -110,8 +110,9 @@ pub fn told_of(taken: &Result<Reply, StepFault>) -> &'static str {
     }
 }
 
-/// Returns the flags, the unique number and the block of a hit, or a number in place of the unique
-/// number.
+/// Returns a hit's flags, unique number and block.
+///
+/// For a number it returns the number in place of the unique number.
 fn parts(reply: &Reply) -> (u32, u64, &[u8]) {
     match reply {
         Reply::Hit {
@@ -186,8 +187,7 @@ fn take_again<S: Steps>(
     Ok(Some(store.step(alloc, step, now)?))
 }
 
-/// Takes the steps of rows in order, and returns the second and the answer of the first unexpected
-/// one.
+/// Takes the steps of rows in order, and returns the first unexpected answer with its second.
 ///
 /// It stops there. A step that is refused memory must leave its key's item unchanged, and is taken
 /// again.

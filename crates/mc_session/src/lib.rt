@@ -19,6 +19,8 @@
 //! succeeded. The laws state that the pieces of a stream make no difference.
 //!
 //! Begin with `specs/Turns.antt` and `src/session.rt`; the loop is `src/rounds.rt`.
+//!
+//! Tests: mc_session_tests, src/session_tests.rt.
 #![tactic(auto)]
 
 mod after_turn;

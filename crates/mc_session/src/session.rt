@@ -230,8 +230,7 @@ impl Session {
         self.feed.capacity().saturating_add(self.out.capacity())
     }
 
-    /// Frees the memory beyond that of two first pieces, if nothing is unread and no output is
-    /// left.
+    /// Frees memory beyond that of two first pieces, if there are no unread bytes and no output.
     ///
     /// Returns the number of reserved bytes afterwards.
     pub fn rest(&mut self) -> usize

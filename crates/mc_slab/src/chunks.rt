@@ -1,4 +1,7 @@
 //! Chunks that are taken and given back together.
+//!
+//! `Chunks` may be dropped. Dropped chunks stay counted as in use. A linear type would need a
+//! destructor by hand in each type that holds chunks.
 
 ghost use Rattle.std.specs.Prelude.{◌≡◌, ℕ, ◌+◌, ◌-◌, ◌<◌, ◌≤◌, length, take, IfOk};
 ghost use Rattle.mc_slab.specs.Chunks.{ChunksState, AreChunks, AreChunksOf, chunk_at, need_in, with_part};
@@ -81,8 +84,9 @@ impl Chunks {
         held::write_at(&mut self.held, at, part);
     }
 
-    /// Cuts one chunk of a class below the last off the front of memory, and returns it with the
-    /// rest.
+    /// Cuts one chunk of a class below the last off the front of memory.
+    ///
+    /// Returns the chunk and the rest of the memory.
     pub(crate) fn cut(class: Class, memory: &'static mut [u8]) -> (Chunks, &'static mut [u8])
         requires class { class < 40 }
         requires room { size_of class ≤ length memory.old }

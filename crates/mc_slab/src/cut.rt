@@ -1,4 +1,8 @@
 //! Cuts chunks off memory.
+//!
+//! A page is reserved in runs of at most 32768 bytes, or of one larger chunk. A run is written and
+//! cut when its first chunk is taken, and then stays with the process, because a chunk is a slice
+//! that lives as long as the process.
 
 ghost use Rattle.std.specs.Prelude.{◌≡◌, ◌<◌, ◌≤◌, length, take, drop};
 ghost use Rattle.mc_slab.specs.Classes.{IsClass, size_of};
@@ -7,7 +11,9 @@ ghost use Rattle.mc_slab.specs.Helds.{chunks_in};
 use crate::class::Class;
 use crate::held::Held;
 
-/// Cuts one chunk of a class below the last off the front of memory, and returns it with the rest.
+/// Cuts one chunk of a class below the last off the front of memory.
+///
+/// Returns the chunk and the rest of the memory.
 pub(crate) fn cut(class: Class, memory: &'static mut [u8]) -> (Held, &'static mut [u8])
     requires class { class < 40 }
     requires room { size_of class ≤ length memory.old }

@@ -1,4 +1,10 @@
-//! Where chunks lie: behind a thin pointer whose tag is the class, so that it takes 16 bytes.
+//! Where chunks are: behind a thin pointer whose tag is the class.
+//!
+//! A chunk takes 16 bytes of memory: an enum whose variant is the class and which holds a thin
+//! pointer to an array of that class's length. A slice would take 24 bytes. A chunk's length is
+//! read from the table of sizes and not from its variant, because match arms that differ in a
+//! constant compile to a jump table. A chunk is written by `write_at` and lends no mutable slice: a
+//! method that lends one isn't proved if its length is an invariant.
 
 ghost use Rattle.std.specs.Prelude.{◌≡◌, ◌+◌, ◌<◌, ◌≤◌, length, take, drop};
 ghost use Rattle.mc_slab.specs.Chunks.{ChunksState, AreChunks, need_in, with_part};

@@ -19,6 +19,8 @@
 //! sizes, and that no class is given more pages than a need wants.
 //!
 //! Begin with `specs/Slabs.antt` and `src/slab.rt`; the table is `src/class.rt`.
+//!
+//! Tests: mc_item_tests, src/slab_tests.rt.
 #![tactic(auto)]
 
 mod chunks;

@@ -122,11 +122,11 @@ impl Slab {
         Ok(stock.take(need.count()))
     }
 
-    /// Gives the class of a need the pages that it will want once `back` of its chunks were given
-    /// back.
+    /// Gives the class of a need the pages that it wants once `back` chunks were given back.
     ///
-    /// It gives all or none, so that the need can then be taken without a page. If too few pages
-    /// are left, or an allocation is refused, the slab is unchanged.
+    /// The chunks are of the same class. It gives all pages or none, so that the need can then be
+    /// taken without a page. If too few pages are left, or an allocation is refused, the slab is
+    /// unchanged.
     pub fn ready(&mut self, alloc: Global, need: Need, back: u64) -> Result<(), TakeFault>
         requires { back ≤ out_of self.old need.class }
         ensures { Readies need back self.old result self.new }

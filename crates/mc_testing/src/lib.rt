@@ -13,6 +13,8 @@
 //! steps over a store are in `mc_rows`.
 //!
 //! Begin with `src/streams.rt` and `src/marks.rt`.
+//!
+//! Tests: mc_grow_tests, src/stream_tests.rt.
 #![tactic(auto)]
 
 mod calls;

@@ -25,8 +25,7 @@ impl<'a> Drip<'a> {
         }
     }
 
-    /// Returns a reader of these bytes with one byte a call, which fails with `fault` after `calls`
-    /// calls.
+    /// Returns a reader of one byte a call, which fails with `fault` after `calls` calls.
     pub fn failing(bytes: &'a [u8], calls: usize, fault: ErrorKind) -> Drip<'a> {
         Drip {
             rest: bytes,

@@ -16,6 +16,8 @@
 //! [`Fixed`] its own alone, for the system's any. No contract promises that time goes forwards.
 //!
 //! Begin with `src/expiry.rt` and `specs/Death.antt`.
+//!
+//! Tests: mc_session_tests, src/rows_tests.rt.
 #![tactic(auto)]
 
 mod clock;
