@@ -1,15 +1,17 @@
-//! The plain store, and all names of the protocol that it is a store of.
+//! The plain store, and the names of `mc_protocol`, which it re-exports.
 //!
 //! [`PlainStore`] is the plain machine over an ordered map: the store that faster ones are compared
 //! with, and that tests of sessions run on. Contracts promise exactly the machine's reply and the
 //! state after it: the memory error exactly if no chunk is left, and spent numbers exactly if the
-//! machine is out of them. A step that isn't taken, for want of the host's memory or of a number,
-//! leaves the store as it was. [`KeyTest`] says which keys a purge is for.
+//! machine has none left. A step that isn't taken, for want of memory or of a number, leaves the
+//! store unchanged. A [`KeyTest`] selects the keys of a purge.
 //!
 //! The definitions (commands, steps, replies, the table, the laws) are in the crate `mc_protocol`,
-//! since the libraries of the program need no plain store. This crate exports their names too.
+//! since the libraries of the program need no plain store.
 //!
 //! Begin with `src/plain.rt`.
+//!
+//! Tests: mc_session_tests, src/plain_tests.rt.
 #![tactic(auto)]
 
 mod plain;

@@ -1,4 +1,7 @@
-//! The plain store: an ordered map, which takes each step as the plain machine does.
+//! The plain store: an ordered map that takes each step as the plain machine does.
+//!
+//! It is the reference that the store by shelves is compared with. It is short and slow: items are
+//! vectors in an ordered map, and chunks are only counted, by class, when a write needs room.
 
 mod item;
 mod purge;
@@ -29,7 +32,7 @@ pub struct PlainStore {
     items: BTreeMap<Vec<u8>, Item>,
     cut: Option<u64>,
     next_unique: u64,
-    /// How many pages each class has, class 1 first, and how many they are together.
+    /// The pages of each class, class 1 first, and their sum.
     pages: [u32; CLASSES],
     pages_in_use: u32,
 }
@@ -56,8 +59,9 @@ impl Model for PlainStore {
 }
 
 impl PlainStore {
-    /// Makes a store of no items, with at most that many pages, 1 to 65536, and that greatest
-    /// charge of an item in bytes, at most 8388608. Refused if memory is.
+    /// Makes an empty store with a limit of 1 to 65536 pages and a greatest charge of an item.
+    ///
+    /// The greatest charge is in bytes, at most 8388608. The only error is a refused allocation.
     pub fn new(alloc: Global, pages: u32, greatest: u64) -> Result<PlainStore, AllocError>
         requires pages { (1 ≤ pages) × (pages ≤ 65536) }
         requires greatest { greatest ≤ 8388608 }
@@ -66,8 +70,9 @@ impl PlainStore {
         PlainStore::with_next_number(alloc, pages, greatest, 1)
     }
 
-    /// Makes the same, whose first write draws the unique number `next`, at least 1. At 2^64 - 1 the
-    /// numbers are spent.
+    /// Makes an empty store whose first write uses the unique number `next`, at least 1.
+    ///
+    /// At 2^64 - 1 the numbers are used up. Otherwise it is as `new`.
     pub fn with_next_number(
         alloc: Global,
         pages: u32,
@@ -92,7 +97,7 @@ impl PlainStore {
 }
 
 impl PlainStore {
-    /// Finds the item that stands under the key: one that isn't dead.
+    /// Returns the item under the key, unless it is dead.
     fn standing_item(&self, key: &[u8], now: Moment) -> Option<&Item>
         ensures { option_copied result ≡ standing self.now key.now now }
     {
@@ -118,7 +123,7 @@ impl PlainStore {
         }
     }
 
-    /// Gives the key's item another expiry, if there is one.
+    /// Sets the expiry of the key's item, if there is one.
     fn set_expiry(&mut self, key: &[u8], expiry: Expiry)
         ensures { self.new ≡ expiring (get self.old.items key.now) key.now expiry self.old }
     {
@@ -128,9 +133,9 @@ impl PlainStore {
     }
 }
 
-// A step, by the protocol's table.
+// Steps, by the protocol's table.
 impl PlainStore {
-    /// Takes a step. A step that writes no item and hits none takes no memory.
+    /// Takes a step. A step that writes no item and has no hit takes no memory.
     fn perform(
         &mut self,
         alloc: Global,
@@ -160,7 +165,7 @@ impl PlainStore {
         self.apply(alloc, row, step, now)
     }
 
-    /// Does what a row does at a step's key.
+    /// Applies a row at a step's key.
     fn apply(
         &mut self,
         alloc: Global,
@@ -191,7 +196,7 @@ impl PlainStore {
         }
     }
 
-    /// Gives the item that stands under the key another expiry, if there is one.
+    /// Sets the expiry of the key's item, unless it is dead.
     fn expire(&mut self, key: &[u8], expiry: Expiry, now: Moment)
         ensures { self.new
             ≡ expiring (standing self.old key.now now) key.now expiry (found key.now self.old now) }
@@ -200,7 +205,7 @@ impl PlainStore {
         self.set_expiry(key, expiry);
     }
 
-    /// Answers with the item that stands under the key, and gives it the expiry that is given.
+    /// Replies with the key's item, and sets its expiry if one is given.
     fn read(
         &mut self,
         alloc: Global,
@@ -218,7 +223,7 @@ impl PlainStore {
         Ok(reply)
     }
 
-    /// Makes the reply of a retrieval, by the item that stands under the key.
+    /// Returns the reply of a retrieval.
     fn hit(&self, alloc: Global, key: &[u8], now: Moment) -> Result<Reply, AllocError>
         ensures ok { IfOk result (λ reply. reply ≡ hit_of (standing self.now key.now now)) }
         ensures err { OnErr result (CopiesBlock (hit_of (standing self.now key.now now))) }
@@ -229,7 +234,7 @@ impl PlainStore {
         }
     }
 
-    /// Drops all items, or, with a delay, the dead ones, and notes when the others are flushed.
+    /// Drops all items; with a delay it drops the dead ones and notes when the others are flushed.
     fn flush(&mut self, delay: u64, now: Moment) -> Reply
         ensures { plain self.old (KeyStep.Flush delay) now ≡ Answered result self.new }
     {
@@ -242,7 +247,7 @@ impl PlainStore {
         Reply::Flushed
     }
 
-    /// Drops every item that is dead.
+    /// Drops every dead item.
     fn drop_all_dead(&mut self, now: Moment)
         ensures { self.new ≡ record self.old { items = living self.old.items self.old.cut now } }
     {

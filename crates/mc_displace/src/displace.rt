@@ -8,7 +8,7 @@ ghost use Rattle.mc_displace.specs.Moves.{IsNear, IsStuck};
 
 use mc_hop::{Hop, Keyed, lowest};
 
-/// Finds an entry that can be moved into an empty bucket, if there is one: its home and its bucket.
+/// Returns the home and the bucket of an entry that can move into an empty bucket, or `None`.
 fn movable<T: Keyed + Drop>(hop: &Hop<T>, free: usize) -> Option<(usize, usize)>
     requires inside { free < length hop.now.items }
     requires far { 31 ≤ free }
@@ -28,7 +28,7 @@ fn movable<T: Keyed + Drop>(hop: &Hop<T>, free: usize) -> Option<(usize, usize)>
     None
 }
 
-/// Moves the entry of a bucket into an empty one within 31 of its home. The content is as it was.
+/// Moves the entry of a bucket into an empty one within 31 of its home. The content is unchanged.
 fn shift<T: Keyed + Drop>(hop: &mut Hop<T>, home: usize, at: usize, free: usize)
     requires empty { bucket_at hop.old.items free ≡ None }
     requires movable { IsMovable T.hash_of hop.old.k hop.old.items free at }
@@ -43,8 +43,10 @@ fn shift<T: Keyed + Drop>(hop: &mut Hop<T>, home: usize, at: usize, free: usize)
     hop.put_within(home, free, entry);
 }
 
-/// Brings an empty bucket within 31 of a home by moving entries. The content is as it was. An error
-/// is the empty bucket into which no entry can be moved.
+/// Moves entries until an empty bucket is within 31 of a home, and returns that bucket.
+///
+/// The error is an empty bucket into which no entry can be moved. The content is unchanged in both
+/// cases.
 pub fn bring_near<T: Keyed + Drop>(
     hop: &mut Hop<T>,
     home: usize,

@@ -9,8 +9,10 @@ ghost use Rattle.mc_grow.specs.Adding.{IsCrowded, NoneNear};
 use mc_displace::bring_near;
 use mc_hop::{Hop, Keyed};
 
-/// Puts an entry of a new key into a bucket near its home, where one is empty or others can be moved to make it so. Answers the
-/// bucket, or gives the entry back where none can be had; the table's content is then as it was. It takes no memory.
+/// Puts an entry of a new key into a bucket near its home, and returns the bucket.
+///
+/// If no bucket there is empty it moves other entries to empty one. If that fails it returns the
+/// entry, and the table's content is unchanged. It takes no memory.
 pub(crate) fn add<T: Keyed + Drop>(table: &mut Hop<T>, entry: T) -> Result<usize, T>
     requires { IsAbsent T.hash_of T.key_of table.old.items (T.hash_of entry) (T.key_of entry) }
     ensures size { (table.new.k ≡ table.old.k)
@@ -29,7 +31,7 @@ pub(crate) fn add<T: Keyed + Drop>(table: &mut Hop<T>, entry: T) -> Result<usize
         × (content T.hash_of T.key_of table.new.items ≡ content T.hash_of T.key_of table.old.items)
         × IsCrowded T.hash_of table.new.k table.new.items (home_in table.new.k (T.hash_of entry))) }
 {
-    // how many buckets there are, for the proof
+    // for the proof: how many buckets there are
     let _buckets = table.buckets();
     let home = table.home_of(entry.hash());
     let Some(free) = table.free_from(home) else {

@@ -1,4 +1,8 @@
 //! An index that grows: two tables and strays.
+//!
+//! A place is the number of a cell: the old table's buckets come first, then the table's, then the
+//! strays. A sweep goes by these numbers. One call (`update`) changes an entry, and keeps its hash
+//! and key.
 
 ghost use Rattle.std.specs.Prelude.{◌≡◌, ℕ, List, Option, ◌+◌, ◌-◌, ◌<◌, ◌≤◌, ◌^◌, ◌∷◌, Some, None, IfOk, IfSome, OnOk, OnErr};
 ghost use Rattle.std.specs.Prelude.{IsNone, option_copied, min, nat_lt, true, false, length};
@@ -20,20 +24,22 @@ use std::alloc::{AllocError, Global};
 use std::marker::Model;
 use std::mem;
 
-/// How many strays keep their room when a growth is over.
+/// The number of strays that keep their room after a growth.
 const SMALL_ROOM: usize = 64;
 
-/// Where an entry stands in an index, until one comes, goes or is moved. `Index::find_again` finds it then.
+/// Where an entry is in an index, until an entry is inserted, removed or moved.
+///
+/// `Index::find_again` finds the entry after that.
 #[derive(Clone, Copy, PartialEq, Eq)]
 pub struct Place {
     number: usize,
 }
 
-/// Entries by their hashes and keys. They stand in a table, and while it grows in the old table too; an entry for which no bucket can
-/// be had near its home is a stray, in a list.
+/// Entries by hash and key, in a table and, during a growth, also in the old table.
 ///
-/// Contracts see the buckets of both tables and the strays, which together are one finite map (`holds`), whether a growth runs, and
-/// how many entries more may come before memory is asked for.
+/// An entry that gets no bucket near its home is a stray, in a list. Contracts see the buckets of
+/// both tables and the strays, which together are one finite map (`holds`), whether a growth runs,
+/// and how many entries can be inserted before memory is needed.
 #[derive(Drop)]
 pub struct Index<T: Keyed + Drop> {
     draining: Option<Hop<T>>,
@@ -65,7 +71,9 @@ impl<T: Keyed + Drop> Model for Index<T> {
 }
 
 impl<T: Keyed + Drop> Index<T> {
-    /// Makes an index of one table of 2^k homes, k from 6 to 24, with no entry. The one error is a refused allocation.
+    /// Makes an empty index with one table of 2^k homes, k from 6 to 24.
+    ///
+    /// The only error is a refused allocation.
     pub fn new(alloc: Global, k: u32) -> Result<Index<T>, AllocError>
         requires { (6 ≤ k) × (k ≤ 24) }
         ensures { IfOk result (IsNew k) }
@@ -77,15 +85,17 @@ impl<T: Keyed + Drop> Index<T> {
         })
     }
 
-    /// Finds the place of the entry of that hash and key. It reads at most 32 entries of each table, and of the strays as many as
-    /// their count has binary digits.
+    /// Returns the place of the entry with this hash and key, or `None`.
+    ///
+    /// It reads at most 32 entries of each table, and at most as many strays as their number has
+    /// binary digits.
     pub fn find(&self, hash: u64, key: &[u8]) -> Option<Place>
         ensures { IsFoundIn T.hash_of T.key_of self.now hash key.now result }
     {
         self.find_counted(hash, key, &mut Uncounted)
     }
 
-    /// Finds the place as `find` does, by the same reads, and counts the entries that it reads.
+    /// Returns the place as `find` does, and counts the entries that it reads.
     pub fn find_counted<C: Counts>(&self, hash: u64, key: &[u8], reads: &mut C) -> Option<Place>
         ensures found { IsFoundIn T.hash_of T.key_of self.now hash key.now result }
         ensures reads { C.count reads.new ≤ C.count reads.old + most_reads self.now }
@@ -106,12 +116,13 @@ impl<T: Keyed + Drop> Index<T> {
         }
     }
 
-    /// Finds the place as `find` does, whatever the place is that it is given: it looks there
-    /// first, which is one read if the entry was found there and has not moved since.
+    /// Returns the place as `find` does, and looks first at `place`, which may be any.
+    ///
+    /// It reads one entry if the entry was found there and has not moved since.
     pub fn find_again(&self, place: Place, hash: u64, key: &[u8]) -> Option<Place>
         ensures { IsFoundIn T.hash_of T.key_of self.now hash key.now result }
     {
-        // what holds of every index, for the proof
+        // for the proof: the invariant of the index
         let _ = &self.table;
         match self.get(place) {
             Some(entry) if entry.hash() == hash && entry.key() == key => Some(place),
@@ -119,7 +130,8 @@ impl<T: Keyed + Drop> Index<T> {
         }
     }
 
-    /// States that all searches for one hash and key find one place, or none does. It does nothing.
+    /// States that all searches for one hash and key return the same place, or none does. It does
+    /// nothing.
     pub fn one_place_is_found(&self)
         ensures { (hash : ℕ) (key : List ℕ) (one other : Option Place) →
             IsFoundIn T.hash_of T.key_of self.now hash key one →
@@ -128,7 +140,7 @@ impl<T: Keyed + Drop> Index<T> {
         let _ = &self.strays;
     }
 
-    /// Tells which part a place is in, and which of it.
+    /// Returns the part that a place is in, and its number there.
     fn spot(&self, place: Place) -> Spot
         ensures { IsSpot (length self.now.draining) (length self.now.table) place.number result }
     {
@@ -143,7 +155,7 @@ impl<T: Keyed + Drop> Index<T> {
         }
     }
 
-    /// Finds the first number at or above `at` that has an entry.
+    /// Returns the first filled number at or above `at`.
     fn next_filled(&self, at: usize) -> Option<usize>
         ensures found { IfSome result (IsFirstFilled (cells self.now) at) }
         ensures none { IsNone result → NoneFilledFrom (cells self.now) at }
@@ -165,7 +177,7 @@ impl<T: Keyed + Drop> Index<T> {
         }
     }
 
-    /// Lends the entry at a place, if one stands there.
+    /// Lends the entry at a place, or `None`.
     pub fn get(&self, place: Place) -> Option<&T>
         ensures { option_copied result ≡ entry_at self.now place }
     {
@@ -176,8 +188,9 @@ impl<T: Keyed + Drop> Index<T> {
         }
     }
 
-    /// Changes the entry at a place by a closure that keeps its hash and its key, and hands out what the closure answers beside
-    /// it. It takes no memory of its own.
+    /// Changes the entry at a place by a closure, and returns the closure's second result.
+    ///
+    /// The closure must keep the hash and the key. It takes no memory of its own.
     pub fn update<R, F: FnOnce(T) -> (T, R)>(&mut self, place: Place, change: F) -> R
         requires filled { IsFilled self.old place }
         requires keeps { (entry : T) → entry_at self.old place ≡ Some entry →
@@ -192,7 +205,7 @@ impl<T: Keyed + Drop> Index<T> {
         }
     }
 
-    /// Counts the entries.
+    /// Returns the number of entries.
     pub fn len(&self) -> usize
         ensures count { result ≡ count self.now }
         ensures held { len (holds T.hash_of T.key_of self.now) ≡ result }
@@ -201,14 +214,15 @@ impl<T: Keyed + Drop> Index<T> {
         drained_len(&self.draining) + self.table.len() + self.strays.len()
     }
 
-    /// States that each entry is counted once: the content has as many as stand in it. It does nothing.
+    /// States that the content has as many entries as there are filled buckets and strays. It does
+    /// nothing.
     pub fn each_entry_counts_once(&self)
         ensures { len (holds T.hash_of T.key_of self.now) ≡ count self.now }
     {
         let _ = &self.strays;
     }
 
-    /// Counts the entries of the old table, which are left to move.
+    /// Returns the number of entries of the old table, which are still to be moved.
     pub fn entries_to_move(&self) -> usize
         ensures value { result ≡ left self.now }
         ensures rests { self.now.growing ≡ false → result ≡ 0 }
@@ -216,7 +230,9 @@ impl<T: Keyed + Drop> Index<T> {
         drained_len(&self.draining)
     }
 
-    /// Counts the strays, for which no bucket could be had near their homes. They are tried again when a growth ends.
+    /// Returns the number of strays, entries without a bucket near their home.
+    ///
+    /// They are tried again when a growth ends.
     pub fn strays(&self) -> usize
         ensures count { result ≡ length self.now.strays }
         ensures within { result + left self.now ≤ count self.now }
@@ -224,7 +240,7 @@ impl<T: Keyed + Drop> Index<T> {
         self.strays.len()
     }
 
-    /// Counts the homes of the table that new entries go to: 2^k of them, k from 6 to 24. A growth doubles them.
+    /// Returns the number of homes of the newer table, 2^k, k from 6 to 24. A growth doubles it.
     pub fn homes(&self) -> usize
         ensures value { result ≡ 2 ^ self.now.k }
         ensures range { (64 ≤ result) × (result ≤ 2 ^ 24) }
@@ -239,10 +255,11 @@ impl<T: Keyed + Drop> Index<T> {
         self.draining.is_some()
     }
 
-    /// Returns whether a growth lags: it runs, and with one entry more there would be more than
-    /// three for every four homes of the new table. Were none running, that load would begin one.
-    /// Whoever puts in entries calls `move_some` then: if the new table is full before the old one
-    /// is empty, further entries are strays, each of which is put into their order by a move of memory.
+    /// Returns whether a growth lags, so that a caller that inserts should call `move_some`.
+    ///
+    /// It lags if it runs and one entry more would make over three entries for every four homes of
+    /// the new table. (If no growth ran, that load would begin one.) If the new table fills before
+    /// the old one is empty, further entries are strays, and each stray costs a move of memory.
     pub fn lags(&self) -> bool
         ensures { result ≡ lags self.now }
     {
@@ -251,10 +268,11 @@ impl<T: Keyed + Drop> Index<T> {
         self.is_growing() && entries > 3 * homes
     }
 
-    /// Finds the first entry whose number is at or above `at`, for a sweep over all entries: each
-    /// place has one number, and a removal changes no lower one. A sweep goes on at the number
-    /// after it, and if it removed the entry, at the number itself. The cost grows with the empty
-    /// buckets that are passed.
+    /// Returns the first entry whose number is at or above `at`, and that number, for a sweep.
+    ///
+    /// Each place has one number, and a removal changes no lower one. A sweep goes on at the next
+    /// number, or at the same number if it removed the entry. The cost grows with the number of
+    /// empty buckets that it passes.
     pub fn filled_from(&self, at: usize) -> Option<(usize, Place)>
         ensures { IsNext self.now at result }
     {
@@ -262,8 +280,11 @@ impl<T: Keyed + Drop> Index<T> {
         Some((number, Place { number }))
     }
 
-    /// Takes the entry at a place out. All others stand where they stood, but that the last stray has the number of one that goes.
-    /// It takes no memory. A stray costs a move of 8 bytes for each that stands behind it in the order of hashes and keys.
+    /// Removes the entry at a place and returns it.
+    ///
+    /// Other entries stay, except that the last stray gets the number of a removed stray. It takes
+    /// no memory. Removing a stray moves 8 bytes for each stray behind it in the order of hashes
+    /// and keys.
     pub fn remove(&mut self, place: Place) -> T
         requires { IsFilled self.old place }
         ensures { IsRemoved T.hash_of T.key_of place result self.old self.new }
@@ -275,10 +296,12 @@ impl<T: Keyed + Drop> Index<T> {
         }
     }
 
-    /// Makes room for one entry more, and begins a growth if one is due: a table of twice the
-    /// homes, to which the entries of the old one come by `move_some`. Room is made for all of them
-    /// among the strays, so that no move takes memory. The content is as it was; refused, all
-    /// stands where it stood. The one error is a refused allocation.
+    /// Makes room for one entry more, and begins a growth if one is due.
+    ///
+    /// A growth adds a table of twice the homes, and `move_some` moves the entries of the old one
+    /// there. Room is made for all of them among the strays, so that no move takes memory. The
+    /// content is unchanged. The only error is a refused allocation, and the index is then
+    /// unchanged.
     pub fn reserve(&mut self, alloc: Global) -> Result<(), AllocError>
         ensures room { OnOk result (1 ≤ self.new.spare) }
         ensures begins { OnOk result (is_due self.old ≡ true → HasBegun self.old self.new) }
@@ -295,9 +318,10 @@ impl<T: Keyed + Drop> Index<T> {
         }
     }
 
-    /// Puts in an entry of a new hash and key, for which there is room, and answers its place: in a
-    /// bucket of the table near its home, or among the strays if none can be had. It takes no
-    /// memory. A stray costs a move of 8 bytes for each that stands behind it in the order of
+    /// Inserts an entry of a new hash and key, for which room was reserved, and returns its place.
+    ///
+    /// It goes to a bucket of the table near its home, or among the strays if there is none. It
+    /// takes no memory. Inserting a stray moves 8 bytes for each stray behind it in the order of
     /// hashes and keys.
     pub fn insert_reserved(&mut self, entry: T) -> Place
         requires new { get (holds T.hash_of T.key_of self.old) (T.hash_of entry ∷ T.key_of entry)
@@ -318,10 +342,11 @@ impl<T: Keyed + Drop> Index<T> {
         }
     }
 
-    /// Moves up to `n` entries of the old table, and answers how many it moved: as many as are
-    /// left, if they are fewer. When none is left the old table is dropped, each stray is tried
-    /// once in the table, and the growth is over. The content stays, and no memory is taken. The
-    /// cost grows with `n`, and at a growth's end with the strays.
+    /// Moves up to `n` entries of the old table, and returns how many it moved.
+    ///
+    /// It moves fewer only if fewer are left. When none is left it drops the old table and tries
+    /// each stray once in the table, and the growth is over. The content is unchanged, and it takes
+    /// no memory. The cost grows with `n`, and at the end of a growth with the strays.
     pub fn move_some(&mut self, n: usize) -> usize
         ensures moved { result ≡ min n (left self.old) }
         ensures left { left self.new ≡ left self.old - result }
@@ -342,7 +367,7 @@ impl<T: Keyed + Drop> Index<T> {
         moved
     }
 
-    /// Gives back the room among the strays that a growth left, if none runs and no stray stands.
+    /// Frees the strays' room that a growth left, if no growth runs and there is no stray.
     fn give_back_room(&mut self, alloc: Global)
         ensures { StandsAs self.old self.new }
     {
@@ -351,7 +376,7 @@ impl<T: Keyed + Drop> Index<T> {
         }
     }
 
-    /// Returns whether a growth is due before one entry more comes.
+    /// Returns whether a growth is due before one more entry is inserted.
     fn is_due(&self) -> bool
         ensures { result ≡ is_due self.now }
     {
@@ -363,8 +388,9 @@ impl<T: Keyed + Drop> Index<T> {
         entries > 3 * homes || (self.strays.len() > 0 && entries >= homes)
     }
 
-    /// Begins a growth: makes the table of twice the homes, and room among the strays for every entry of the old one and the one
-    /// to come.
+    /// Begins a growth: allocates a table of twice the homes, and the strays' room.
+    ///
+    /// There is then room among the strays for every entry of the old table and the next one.
     fn begin_growth(&mut self, alloc: Global) -> Result<(), AllocError>
         requires { is_due self.old ≡ true }
         ensures room { OnOk result (1 ≤ self.new.spare) }
@@ -373,7 +399,7 @@ impl<T: Keyed + Drop> Index<T> {
         ensures content { holds T.hash_of T.key_of self.new ≡ holds T.hash_of T.key_of self.old }
     {
         let table = Hop::new(alloc, self.table.exponent() + 1)?;
-        // how many buckets the old table has, for the proof
+        // for the proof: how many buckets the old table has
         let _buckets = self.table.buckets();
         self.strays.reserve(self.table.len() + 1)?;
         table.entries_are_apart();

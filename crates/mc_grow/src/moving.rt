@@ -14,8 +14,9 @@ use crate::adding::add;
 use crate::strays::Strays;
 use mc_hop::{Hop, Keyed};
 
-/// Adds an entry of a new key, to a bucket near its home or else to the strays, and answers its place among the buckets and the
-/// strays behind them. It takes no memory.
+/// Adds an entry of a new key to a bucket near its home, else to the strays; returns its place.
+///
+/// Places count the buckets, and then the strays. It takes no memory.
 pub(crate) fn place<T: Keyed + Drop>(table: &mut Hop<T>, strays: &mut Strays<T>, entry: T) -> usize
     requires apart { AreApart T.hash_of T.key_of (cells_of (beside table.old strays.old.items)) }
     requires new { get (content T.hash_of T.key_of (cells_of (beside table.old strays.old.items)))
@@ -71,8 +72,10 @@ fn move_one<T: Keyed + Drop>(
     place(table, strays, entry);
 }
 
-/// Moves up to so many entries of an old table, and answers how many it moved: as many as there
-/// are, if they are fewer. It takes no memory, and costs as much as it moves.
+/// Moves up to `n` entries of an old table, and returns how many it moved.
+///
+/// It moves fewer only if fewer are left. It takes no memory. The cost grows with the number of
+/// moves.
 pub(crate) fn move_entries<T: Keyed + Drop>(
     draining: &mut Hop<T>,
     table: &mut Hop<T>,

@@ -1,4 +1,4 @@
-//! The parts of an index, each by itself: the old table that may be there, the table, and the strays.
+//! The parts of an index, each by itself: the optional old table, the table, and the strays.
 
 ghost use Rattle.std.specs.Prelude.{◌≡◌, ℕ, ◌+◌, ◌<◌, ◌≤◌, ◌^◌, Some, None, IfSome, IsNone, if◌then◌else◌, is_some, map, length, true, vec_len, vec_capacity};
 ghost use Rattle.std.specs.Prelude.{option_copied, slice_index_or, slice_set};
@@ -9,7 +9,8 @@ ghost use Rattle.mc_grow.specs.Strays.{keys_in};
 
 use mc_hop::{Counts, Hop, Keyed};
 
-/// Where the number of a place leads: a bucket of the old table or of the table, or a stray.
+/// The part that the number of a place is in: a bucket of the old table or of the table, or a
+/// stray.
 #[derive(Clone, Copy)]
 pub(crate) enum Spot {
     Drained(usize),
@@ -17,7 +18,7 @@ pub(crate) enum Spot {
     Stray(usize),
 }
 
-/// Counts the buckets of an old table: at most 2^24 + 255, and none if there is no table.
+/// Returns the number of buckets of an old table, at most 2^24 + 255, and 0 without a table.
 pub(crate) fn drained_buckets<T: Keyed + Drop>(draining: &Option<Hop<T>>) -> usize
     ensures value { result ≡ length (drained_items draining.now) }
     ensures most { result ≤ 2 ^ 24 + 255 }
@@ -28,7 +29,7 @@ pub(crate) fn drained_buckets<T: Keyed + Drop>(draining: &Option<Hop<T>>) -> usi
     }
 }
 
-/// Counts the entries of an old table: at most 2^24 + 255.
+/// Returns the number of entries of an old table, at most 2^24 + 255.
 pub(crate) fn drained_len<T: Keyed + Drop>(draining: &Option<Hop<T>>) -> usize
     ensures value { result ≡ filled (drained_items draining.now) }
     ensures most { result ≤ 2 ^ 24 + 255 }
@@ -39,7 +40,8 @@ pub(crate) fn drained_len<T: Keyed + Drop>(draining: &Option<Hop<T>>) -> usize
     }
 }
 
-/// Finds the bucket of an old table that has the entry of that hash and key. It reads at most 32 entries.
+/// Returns the bucket of an old table with the entry of this hash and key. It reads at most 32
+/// entries.
 pub(crate) fn find_drained<T: Keyed + Drop, C: Counts>(
     draining: &Option<Hop<T>>,
     hash: u64,
@@ -70,7 +72,7 @@ pub(crate) fn drained_entry<T: Keyed + Drop>(draining: &Option<Hop<T>>, at: usiz
     }
 }
 
-/// Changes the entry of a bucket of an old table.
+/// Changes the entry of a bucket of an old table by a closure.
 pub(crate) fn update_drained<T: Keyed + Drop, R, F: FnOnce(T) -> (T, R)>(
     draining: &mut Option<Hop<T>>,
     at: usize,
@@ -92,7 +94,7 @@ pub(crate) fn update_drained<T: Keyed + Drop, R, F: FnOnce(T) -> (T, R)>(
     }
 }
 
-/// Changes a stray. It takes no memory of its own.
+/// Changes a stray by a closure. It takes no memory of its own.
 pub(crate) fn update_stray<T: Keyed + Drop, R, F: FnOnce(T) -> (T, R)>(
     strays: &mut Vec<T>,
     at: usize,
@@ -121,7 +123,7 @@ pub(crate) fn update_stray<T: Keyed + Drop, R, F: FnOnce(T) -> (T, R)>(
     answer
 }
 
-/// Takes the entry of a bucket of an old table out.
+/// Removes the entry of a bucket of an old table and returns it.
 pub(crate) fn remove_drained<T: Keyed + Drop>(draining: &mut Option<Hop<T>>, at: usize) -> T
     requires { is_some (slice_index_or (drained_items draining.old) at None) ≡ true }
     ensures here { slice_index_or (drained_items draining.old) at None ≡ Some result }
@@ -134,7 +136,8 @@ pub(crate) fn remove_drained<T: Keyed + Drop>(draining: &mut Option<Hop<T>>, at:
     }
 }
 
-/// Finds the first bucket from that number on that has an entry. The cost grows with the empty buckets that are passed.
+/// Returns the first filled bucket at or above a number. The cost grows with the empty buckets it
+/// passes.
 pub(crate) fn filled_bucket<T: Keyed + Drop>(table: &Hop<T>, from: usize) -> Option<usize>
     ensures found { IfSome result (IsFirstFilled table.now.items from) }
     ensures none { IsNone result → NoneFilledFrom table.now.items from }
@@ -147,7 +150,7 @@ pub(crate) fn filled_bucket<T: Keyed + Drop>(table: &Hop<T>, from: usize) -> Opt
     None
 }
 
-/// Finds the first bucket of an old table from that number on that has an entry.
+/// Returns the first filled bucket of an old table at or above a number.
 pub(crate) fn filled_drained<T: Keyed + Drop>(
     draining: &Option<Hop<T>>,
     from: usize,

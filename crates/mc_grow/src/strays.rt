@@ -1,4 +1,8 @@
-//! The strays of an index: a list, and an order in which they are found.
+//! The strays of an index: a list, and an order for searching it.
+//!
+//! The order is by hash, then key, so a search among n strays reads at most as many as n has binary
+//! digits. Keys with one hash are cheap to make, and each beyond 32 in a home is a stray. Inserting
+//! moves 8 bytes for each following stray, and no entries.
 
 ghost use Rattle.std.specs.Prelude.{◌≡◌, ℕ, ◌+◌, ◌<◌, ◌≤◌, ◌^◌, ◌∷◌, ◌++◌, [], Some, None, IfSome, IsNone, IfOk, IfErr, OnOk, map, length};
 ghost use Rattle.std.specs.Prelude.{option_copied, slice_index_or, vec_len, vec_capacity};
@@ -19,11 +23,12 @@ use std::alloc::{AllocError, Global};
 use std::cmp::Ordering;
 use std::marker::Model;
 
-/// Entries that stand in no table, each under its number: the order in which they came, but that the last takes the number of
-/// one that goes. Beside them stand their numbers in the order of the hashes, and of the keys where a hash is the same, so that
-/// a search reads as many entries as their count has binary digits, whatever the hashes are.
+/// Entries that are in no table, each under a number.
 ///
-/// Contracts see the entries by their numbers, and how many there is room for.
+/// The numbers are the order of insertion, except that the last stray takes the number of a removed
+/// one. A second list has the numbers in the order of hashes, and of keys for equal hashes. So a
+/// search reads at most as many entries as their number has binary digits, whatever the hashes are.
+/// Contracts see the entries by number, and how many there is room for.
 #[derive(Drop)]
 pub(crate) struct Strays<T: Keyed + Drop> {
     items: Vec<T>,
@@ -46,8 +51,9 @@ impl<T: Keyed + Drop> Model for Strays<T> {
     ghost invariant = { λ s. IsOrder (keys_in T.hash_of T.key_of s.items.items) s.order.items };
 }
 
-/// Compares the hash and key of an entry with others: the hashes, and the keys where those are the same. It is one read of a
-/// stray.
+/// Compares the hash and key of an entry with others: first the hashes, then the keys.
+///
+/// It counts as one read of a stray.
 fn compare<T: Keyed + Drop, C: Counts>(entry: &T, hash: u64, key: &[u8], reads: &mut C) -> Ordering
     ensures order { result
         ≡ slice_cmp nat_cmp (T.hash_of entry.now ∷ T.key_of entry.now) (hash ∷ key.now) }
@@ -61,8 +67,9 @@ fn compare<T: Keyed + Drop, C: Counts>(entry: &T, hash: u64, key: &[u8], reads: 
     }
 }
 
-/// Finds the place in the order where the stray of that hash and key stands, or else the one where it would stand. The reads are
-/// at most as many as the count of strays has binary digits.
+/// Returns the place in the order of the stray with this hash and key, or where it would be.
+///
+/// It reads at most as many strays as their number has binary digits.
 fn search<T: Keyed + Drop, C: Counts>(
     items: &Vec<T>,
     order: &Vec<usize>,
@@ -92,7 +99,7 @@ fn search<T: Keyed + Drop, C: Counts>(
     Err(low)
 }
 
-/// Finds the place in the order where the stray of a number stands.
+/// Returns the place in the order of the stray of a number.
 fn place_of<T: Keyed + Drop>(items: &Vec<T>, order: &Vec<usize>, number: usize) -> usize
     requires order { IsOrder (keys_in T.hash_of T.key_of items.now.items) order.now.items }
     requires inside { number < length items.now.items }
@@ -106,7 +113,7 @@ fn place_of<T: Keyed + Drop>(items: &Vec<T>, order: &Vec<usize>, number: usize) 
     }
 }
 
-/// Takes the number at a place out of the order, and gives it to the stray whose number stands at the place `last`.
+/// Removes the number at a place of the order, and gives it to the stray whose number is at `last`.
 fn forget(order: &mut Vec<usize>, place: usize, last: usize)
     requires place { place < length order.old.items }
     requires last { last < length order.old.items }
@@ -118,7 +125,7 @@ fn forget(order: &mut Vec<usize>, place: usize, last: usize)
 }
 
 impl<T: Keyed + Drop> Strays<T> {
-    /// Makes a list of none. It takes no memory.
+    /// Makes an empty list. It takes no memory.
     pub(crate) fn new(alloc: Global) -> Strays<T>
         ensures { result.items ≡ [] }
     {
@@ -128,7 +135,7 @@ impl<T: Keyed + Drop> Strays<T> {
         }
     }
 
-    /// Counts the strays.
+    /// Returns the number of strays.
     pub(crate) fn len(&self) -> usize
         ensures value { result ≡ length self.now.items }
         ensures most { result < 2 ^ 63 }
@@ -143,7 +150,9 @@ impl<T: Keyed + Drop> Strays<T> {
         self.items.capacity().min(self.order.capacity())
     }
 
-    /// Finds the number of the stray of that hash and key. It reads at most as many strays as their count has binary digits.
+    /// Returns the number of the stray with this hash and key, or `None`.
+    ///
+    /// It reads at most as many strays as their number has binary digits.
     pub(crate) fn find<C: Counts>(&self, hash: u64, key: &[u8], reads: &mut C) -> Option<usize>
         ensures found { IfSome result (λ at. (at < length self.now.items)
             × IsAt T.hash_of T.key_of (map Some self.now.items) hash key.now at) }
@@ -159,15 +168,17 @@ impl<T: Keyed + Drop> Strays<T> {
         }
     }
 
-    /// Lends a stray, if there is one of that number.
+    /// Lends the stray of a number, or `None`.
     pub(crate) fn get(&self, at: usize) -> Option<&T>
         ensures { option_copied result ≡ slice_index_or (map Some self.now.items) at None }
     {
         self.items.get(at)
     }
 
-    /// Makes room for so many strays more. Those that are there stay, and so does the room if it is
-    /// refused. The one error is a refused allocation.
+    /// Makes room for `more` further strays.
+    ///
+    /// The strays are unchanged. The only error is a refused allocation, and the room is then
+    /// unchanged too.
     pub(crate) fn reserve(&mut self, more: usize) -> Result<(), AllocError>
         ensures items { self.new.items ≡ self.old.items }
         ensures ok { OnOk result (length self.new.items + more ≤ self.new.room) }
@@ -177,8 +188,9 @@ impl<T: Keyed + Drop> Strays<T> {
         self.order.reserve(more)
     }
 
-    /// Puts in an entry of a new hash and key, for which there is room, under the number that is the count. It takes no memory,
-    /// and moves as many numbers as stand behind its own in the order.
+    /// Inserts an entry of a new hash and key under the next number. There must be room for it.
+    ///
+    /// It takes no memory, and moves the numbers behind its own in the order.
     pub(crate) fn push_reserved(&mut self, entry: T)
         requires room { length self.old.items < self.old.room }
         requires new { IsAbsent T.hash_of T.key_of (map Some self.old.items)
@@ -201,8 +213,9 @@ impl<T: Keyed + Drop> Strays<T> {
         let _ = self.order.insert(place, number);
     }
 
-    /// Takes the stray of a number out. The last one has its number then. It takes no memory, and moves as many numbers as
-    /// stand behind its own in the order.
+    /// Removes the stray of a number and returns it. The last stray gets its number.
+    ///
+    /// It takes no memory, and moves the numbers behind its own in the order.
     pub(crate) fn swap_remove(&mut self, at: usize) -> T
         requires { at < length self.old.items }
         ensures value { result ≡ slice_index_or self.old.items at result }
@@ -216,8 +229,9 @@ impl<T: Keyed + Drop> Strays<T> {
         self.items.swap_remove(at)
     }
 
-    /// Changes the stray of a number by a closure that keeps its hash and its key, and hands out what the closure answers beside
-    /// it. It takes no memory of its own.
+    /// Changes the stray of a number by a closure, and returns the closure's second result.
+    ///
+    /// The closure must keep the hash and the key. It takes no memory of its own.
     pub(crate) fn update<R, F: FnOnce(T) -> (T, R)>(&mut self, at: usize, change: F) -> R
         requires inside { at < length self.old.items }
         requires keeps { (entry : T) →
@@ -233,8 +247,9 @@ impl<T: Keyed + Drop> Strays<T> {
         update_stray(&mut self.items, at, change)
     }
 
-    /// Tries the stray of a number in a table, and returns whether it went there. The last stray
-    /// has its number then. It takes no memory.
+    /// Tries to move the stray of a number into a table, and returns whether it moved.
+    ///
+    /// The last stray then gets its number. It takes no memory.
     pub(crate) fn try_in(&mut self, table: &mut Hop<T>, at: usize) -> bool
         requires inside { at < length self.old.items }
         requires apart { AreApart T.hash_of T.key_of (cells_of (beside table.old self.old.items)) }

@@ -1,4 +1,4 @@
-//! Tries an entry of a list in a table.
+//! Moves an entry of a list into a table, if that is possible.
 
 ghost use Rattle.std.specs.Prelude.{◌≡◌, ℕ, ◌+◌, ◌<◌, ◌≤◌, List, true, false, length, slice_index_or, vec_len, vec_capacity};
 ghost use Rattle.mc_hop.specs.Links.{IsSwapped};
@@ -9,8 +9,9 @@ ghost use Rattle.mc_grow.specs.Moving.{HoldsAll, IsTried};
 use crate::adding::add;
 use mc_hop::{Hop, Keyed};
 
-/// Tries the stray of a number in the table, and returns whether it went there. The last stray has
-/// its number then.
+/// Tries to move the stray of a number into the table, and returns whether it moved.
+///
+/// The last stray then gets its number.
 pub(crate) fn try_item<T: Keyed + Drop>(table: &mut Hop<T>, strays: &mut Vec<T>, at: usize) -> bool
     requires inside { at < vec_len strays.old }
     requires apart { AreApart T.hash_of T.key_of (cells_of (beside table.old strays.old.items)) }
@@ -36,7 +37,7 @@ pub(crate) fn try_item<T: Keyed + Drop>(table: &mut Hop<T>, strays: &mut Vec<T>,
     false
 }
 
-/// Puts a stray back under its number, and the one that has it now at the end.
+/// Puts a stray back under its number, and the stray that has the number now back to the end.
 fn put_back<T: Drop>(strays: &mut Vec<T>, at: usize, entry: T)
     requires inside { at ≤ vec_len strays.old }
     requires room { vec_len strays.old < vec_capacity strays.old }

@@ -3,7 +3,7 @@
 ghost use Rattle.std.specs.Prelude.{◌≡◌, ◌≢◌, ℕ, ◌<◌, ◌^◌};
 ghost use Rattle.std.specs.Int.{bit_at};
 
-/// Finds the place of the lowest set bit of a hop word, 0 to 31.
+/// Returns the place of the lowest set bit of a hop word, 0 to 31.
 pub fn lowest(word: u32) -> u32
     requires { word ≢ 0 }
     ensures inside { result < 32 }

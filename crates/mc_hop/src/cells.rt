@@ -7,19 +7,20 @@ ghost use Rattle.mc_hop.specs.Links.{ats_of, tags_of, words_of, renumbered};
 use std::alloc::{AllocError, Global};
 use std::marker::Model;
 
-/// How many numbers a bucket can have. Its tag stands above their 25 bits.
+/// The limit of a bucket's number, 2^25. The tag is in the bits above.
 const NUMBERS: u32 = 1 << 25;
 
-/// A bucket: its word, and its number below its tag. The number is one more than the place of its
-/// value among the values, or 0 if it has none. The tag is what a search compares before it reads
-/// the value.
+/// A bucket: its word, and its number below its tag.
+///
+/// The number is one more than the index of its value in the list, or 0 if the bucket is empty. A
+/// search compares the tag before it reads the value.
 #[derive(Clone, Copy)]
 struct Cell {
     word: u32,
     tagged: u32,
 }
 
-/// Makes so many buckets with no value, whose words are 0.
+/// Makes `len` empty buckets with the word 0.
 fn empty_list(alloc: Global, len: usize) -> Result<Vec<Cell>, AllocError>
     ensures { IfOk result (λ cells. cells.items ≡ replicate len (record { word = 0; tagged = 0 })) }
 {
@@ -28,7 +29,7 @@ fn empty_list(alloc: Global, len: usize) -> Result<Vec<Cell>, AllocError>
     Ok(cells)
 }
 
-/// Puts a number below a tag.
+/// Returns a number with a tag in the bits above it.
 fn tag_number(tag: u32, number: usize) -> u32
     requires tag { tag < 128 }
     requires small { number < 2 ^ 25 }
@@ -38,7 +39,7 @@ fn tag_number(tag: u32, number: usize) -> u32
     tag * NUMBERS + number as u32
 }
 
-/// Returns the number of a bucket: one more than the place of its value, or 0.
+/// Returns the number of a bucket: one more than the index of its value, or 0.
 fn number_of(cells: &Vec<Cell>, at: usize) -> usize
     requires { at < vec_len cells.now }
     ensures { result ≡ slice_index_or (ats_of cells.now.items) at 0 }
@@ -55,7 +56,7 @@ fn tag_of(cells: &Vec<Cell>, at: usize) -> u32
     cells[at].tagged / NUMBERS
 }
 
-/// Sets the number of a bucket. Its word and its tag stay.
+/// Sets the number of a bucket. Its word and its tag are unchanged.
 fn set_number(cells: &mut Vec<Cell>, at: usize, number: usize)
     requires inside { at < vec_len cells.old }
     requires small { number < 2 ^ 25 }
@@ -68,7 +69,7 @@ fn set_number(cells: &mut Vec<Cell>, at: usize, number: usize)
     cells[at].tagged = tag_number(tag, number);
 }
 
-/// Sets the number of a bucket, and its tag. Its word stays.
+/// Sets the number of a bucket, and its tag. Its word is unchanged.
 fn set_tagged(cells: &mut Vec<Cell>, at: usize, number: usize, tag: u32)
     requires inside { at < vec_len cells.old }
     requires small { number < 2 ^ 25 }
@@ -80,7 +81,7 @@ fn set_tagged(cells: &mut Vec<Cell>, at: usize, number: usize, tag: u32)
     cells[at].tagged = tag_number(tag, number);
 }
 
-/// Sets the word of a bucket. Its number and its tag stay.
+/// Sets the word of a bucket. Its number and its tag are unchanged.
 fn set_word_in(cells: &mut Vec<Cell>, at: usize, word: u32)
     requires { at < vec_len cells.old }
     ensures numbers { ats_of cells.new.items ≡ ats_of cells.old.items }
@@ -90,7 +91,7 @@ fn set_word_in(cells: &mut Vec<Cell>, at: usize, word: u32)
     cells[at].word = word;
 }
 
-/// Renumbers the value that was at the last place and stands at that one now, unless it was the last.
+/// Renumbers the value now at `place`, which was the last, unless `place` was the last place.
 fn renumber(cells: &mut Vec<Cell>, places: &Vec<u32>, place: usize)
     requires inside { place < vec_len places.now →
         slice_index_or places.now.items place 0 < vec_len cells.old }
@@ -105,9 +106,10 @@ fn renumber(cells: &mut Vec<Cell>, places: &Vec<u32>, place: usize)
     }
 }
 
-/// A row of buckets, each with a word, a tag and at most one value. The values lie side by side in a list
-/// of their own, in no order, so an empty bucket takes 8 bytes alone. Contracts see the words, the tags
-/// and the values, bucket by bucket.
+/// A row of buckets, each with a word, a tag and at most one value.
+///
+/// The values are in a list of their own, in no order, so an empty bucket takes only 8 bytes.
+/// Contracts see the words, the tags and the values, bucket by bucket.
 #[derive(Drop)]
 pub struct Cells<T: Drop> {
     cells: Vec<Cell>,
@@ -135,7 +137,9 @@ impl<T: Drop> Model for Cells<T> {
 }
 
 impl<T: Drop> Cells<T> {
-    /// Makes so many empty buckets, whose words and tags are 0, with room for a value of each.
+    /// Makes `len` empty buckets with word and tag 0, and room for a value of each.
+    ///
+    /// The only error is a refused allocation.
     pub fn new(alloc: Global, len: usize) -> Result<Cells<T>, AllocError>
         requires { len < 2 ^ 25 - 1 }
         ensures { IfOk result (λ cells. cells ≡ empty_cells len) }
@@ -147,14 +151,14 @@ impl<T: Drop> Cells<T> {
         })
     }
 
-    /// Counts the buckets.
+    /// Returns the number of buckets.
     pub fn len(&self) -> usize
         ensures { result ≡ length self.now.items }
     {
         self.cells.len()
     }
 
-    /// Counts those that have a value.
+    /// Returns the number of buckets that have a value.
     pub fn count(&self) -> usize
         ensures value { result ≡ filled self.now.items }
         ensures most { result ≤ length self.now.items }
@@ -162,8 +166,10 @@ impl<T: Drop> Cells<T> {
         self.items.len()
     }
 
-    /// Finds a bucket that has a value, if one has: the one to which a value came last, if none was
-    /// taken out since. It costs the same however many are empty.
+    /// Returns a bucket that has a value, or `None` if all are empty.
+    ///
+    /// It is the bucket that was filled last, if none was emptied since. The cost doesn't grow with
+    /// the number of empty buckets.
     pub fn last_filled(&self) -> Option<usize>
         ensures found { IfSome result (λ at.
             is_some (slice_index_or self.now.items at None) ≡ true) }
@@ -192,7 +198,7 @@ impl<T: Drop> Cells<T> {
         set_word_in(&mut self.cells, at, word);
     }
 
-    /// Returns whether a bucket has no value.
+    /// Returns whether a bucket is empty.
     pub fn is_empty(&self, at: usize) -> bool
         requires { at < length self.now.items }
         ensures yes { result ≡ true → slice_index_or self.now.items at None ≡ None }
@@ -201,7 +207,7 @@ impl<T: Drop> Cells<T> {
         number_of(&self.cells, at) == 0
     }
 
-    /// Returns whether a bucket has that tag.
+    /// Returns whether a bucket has this tag.
     pub fn has_tag(&self, at: usize, tag: u32) -> bool
         requires { at < length self.now.items }
         ensures yes { slice_index_or self.now.tags at 0 ≡ tag → result ≡ true }
@@ -223,7 +229,7 @@ impl<T: Drop> Cells<T> {
         }
     }
 
-    /// Puts a value into an empty bucket, and gives the bucket a tag. It takes no memory.
+    /// Puts a value into an empty bucket, and sets the bucket's tag. It takes no memory.
     pub fn put(&mut self, at: usize, value: T, tag: u32)
         requires inside { at < length self.old.items }
         requires empty { slice_index_or self.old.items at None ≡ None }
@@ -239,7 +245,7 @@ impl<T: Drop> Cells<T> {
         set_tagged(&mut self.cells, at, number, tag);
     }
 
-    /// Takes the value out of a bucket that has one. Its tag stays.
+    /// Takes the value out of a bucket that has one. The tag is unchanged.
     pub fn take(&mut self, at: usize) -> T
         requires { is_some (slice_index_or self.old.items at None) ≡ true }
         ensures here { slice_index_or self.old.items at None ≡ Some result }

@@ -1,4 +1,4 @@
-/// What stands under a key in a table.
+/// An entry of a table, which knows its hash and its key.
 pub trait Keyed {
     ghost use Rattle.std.specs.Prelude.{◌≡◌, ℕ, List};
 
@@ -23,7 +23,7 @@ pub trait KeyHash {
     /// The hash of a key, as contracts see it.
     ghost hash_of: { Self → List ℕ → ℕ };
 
-    /// Computes the hash of a key. The cost grows with its length.
+    /// Returns the hash of a key. The cost grows with the key's length.
     fn hash(&self, key: &[u8]) -> u64
         ensures { result ≡ hash_of self.now key.now };
 }
@@ -32,10 +32,10 @@ pub trait KeyHash {
 #[derive(Clone, Copy, Debug, PartialEq, Eq)]
 pub struct Fnv;
 
-/// The hash of no byte.
+/// The hash of no bytes.
 const OFFSET: u64 = 14695981039346656037;
 
-/// What the hash is multiplied by after each byte.
+/// The factor by which the hash is multiplied after each byte.
 const PRIME: u64 = 1099511628211;
 
 impl KeyHash for Fnv {
@@ -51,7 +51,7 @@ impl KeyHash for Fnv {
     }
 }
 
-/// One hash for all keys, for tests of what collisions do.
+/// The same hash for every key, for tests of collisions.
 #[derive(Clone, Copy, Debug, PartialEq, Eq)]
 pub struct Constant(pub u64);
 

@@ -10,8 +10,9 @@ ghost use Rattle.mc_hop.specs.Tables.{AreApart, HasEntry, IsAbsent};
 
 use crate::hash::Keyed;
 
-/// States that the content of buckets has each bucket's entry under its hash and key, if no two
-/// have one hash and key, and nothing else. It does nothing.
+/// States that the content of buckets has every entry under its hash and key, and nothing else.
+///
+/// No two buckets may have the same hash and key. It does nothing.
 #[tactic(auto, using(crate::proofs::LawLemmas::entry_rules))]
 pub fn content_has_each_entry<T: Keyed + Drop>()
     ensures found { (items : List (Option T)) (entry : T) →
@@ -31,16 +32,19 @@ pub fn content_has_each_entry<T: Keyed + Drop>()
         content T.hash_of T.key_of items ≡ content T.hash_of T.key_of [] }
 {}
 
-/// States that the content of buckets has as many entries as there are buckets with one, if no two
-/// have one hash and key. It does nothing.
+/// States that the content has as many entries as there are filled buckets.
+///
+/// No two buckets may have the same hash and key. It does nothing.
 #[tactic(auto, using(crate::proofs::LawLemmas::many_entries))]
 pub fn content_counts_entries<T: Keyed + Drop>()
     ensures { (items : List (Option T)) → AreApart T.hash_of T.key_of items →
         len (content T.hash_of T.key_of items) ≡ filled items }
 {}
 
-/// States that a change of one bucket changes the content at that entry's hash and key alone: it is
-/// put in, taken out, put back, or replaced by one of its hash and key. It does nothing.
+/// States that a change of one bucket changes the content at that entry's hash and key alone.
+///
+/// The entry is put in, taken out, put back, or replaced by one of the same hash and key. It does
+/// nothing.
 #[tactic(auto, using(crate::proofs::LawLemmas::change_rules))]
 pub fn content_changes_at_one_key<T: Keyed + Drop>()
     ensures put { (items : List (Option T)) (at : ℕ) (entry : T) → at < length items →
@@ -64,8 +68,9 @@ pub fn content_changes_at_one_key<T: Keyed + Drop>()
         (content T.hash_of T.key_of items) (T.hash_of entry ∷ T.key_of entry) given }
 {}
 
-/// States that the content of two joined lists of buckets has what the first has, or else the
-/// second. It does nothing.
+/// States that the content of two joined lists of buckets is the first's, or else the second's.
+///
+/// It does nothing.
 #[tactic(auto, using(crate::proofs::LawLemmas::list_rules))]
 pub fn content_of_two_lists<T: Keyed + Drop>()
     ensures joined { (xs ys : List (Option T)) (key : List ℕ) →

@@ -15,7 +15,7 @@ use crate::reads::{Counts, Uncounted};
 use std::alloc::{AllocError, Global};
 use std::marker::Model;
 
-/// Finds the home of a hash among 2^k homes.
+/// Returns the home of a hash among 2^k homes.
 fn home_among(k: u32, hash: u64) -> usize
     requires { k ≤ 24 }
     ensures value { result ≡ home_in k hash }
@@ -24,7 +24,7 @@ fn home_among(k: u32, hash: u64) -> usize
     ((hash / 256) % (1u64 << k)) as usize
 }
 
-/// Finds the tag of a hash.
+/// Returns the tag of a hash.
 fn tag_of(hash: u64) -> u32
     ensures value { result ≡ tag_in hash }
     ensures small { result < 128 }
@@ -32,8 +32,10 @@ fn tag_of(hash: u64) -> u32
     (hash / (1u64 << 57)) as u32
 }
 
-/// One hopscotch table of 2^k homes and 255 further buckets. Contracts see k and the buckets; bit j of
-/// a bucket's word is set exactly where the bucket j behind it holds an entry whose home it is.
+/// One hopscotch table of 2^k homes and 255 further buckets.
+///
+/// Contracts see k and the buckets. Bit j of a bucket's word is set exactly if the bucket j behind
+/// it holds an entry whose home is the bucket.
 #[derive(Drop)]
 pub struct Hop<T: Keyed + Drop> {
     k: u32,
@@ -54,6 +56,8 @@ impl<T: Keyed + Drop> Model for Hop<T> {
 
 impl<T: Keyed + Drop> Hop<T> {
     /// Makes a table of 2^k homes and 255 further buckets, all empty.
+    ///
+    /// The only error is a refused allocation.
     pub fn new(alloc: Global, k: u32) -> Result<Hop<T>, AllocError>
         requires { (6 ≤ k) × (k ≤ 24) }
         ensures { IfOk result (λ table. table ≡ empty_table k) }
@@ -65,7 +69,7 @@ impl<T: Keyed + Drop> Hop<T> {
         })
     }
 
-    /// Finds the home of a hash.
+    /// Returns the home of a hash.
     pub fn home_of(&self, hash: u64) -> usize
         ensures value { result ≡ home_in self.now.k hash }
         ensures inside { result + 255 < length self.now.items }
@@ -73,7 +77,7 @@ impl<T: Keyed + Drop> Hop<T> {
         home_among(self.k, hash)
     }
 
-    /// Returns the exponent of the number of homes.
+    /// Returns k; the table has 2^k homes.
     pub fn exponent(&self) -> u32
         ensures value { result ≡ self.now.k }
         ensures range { (6 ≤ result) × (result ≤ 24) }
@@ -81,7 +85,7 @@ impl<T: Keyed + Drop> Hop<T> {
         self.k
     }
 
-    /// Counts the buckets: at most 2^24 + 255.
+    /// Returns the number of buckets, at most 2^24 + 255.
     pub fn buckets(&self) -> usize
         ensures value { result ≡ length self.now.items }
         ensures size { result ≡ 2 ^ self.now.k + 255 }
@@ -91,14 +95,14 @@ impl<T: Keyed + Drop> Hop<T> {
         self.cells.len()
     }
 
-    /// States that each entry stands within 31 of its home. It does nothing.
+    /// States that each entry is within 31 buckets of its home. It does nothing.
     pub fn entries_are_near(&self)
         ensures { AreNear T.hash_of self.now.k self.now.items }
     {
         let _ = &self.k;
     }
 
-    /// States that no two entries have one hash and key. It does nothing.
+    /// States that no two entries have the same hash and key. It does nothing.
     pub fn entries_are_apart(&self)
         ensures { AreApart T.hash_of T.key_of self.now.items }
     {
@@ -121,8 +125,10 @@ impl<T: Keyed + Drop> Hop<T> {
         self.cells.get(at)
     }
 
-    /// Returns whether a bucket holds the entry of that hash and key. It is the one read of a
-    /// bucket that a walk makes, and reads the entry only if the bucket has the tag of the hash.
+    /// Returns whether a bucket holds the entry of this hash and key.
+    ///
+    /// It is the one read of a bucket in a search, and reads the entry only if the bucket has the
+    /// hash's tag.
     fn holds<C: Counts>(&self, at: usize, hash: u64, key: &[u8], reads: &mut C) -> bool
         requires { at < length self.now.items }
         ensures reads { C.count reads.new ≤ C.count reads.old + 1 }
@@ -139,7 +145,7 @@ impl<T: Keyed + Drop> Hop<T> {
         }
     }
 
-    /// Finds the bucket of that hash and key, if an entry has them.
+    /// Returns the bucket of the entry with this hash and key, or `None`.
     pub fn find(&self, hash: u64, key: &[u8]) -> Option<usize>
         ensures found { IfSome result
             (λ at. IsFound T.hash_of T.key_of self.now.items hash key.now at) }
@@ -148,14 +154,14 @@ impl<T: Keyed + Drop> Hop<T> {
         self.find_counted(hash, key, &mut Uncounted)
     }
 
-    /// Finds it by the same walk, with its reads counted: at most 32 buckets.
+    /// Returns the bucket as `find` does, and counts the reads: at most 32 buckets.
     pub fn find_counted<C: Counts>(&self, hash: u64, key: &[u8], reads: &mut C) -> Option<usize>
         ensures found { IfSome result
             (λ at. IsFound T.hash_of T.key_of self.now.items hash key.now at) }
         ensures none { IsNone result → IsAbsent T.hash_of T.key_of self.now.items hash key.now }
         ensures reads { C.count reads.new ≤ C.count reads.old + 32 }
     {
-        // what holds of every table, for the proof
+        // for the proof: the invariant of the table
         let _ = &self.k;
         let home = self.home_of(hash);
         let mut word = self.word(home);
@@ -173,13 +179,13 @@ impl<T: Keyed + Drop> Hop<T> {
         None
     }
 
-    /// Finds the first empty bucket among the home and the 255 behind it.
+    /// Returns the first empty bucket among the home and the 255 behind it, or `None`.
     pub fn free_from(&self, home: usize) -> Option<usize>
         requires { home + 255 < length self.now.items }
         ensures found { IfSome result (IsFirstFree self.now.items home) }
         ensures none { IsNone result → NoneFree self.now.items home (home + 256) }
     {
-        // how many buckets there are, for the proof
+        // for the proof: how many buckets there are
         let _size = self.buckets();
         for at in home..home + 256 {
             if self.cells.is_empty(at) {
@@ -207,8 +213,9 @@ impl<T: Keyed + Drop> Hop<T> {
         self.cells.put(at, entry, tag);
     }
 
-    /// Changes the entry of a bucket that has one, by a closure that keeps its hash and its key, and
-    /// hands out what the closure answers beside it. It takes no memory of its own.
+    /// Changes the entry of a filled bucket by a closure, and returns the closure's second result.
+    ///
+    /// The closure must keep the hash and the key. It takes no memory of its own.
     pub fn update<R, F: FnOnce(T) -> (T, R)>(&mut self, at: usize, change: F) -> R
         requires filled { is_some (bucket_at self.old.items at) ≡ true }
         requires keeps { (entry : T) → bucket_at self.old.items at ≡ Some entry →
@@ -226,7 +233,9 @@ impl<T: Keyed + Drop> Hop<T> {
         answer
     }
 
-    /// Finds a bucket that has an entry, if one has. It costs the same however many are empty.
+    /// Returns a filled bucket, or `None` if all are empty.
+    ///
+    /// The cost doesn't grow with the number of empty buckets.
     pub fn any_filled(&self) -> Option<usize>
         ensures found { IfSome result (λ at.
             is_some (bucket_at self.now.items at) ≡ true) }
@@ -235,7 +244,7 @@ impl<T: Keyed + Drop> Hop<T> {
         self.cells.last_filled()
     }
 
-    /// Counts the entries: at most 2^24 + 255.
+    /// Returns the number of entries, at most 2^24 + 255.
     pub fn len(&self) -> usize
         ensures value { result ≡ filled self.now.items }
         ensures most { result ≤ 2 ^ 24 + 255 }
@@ -243,7 +252,7 @@ impl<T: Keyed + Drop> Hop<T> {
         self.cells.count()
     }
 
-    /// Takes the entry of a bucket out.
+    /// Removes the entry of a bucket and returns it.
     pub fn remove(&mut self, at: usize) -> T
         requires { is_some (bucket_at self.old.items at) ≡ true }
         ensures here { bucket_at self.old.items at ≡ Some result }

@@ -1,4 +1,4 @@
-//! The header of an item: numbers at their places in its first 48 bytes, lowest byte first.
+//! The header of an item: numbers at fixed offsets in its first 48 bytes, lowest byte first.
 
 ghost use Rattle.std.specs.Prelude.{◌≡◌, ◌+◌, ◌≤◌, ◌^◌, ◌++◌, length, take, drop};
 ghost use Rattle.mc_item.specs.Layout.{number_at, number_bytes, header_in, updated_in, expires_number, moment_number};
@@ -6,10 +6,11 @@ ghost use Rattle.mc_item.specs.Layout.{number_at, number_bytes, header_in, updat
 use byteorder::{ByteOrder, LittleEndian};
 use mc_time::{Expiry, Moment};
 
-/// How many bytes of an item's first chunk come before its key.
+/// The number of bytes before the key in an item's first chunk.
 pub(crate) const HEADER: usize = 48;
 
-// Where the numbers of the header stand. The flags, whether the item expires and the lengths have 4 bytes each, the others 8.
+// Offsets of the header's numbers. The flags, whether the item expires and the lengths have 4 bytes
+// each, the others 8.
 const HASH: usize = 0;
 
 const FLAGS: usize = 8;
@@ -26,7 +27,7 @@ const KEY_LENGTH: usize = 40;
 
 const BLOCK_LENGTH: usize = 44;
 
-/// What stands before an item's key and block. The lengths are in bytes.
+/// What is stored before an item's key and block. The lengths are in bytes.
 #[derive(Clone, Copy)]
 pub(crate) struct Header {
     pub hash: u64,
@@ -38,7 +39,7 @@ pub(crate) struct Header {
     pub block_length: u32,
 }
 
-/// The number in 4 bytes from the offset on, lowest byte first.
+/// Returns the number in the 4 bytes at an offset, lowest byte first.
 #[tactic(auto, unfolding(crate::specs::Layout::number_at))]
 fn read_u32(bytes: &[u8], offset: usize) -> u32
     requires { offset + 4 ≤ length bytes.now }
@@ -47,7 +48,7 @@ fn read_u32(bytes: &[u8], offset: usize) -> u32
     LittleEndian::read_u32(&bytes[offset..])
 }
 
-/// The number in 8 bytes from the offset on, lowest byte first.
+/// Returns the number in the 8 bytes at an offset, lowest byte first.
 #[tactic(auto, unfolding(crate::specs::Layout::number_at))]
 fn read_u64(bytes: &[u8], offset: usize) -> u64
     requires { offset + 8 ≤ length bytes.now }
@@ -56,7 +57,7 @@ fn read_u64(bytes: &[u8], offset: usize) -> u64
     LittleEndian::read_u64(&bytes[offset..])
 }
 
-/// Writes the number into the 4 bytes from the offset on, lowest byte first.
+/// Writes a number into the 4 bytes at an offset, lowest byte first.
 fn put_u32(bytes: &mut [u8], offset: usize, number: u32)
     requires { offset + 4 ≤ length bytes.old }
     ensures before { take (offset + 4) bytes.new ≡ take offset bytes.old ++ number_bytes 4 number }
@@ -65,7 +66,7 @@ fn put_u32(bytes: &mut [u8], offset: usize, number: u32)
     LittleEndian::write_u32(&mut bytes[offset..], number);
 }
 
-/// Writes the number into the 8 bytes from the offset on, lowest byte first.
+/// Writes a number into the 8 bytes at an offset, lowest byte first.
 fn put_u64(bytes: &mut [u8], offset: usize, number: u64)
     requires { offset + 8 ≤ length bytes.old }
     ensures before { take (offset + 8) bytes.new ≡ take offset bytes.old ++ number_bytes 8 number }
@@ -74,7 +75,7 @@ fn put_u64(bytes: &mut [u8], offset: usize, number: u64)
     LittleEndian::write_u64(&mut bytes[offset..], number);
 }
 
-/// The hash of the key of the item in a chunk.
+/// Returns the hash of the key of the item in a chunk.
 pub(crate) fn hash_in(bytes: &[u8]) -> u64
     requires { 48 ≤ length bytes.now }
     ensures { result ≡ (header_in bytes.now).hash }
@@ -82,7 +83,7 @@ pub(crate) fn hash_in(bytes: &[u8]) -> u64
     read_u64(bytes, HASH)
 }
 
-/// The flags of the item in a chunk.
+/// Returns the flags of the item in a chunk.
 pub(crate) fn flags_in(bytes: &[u8]) -> u32
     requires { 48 ≤ length bytes.now }
     ensures { result ≡ (header_in bytes.now).flags }
@@ -90,7 +91,7 @@ pub(crate) fn flags_in(bytes: &[u8]) -> u32
     read_u32(bytes, FLAGS)
 }
 
-/// When the item in a chunk expires.
+/// Returns when the item in a chunk expires.
 pub(crate) fn expiry_in(bytes: &[u8]) -> Expiry
     requires { 48 ≤ length bytes.now }
     ensures { result ≡ (header_in bytes.now).expiry }
@@ -102,7 +103,7 @@ pub(crate) fn expiry_in(bytes: &[u8]) -> Expiry
     }
 }
 
-/// The unique number of the item in a chunk.
+/// Returns the unique number of the item in a chunk.
 pub(crate) fn unique_in(bytes: &[u8]) -> u64
     requires { 48 ≤ length bytes.now }
     ensures { result ≡ (header_in bytes.now).unique }
@@ -110,7 +111,7 @@ pub(crate) fn unique_in(bytes: &[u8]) -> u64
     read_u64(bytes, UNIQUE)
 }
 
-/// When the item in a chunk was updated.
+/// Returns when the item in a chunk was last updated.
 pub(crate) fn updated_in(bytes: &[u8]) -> Moment
     requires size { 48 ≤ length bytes.now }
     requires latest { updated_in bytes.now ≤ 2 ^ 62 }
@@ -119,7 +120,7 @@ pub(crate) fn updated_in(bytes: &[u8]) -> Moment
     Moment::from_seconds(read_u64(bytes, UPDATED))
 }
 
-/// How many bytes the key of the item in a chunk has.
+/// Returns the length in bytes of the key of the item in a chunk.
 pub(crate) fn key_length_in(bytes: &[u8]) -> u32
     requires { 48 ≤ length bytes.now }
     ensures { result ≡ (header_in bytes.now).key_length }
@@ -127,7 +128,7 @@ pub(crate) fn key_length_in(bytes: &[u8]) -> u32
     read_u32(bytes, KEY_LENGTH)
 }
 
-/// How many bytes the block of the item in a chunk has.
+/// Returns the length in bytes of the block of the item in a chunk.
 pub(crate) fn block_length_in(bytes: &[u8]) -> u32
     requires { 48 ≤ length bytes.now }
     ensures { result ≡ (header_in bytes.now).block_length }
@@ -135,7 +136,7 @@ pub(crate) fn block_length_in(bytes: &[u8]) -> u32
     read_u32(bytes, BLOCK_LENGTH)
 }
 
-/// The two numbers that stand for an expiry.
+/// Returns the two numbers that encode an expiry.
 fn numbers_of(expiry: Expiry) -> (u32, u64)
     ensures expires { result.0 ≡ expires_number expiry }
     ensures moment { result.1 ≡ moment_number expiry }
@@ -147,7 +148,7 @@ fn numbers_of(expiry: Expiry) -> (u32, u64)
 }
 
 impl Header {
-    /// The header of the item in a chunk.
+    /// Returns the header of the item in a chunk.
     pub(crate) fn read(bytes: &[u8]) -> Header
         requires size { 48 ≤ length bytes.now }
         requires latest { updated_in bytes.now ≤ 2 ^ 62 }
@@ -164,7 +165,7 @@ impl Header {
         }
     }
 
-    /// The bytes of the header.
+    /// Returns the bytes of the header.
     pub(crate) fn bytes(self) -> [u8; 48]
         ensures value { header_in result ≡ self }
         ensures latest { self.updated ≤ 2 ^ 62 }

@@ -41,48 +41,49 @@ use mc_time::{Expiry, Moment};
 use std::alloc::AllocError;
 use std::marker::Model;
 
-/// What an item is made of. Its block is `first` followed by `second`.
+/// The fields of an item. Its block is `first` followed by `second`.
 #[derive(Clone, Copy)]
 pub struct Parts<'a> {
-    /// The hash that the key is found by.
+    /// The hash of the key, by which it is found.
     pub hash: u64,
-    /// From 0 to 250 bytes.
+    /// The key, 0 to 250 bytes.
     pub key: &'a [u8],
     /// The front of the block.
     pub first: &'a [u8],
-    /// What comes after it in the block.
+    /// The rest of the block.
     pub second: &'a [u8],
-    /// The flags that the client stores with it.
+    /// The client's flags.
     pub flags: u32,
     /// When it expires.
     pub expiry: Expiry,
-    /// The number that no other write has.
+    /// The unique number of the write.
     pub unique: u64,
     /// When its block was written.
     pub updated: Moment,
 }
 
-/// What an item is made of beside its block.
+/// The fields of an item without its block.
 #[derive(Clone, Copy)]
 pub struct Head<'a> {
-    /// The hash that the key is found by.
+    /// The hash of the key, by which it is found.
     pub hash: u64,
-    /// From 0 to 250 bytes.
+    /// The key, 0 to 250 bytes.
     pub key: &'a [u8],
-    /// The flags that the client stores with it.
+    /// The client's flags.
     pub flags: u32,
     /// When it expires.
     pub expiry: Expiry,
-    /// The number that no other write has.
+    /// The unique number of the write.
     pub unique: u64,
     /// When its block was written.
     pub updated: Moment,
 }
 
-/// An item that lies in its chunks, in one run of their bytes, chunk after chunk: a header of 48, its key, and its block. The
-/// header and the key lie in the first chunk. Contracts see its parts, and its chunks' class and number. It is moved and never
-/// copied; one that is let go, and whose chunks aren't given back to their slab, stays out in the slab's account for ever. No
-/// call takes memory but `append_to`.
+/// An item in its chunks: a header of 48 bytes, the key and the block, one after another.
+///
+/// The header and the key are in the first chunk. Contracts see the item's fields, and the class
+/// and number of its chunks. An item is moved and never copied. An item that is dropped without
+/// giving its chunks back stays out in the slab's account for ever. Only `append_to` takes memory.
 #[derive(Drop)]
 pub struct Item {
     chunks: Chunks,
@@ -102,8 +103,9 @@ impl Model for Item {
 }
 
 impl Item {
-    /// Writes an item of those parts into chunks. It copies the key and the block, and takes no
-    /// memory.
+    /// Writes an item of these parts into chunks.
+    ///
+    /// It copies the key and the block, and takes no memory.
     pub fn write(mut chunks: Chunks, parts: Parts<'_>) -> Item
         requires key { length parts.key.now ≤ longest_key }
         requires room { header_size + length parts.key.now
@@ -134,8 +136,10 @@ impl Item {
         Item { chunks }
     }
 
-    /// Writes an item of that head into chunks, with a block of `block_len` bytes of any content: `fill` and `fill_from` write them.
-    /// It copies the key, and takes no memory. Its cost doesn't grow with the block.
+    /// Writes an item of this head into chunks, with a block of `block_len` unspecified bytes.
+    ///
+    /// `fill` and `fill_from` write the block. It copies the key, and takes no memory. The cost
+    /// doesn't grow with the block.
     pub fn begin(mut chunks: Chunks, head: Head<'_>, block_len: usize) -> Item
         requires key { length head.key.now ≤ longest_key }
         requires room { header_size + length head.key.now + block_len ≤ length chunks.bytes }
@@ -166,7 +170,7 @@ impl Item {
         Item { chunks }
     }
 
-    /// Copies bytes into its block, from the place `at` on, counted from 0. All else stays.
+    /// Copies bytes into its block from offset `at` on. Everything else is unchanged.
     pub fn fill(&mut self, at: usize, bytes: &[u8])
         requires { at + length bytes.now ≤ length self.old.block }
         ensures value { self.new
@@ -176,8 +180,7 @@ impl Item {
         write_block(&mut self.chunks, at, bytes);
     }
 
-    /// Copies another item's block into its own, from the place `at` on, counted from 0. All else
-    /// stays.
+    /// Copies another item's block into its own from offset `at` on. Everything else is unchanged.
     pub fn fill_from(&mut self, at: usize, other: &Item)
         requires { at + length other.now.block ≤ length self.old.block }
         ensures value { self.new
@@ -229,8 +232,10 @@ impl Item {
         );
     }
 
-    /// Puts bytes behind its block, which stays where it lies, and sets its flags, its expiry, its unique number and the moment of
-    /// the write. The key, its hash and the chunks stay. It copies these bytes alone, and takes no memory.
+    /// Appends bytes to its block in place, and sets flags, expiry, unique number and `updated`.
+    ///
+    /// The key, its hash and the chunks are unchanged. It copies only the new bytes, and takes no
+    /// memory.
     pub fn extend(&mut self, more: &[u8], flags: u32, expiry: Expiry, unique: u64, updated: Moment)
         requires room { charge_of self.old + length more.now ≤ size_in (item_need self.old) }
         ensures value { self.new ≡ record self.old {
@@ -255,7 +260,9 @@ impl Item {
         &bytes[HEADER..HEADER + length]
     }
 
-    /// Counts the parts of its block, 1 to 8, one for each of its chunks. Those behind the block's end are empty.
+    /// Returns the number of parts of its block, 1 to 8, one in each chunk.
+    ///
+    /// Parts behind the end of the block are empty.
     pub fn parts(&self) -> usize
         ensures value { result ≡ self.now.count }
         ensures joined { concat (parts_of self.now) ≡ self.now.block }
@@ -264,8 +271,9 @@ impl Item {
         self.need().count() as usize
     }
 
-    /// Lends the part of its block that lies in the chunk at the place, the first at 0. The part of an item of one chunk is its
-    /// whole block.
+    /// Lends the part of its block in the chunk at a place, the first at 0.
+    ///
+    /// For an item of one chunk, part 0 is the whole block.
     pub fn part(&self, at: usize) -> &[u8]
         requires { at < self.now.count }
         ensures value { slice_get (parts_of self.now) at ≡ Some result.now }
@@ -275,7 +283,7 @@ impl Item {
         part_of(&self.chunks, at)
     }
 
-    /// Counts the bytes of its block, 0 to 8388560.
+    /// Returns the length of its block, 0 to 8388560 bytes.
     pub fn block_len(&self) -> usize
         ensures value { result ≡ length self.now.block }
         ensures most { result ≤ 8388560 }
@@ -284,8 +292,10 @@ impl Item {
         block_length_in(front(&self.chunks)) as usize
     }
 
-    /// Appends its block to a vector. Memory is asked for once, before the first byte is copied; the one error is that it is
-    /// refused, and the vector is then as it was.
+    /// Appends its block to a vector.
+    ///
+    /// It allocates once, before the first byte is copied. The only error is a refused allocation,
+    /// and the vector is then unchanged.
     pub fn append_to(&self, out: &mut Vec<u8>) -> Result<(), AllocError>
         ensures ok { OnOk result (out.new.items ≡ out.old.items ++ self.now.block) }
         ensures err { OnErr result (out.new.items ≡ out.old.items) }
@@ -305,42 +315,42 @@ impl Item {
         Ok(())
     }
 
-    /// Reads the hash that came with its key.
+    /// Returns the hash of its key, as it was given.
     pub fn hash(&self) -> u64
         ensures { result ≡ self.now.hash }
     {
         hash_in(front(&self.chunks))
     }
 
-    /// Reads the flags that were stored with it.
+    /// Returns the client's flags.
     pub fn flags(&self) -> u32
         ensures { result ≡ self.now.flags }
     {
         flags_in(front(&self.chunks))
     }
 
-    /// Reads when it expires.
+    /// Returns when it expires.
     pub fn expiry(&self) -> Expiry
         ensures { result ≡ self.now.expiry }
     {
         expiry_in(front(&self.chunks))
     }
 
-    /// Reads its unique number, which no other write has.
+    /// Returns its unique number, which no other write has.
     pub fn unique(&self) -> u64
         ensures { result ≡ self.now.unique }
     {
         unique_in(front(&self.chunks))
     }
 
-    /// Reads when its block was last written.
+    /// Returns when its block was last written.
     pub fn updated_at(&self) -> Moment
         ensures { result ≡ self.now.updated }
     {
         updated_in(front(&self.chunks))
     }
 
-    /// Counts the bytes of its chunks that it takes: 48 of its header, its key's and its block's.
+    /// Returns its charge in bytes: 48 for the header, the key's length and the block's length.
     pub fn charge(&self) -> u64
         ensures value { result ≡ charge_of self.now }
         ensures is_item { IsItem self.now }
@@ -349,7 +359,7 @@ impl Item {
         HEADER as u64 + u64::from(key_length_in(bytes)) + u64::from(block_length_in(bytes))
     }
 
-    /// Finds the class of its chunks.
+    /// Returns the class of its chunks.
     pub fn class(&self) -> Class
         ensures value { result ≡ self.now.class }
         ensures is_item { IsItem self.now }
@@ -357,8 +367,9 @@ impl Item {
         self.need().class()
     }
 
-    /// Finds what its chunks serve: their class and how many there are. An item may lie in more, or in larger ones, than its charge
-    /// needs.
+    /// Returns the need that its chunks serve: their class and their number.
+    ///
+    /// That may be more chunks, or larger ones, than its charge needs.
     pub fn need(&self) -> Need
         ensures value { result ≡ item_need self.now }
         ensures is_item { IsItem self.now }
@@ -366,8 +377,10 @@ impl Item {
         self.chunks.need()
     }
 
-    /// Writes a number in place of its block: the decimal digits, with nothing before or behind
-    /// them. The key, its hash, the flags, the expiry and the chunks stay. It takes no memory.
+    /// Writes the decimal digits of a number in place of its block.
+    ///
+    /// It sets the unique number and the time of update. The key, its hash, the flags, the expiry
+    /// and the chunks are unchanged. It takes no memory.
     pub fn rewrite_number(&mut self, number: u64, unique: u64, updated: Moment)
         requires room { header_size + length self.old.key + length (decimal number)
             ≤ size_in (item_need self.old) }
@@ -381,7 +394,7 @@ impl Item {
         write_number(&mut self.chunks, number, unique, updated);
     }
 
-    /// Sets its expiry. All else stays.
+    /// Sets its expiry. Everything else is unchanged.
     pub fn set_expiry(&mut self, expiry: Expiry)
         ensures value { self.new ≡ record self.old { expiry = expiry } }
         ensures is_item { IsItem self.new }
@@ -389,7 +402,7 @@ impl Item {
         write_expiry(&mut self.chunks, expiry);
     }
 
-    /// Gives its chunks back, to be given to the slab or written anew.
+    /// Returns its chunks, to be given back to the slab or written again.
     pub fn into_chunks(self) -> Chunks
         ensures need { need_in result ≡ item_need self.entry }
         ensures run { item_in result ≡ self.entry }

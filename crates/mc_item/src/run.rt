@@ -1,4 +1,4 @@
-//! Writing an item's run of bytes.
+//! Writes an item's run of bytes.
 
 ghost use Rattle.std.specs.Prelude.{◌≡◌, ◌+◌, ◌<◌, ◌≤◌, ◌^◌, ◌++◌, length, take, drop, decimal, Some, slice_get, vec_capacity};
 ghost use Rattle.mc_slab.specs.Classes.{size_of};
@@ -20,7 +20,7 @@ use itoa::Buffer;
 use mc_slab::Chunks;
 use mc_time::{Expiry, Moment};
 
-/// The bytes of the first of an item's chunks, in which its header and its key lie.
+/// Lends the bytes of an item's first chunk, which has its header and its key.
 pub(crate) fn front(chunks: &Chunks) -> &[u8]
     requires { HoldsItem chunks.now }
     ensures value { result.now ≡ take (size_of chunks.now.class) chunks.now.bytes }
@@ -32,17 +32,17 @@ pub(crate) fn front(chunks: &Chunks) -> &[u8]
     chunks.first()
 }
 
-/// A length of what chunks have room for. They have at most 8388608 bytes.
+/// Returns a length within chunks as a `u32`. Chunks have at most 8388608 bytes.
 pub(crate) fn length_in(chunks: &Chunks, count: usize) -> u32
     requires { count ≤ length chunks.now.bytes }
     ensures { result ≡ count }
 {
-    // what holds of all chunks, for the proof
+    // for the proof: the invariant of chunks
     let _ = chunks.first();
     count as u32
 }
 
-/// Copies the source to the offset.
+/// Copies `source` to an offset.
 fn put(chunks: &mut Chunks, offset: usize, source: &[u8])
     requires { offset + length source.now ≤ length chunks.old.bytes }
     ensures before { take (offset + length source.now) chunks.new.bytes
@@ -56,7 +56,7 @@ fn put(chunks: &mut Chunks, offset: usize, source: &[u8])
     chunks.write_at(offset, source);
 }
 
-/// Copies a source that is mostly empty to the offset, and looks at nothing if it is.
+/// Copies a source that is mostly empty to an offset, and returns at once if it is.
 fn put_more(chunks: &mut Chunks, offset: usize, source: &[u8])
     requires { offset + length source.now ≤ length chunks.old.bytes }
     ensures before { take (offset + length source.now) chunks.new.bytes
@@ -68,14 +68,14 @@ fn put_more(chunks: &mut Chunks, offset: usize, source: &[u8])
     ensures are { AreChunks chunks.new }
 {
     if source.is_empty() {
-        // what holds of all chunks, for the proof
+        // for the proof: the invariant of chunks
         let _need = chunks.need();
         return;
     }
     put(chunks, offset, source);
 }
 
-/// Writes the header. What is behind it stays.
+/// Writes the header. The bytes behind it are unchanged.
 fn put_header(chunks: &mut Chunks, header: Header)
     requires { 48 ≤ length chunks.old.bytes }
     ensures value { header_in chunks.new.bytes ≡ header }
@@ -88,7 +88,7 @@ fn put_header(chunks: &mut Chunks, header: Header)
     put(chunks, 0, &header.bytes());
 }
 
-/// Writes an item into chunks: the header, the key, and the block, which is `first` followed by `second`.
+/// Writes an item into chunks: the header, the key, and the block, `first` followed by `second`.
 pub(crate) fn write_item(
     chunks: &mut Chunks,
     header: Header,
@@ -121,7 +121,7 @@ pub(crate) fn write_item(
     put(chunks, block + first.len(), second);
 }
 
-/// Writes an item into chunks, but for the bytes of its block: those stay as the chunks have them.
+/// Writes the header and the key of an item into chunks. The block's bytes are left as they are.
 pub(crate) fn write_head(chunks: &mut Chunks, header: Header, key: &[u8])
     requires short { length key.now ≤ longest_key }
     requires key_length { header.key_length ≡ length key.now }
@@ -144,7 +144,7 @@ pub(crate) fn write_head(chunks: &mut Chunks, header: Header, key: &[u8])
     put(chunks, HEADER, key);
 }
 
-/// Copies a part into the block of the item in chunks. All else stays.
+/// Copies `part` into the block of the item in chunks. Everything else is unchanged.
 pub(crate) fn write_block(chunks: &mut Chunks, at: usize, part: &[u8])
     requires item { HoldsItem chunks.old }
     requires room { at + length part.now ≤ block_length_in chunks.old.bytes }
@@ -157,7 +157,7 @@ pub(crate) fn write_block(chunks: &mut Chunks, at: usize, part: &[u8])
     put(chunks, start + at, part);
 }
 
-/// Copies bytes behind the block of the item in chunks, which has them too then, and sets what else a write brings.
+/// Appends bytes to the block of the item in chunks, and updates the header.
 pub(crate) fn write_behind(
     chunks: &mut Chunks,
     more: &[u8],
@@ -192,7 +192,7 @@ pub(crate) fn write_behind(
     put(chunks, HEADER + old.key_length as usize + block_len, more);
 }
 
-/// The block of the item in chunks becomes the number's digits.
+/// Writes the number's digits as the block of the item in chunks.
 pub(crate) fn write_number(chunks: &mut Chunks, number: u64, unique: u64, updated: Moment)
     requires item { HoldsItem chunks.old }
     requires room { header_size + key_length_in chunks.old.bytes + length (decimal number)
@@ -217,7 +217,7 @@ pub(crate) fn write_number(chunks: &mut Chunks, number: u64, unique: u64, update
     put(chunks, HEADER + old.key_length as usize, digits);
 }
 
-/// The item in chunks expires then.
+/// Sets the expiry of the item in chunks.
 pub(crate) fn write_expiry(chunks: &mut Chunks, expiry: Expiry)
     requires { HoldsItem chunks.old }
     ensures value { item_in chunks.new ≡ record (item_in chunks.old) { expiry = expiry } }
@@ -228,7 +228,7 @@ pub(crate) fn write_expiry(chunks: &mut Chunks, expiry: Expiry)
     put_header(chunks, header);
 }
 
-/// The part of the block of the item in chunks that lies in the chunk at the place, the first at 0.
+/// Lends the part of the item's block in the chunk at a place, the first at 0.
 pub(crate) fn part_of(chunks: &Chunks, at: usize) -> &[u8]
     requires item { HoldsItem chunks.now }
     requires place { at < chunks.now.count }

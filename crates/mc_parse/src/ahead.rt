@@ -1,3 +1,9 @@
+//! What is known of the front of the unread bytes.
+//!
+//! The end of a line is searched once, and the line is parsed once. The feed keeps the result
+//! (`Ahead`) until the unit is skipped, so small pieces aren't parsed again, and a piece of a block
+//! that isn't complete costs nothing.
+
 ghost use Rattle.std.specs.Prelude.{◌≡◌, ℕ, List, [], None};
 ghost use Rattle.mc_parse.specs.Peeks.{unit_of, FindsSpelled, MissesNone, StaysWhole};
 ghost use Rattle.mc_parse.specs.Cursors.{IsFirstCursor};
@@ -7,24 +13,25 @@ use crate::cursor::Cursor;
 use crate::note::Note;
 use crate::peek::{LONGEST, Peek, first_feed};
 
-/// What the unread bytes begin with, as far as they were looked at. The first line is read once, when it is whole.
+/// What is known of the front of the unread bytes. The first line is parsed once, when it is
+/// complete.
 #[derive(Clone, Copy)]
 pub enum Ahead {
-    /// No line feed is among the first so many bytes, which were looked at.
+    /// The first bytes, as many as this number, were searched and have no line feed.
     Searched(usize),
-    /// This line.
+    /// The first line, parsed.
     Line(Note),
 }
 
 impl Ahead {
-    /// Makes the knowledge of nothing.
+    /// Returns that nothing is known.
     pub fn none() -> Ahead
         ensures { result ≡ Ahead.Searched 0 }
     {
         Ahead::Searched(0)
     }
 
-    /// Looks at what came behind the bytes of which this was known.
+    /// Searches the bytes that came after those that this is known of.
     pub fn after(self, greatest: u64, unread: &[u8]) -> Ahead
         requires { Knew greatest self unread.now }
         ensures { Knows greatest result unread.now }
@@ -35,7 +42,7 @@ impl Ahead {
         }
     }
 
-    /// Counts the bytes of the unit, if its line announces a block; else none.
+    /// Returns the length of the first unit in bytes if its line announces a block, else 0.
     pub fn announced_bytes(&self) -> usize
         ensures { (greatest : ℕ) → Knows greatest self.now [] → result ≡ 0 }
     {
@@ -45,7 +52,7 @@ impl Ahead {
         }
     }
 
-    /// Tells what the unread bytes begin with. It looks at no line.
+    /// Returns what the unread bytes begin with. It reads no line.
     #[inline]
     pub fn peek<'a>(&self, unread: &'a [u8]) -> Peek<'a>
         requires { (greatest : ℕ) × Knows greatest self.now unread.now }
@@ -60,13 +67,14 @@ impl Ahead {
         }
     }
 
-    /// Gives the cursor before the first turn of the retrieval that the bytes begin with. There is none if they begin
-    /// with something else.
+    /// Returns the cursor before the first turn of the retrieval at the front.
+    ///
+    /// It is `None` if anything else is there.
     pub fn cursor(&self, unread: &[u8]) -> Option<Cursor>
         requires { (greatest : ℕ) × Knows greatest self.now unread.now }
         ensures some { (greatest : ℕ) →
             Knows greatest self.now unread.now → IsFirstCursor greatest result unread.now }
-        // If there is none a unit is whole after any turns.
+        // Without a cursor the unit is whole after any number of turns.
         ensures none { (greatest taken : ℕ) → Knows greatest self.now unread.now →
             result ≡ None → StaysWhole greatest taken unread.now }
     {
@@ -77,7 +85,7 @@ impl Ahead {
     }
 }
 
-/// Tells what bytes begin with among whose first 65537 no line feed is.
+/// Returns what bytes begin with, if their first 65537 have no line feed.
 #[inline]
 fn peek_endless(unread: &[u8]) -> Peek<'_>
     ensures found { (greatest : ℕ) →
@@ -92,7 +100,8 @@ fn peek_endless(unread: &[u8]) -> Peek<'_>
     }
 }
 
-/// Looks for the end of the first line, and reads the line. None of the first `searched` bytes is a line feed.
+/// Searches the end of the first line, and parses the line. The first `searched` bytes have no line
+/// feed.
 fn look(greatest: u64, unread: &[u8], searched: usize) -> Ahead
     requires { HasNoFeed searched unread.now }
     ensures { Knows greatest result unread.now }

@@ -1,3 +1,9 @@
+//! A buffer with room behind its bytes, which a source writes into.
+//!
+//! Room for a large block is reserved once a sixteenth of its unit has arrived. A client that
+//! announces a block and sends nothing takes no memory; one that sends n bytes takes at most 16 n +
+//! 16384 bytes. If that reservation is refused, the buffer grows as bytes arrive.
+
 ghost use Rattle.std.specs.Prelude.{◌≡◌, ◌+◌, ◌≤◌, drop, take, length, OnOk};
 
 use crate::append::Append;
@@ -5,18 +11,19 @@ use crate::source::Source;
 use std::alloc::{AllocError, Global};
 use std::marker::Model;
 
-/// A piece of memory with more bytes than this is one of the system's own, which is made small before it is given back.
+/// A larger allocation, in bytes, is a mapping of its own, and is shrunk before it is freed.
 const LARGE: usize = 4_194_304;
 
-/// To how many bytes.
+/// The size in bytes to which it is shrunk.
 const SMALL: usize = 4096;
 
-/// Bytes, and room behind them that is lent to sources. Contracts see the bytes, and how much memory is reserved.
+/// Bytes, and room behind them for sources. Contracts see the bytes, and the reserved memory.
 #[derive(Drop)]
 pub struct Buffer {
     /// The bytes, and the room behind them.
     all: Vec<u8>,
-    /// How many bytes there are. What the room holds says nothing: it was written before, by a source or with zeros.
+    /// The number of bytes. The content of the room is unspecified: zeros, or what a source once
+    /// wrote.
     filled: usize,
 }
 
@@ -35,7 +42,7 @@ impl Buffer {
     ghost use Rattle.std.specs.Prelude.{◌≡◌, ◌-◌, ◌≤◌, [], ◌++◌, drop, length, OnOk, OnErr, IfOk};
     ghost use Rattle.mc_parse.specs.Sources.{Brings};
 
-    /// Makes a buffer of no bytes. It takes no memory.
+    /// Makes an empty buffer. It takes no memory.
     pub fn new(alloc: Global) -> Buffer
         ensures { result ≡ record { items = []; capacity = 0 } }
     {
@@ -53,14 +60,14 @@ impl Buffer {
         filled
     }
 
-    /// Counts the bytes.
+    /// Returns the number of bytes.
     pub fn len(&self) -> usize
         ensures { result ≡ length self.now.items }
     {
         self.filled
     }
 
-    /// Counts the bytes of memory that are reserved.
+    /// Returns the number of reserved bytes.
     pub fn capacity(&self) -> usize
         ensures all { result ≡ self.now.capacity }
         ensures filled { length self.now.items ≤ result }
@@ -68,7 +75,7 @@ impl Buffer {
         self.all.capacity()
     }
 
-    /// Appends bytes. Refused, there are as many as before.
+    /// Appends bytes. An error leaves the bytes unchanged.
     pub fn push(&mut self, bytes: &[u8]) -> Result<(), AllocError>
         ensures ok { OnOk result (self.new.items ≡ self.old.items ++ bytes.now) }
         ensures err { OnErr result (self.new.items ≡ self.old.items) }
@@ -79,7 +86,7 @@ impl Buffer {
         result
     }
 
-    /// Appends a text. Refused, there are as many bytes as before.
+    /// Appends a text. An error leaves the bytes unchanged.
     pub fn append<T: Append>(&mut self, text: &T) -> Result<(), AllocError>
         requires { T.can_append text.now }
         ensures ok { OnOk result (self.new.items ≡ self.old.items ++ T.bytes text.now) }
@@ -91,8 +98,9 @@ impl Buffer {
         result
     }
 
-    /// Appends what a source writes into room for `room` bytes. Refused, the source wasn't asked, and there are as many
-    /// bytes as before.
+    /// Appends what a source writes into room for `room` bytes.
+    ///
+    /// After an error the source wasn't called, and the bytes are unchanged.
     pub fn push_from<S: Source>(
         &mut self,
         source: &mut S,
@@ -113,7 +121,7 @@ impl Buffer {
         }
     }
 
-    /// Reserves memory for so many more bytes, if there is some.
+    /// Reserves memory for `more` bytes, if there is some.
     pub fn reserve(&mut self, more: usize)
         ensures { self.new.items ≡ self.old.items }
     {
@@ -121,7 +129,7 @@ impl Buffer {
         let _ = self.all.reserve(more.saturating_sub(room));
     }
 
-    /// Drops a front, if what is left is no longer than the front.
+    /// Drops the first `front` bytes. What is left must not be longer than the front.
     pub fn drop_front(&mut self, front: usize)
         requires inside { front ≤ length self.old.items }
         requires half { length self.old.items - front ≤ front }
@@ -139,7 +147,7 @@ impl Buffer {
         self.filled = 0;
     }
 
-    /// Gives the memory back, if there are no bytes and more than `kept` bytes of it.
+    /// Frees the memory if the buffer is empty and has more than `kept` bytes of it.
     pub fn give_back(&mut self, kept: usize, alloc: Global)
         ensures same { self.new.items ≡ self.old.items }
         ensures small { length self.new.items ≡ 0 → self.new.capacity ≤ kept }
@@ -151,8 +159,10 @@ impl Buffer {
     }
 }
 
-/// Gives all but a little of a large piece of memory back, whose bytes are no longer wanted. The C library keeps pieces of
-/// the size of the largest that was given back whole and alone, and twice as many bytes for each thread.
+/// Shrinks a large allocation whose bytes are no longer wanted.
+///
+/// The C library caches freed allocations up to the size of the largest mapping that was freed
+/// whole, and twice as many bytes for each thread.
 fn make_small(all: &mut Vec<u8>) {
     if all.capacity() > LARGE {
         all.clear();
@@ -160,7 +170,7 @@ fn make_small(all: &mut Vec<u8>) {
     }
 }
 
-/// Has room for `room` bytes stand behind the first `filled` bytes of a vector, filled up with zeros.
+/// Extends a vector with zeros until there are `room` bytes behind the first `filled` ones.
 fn make_room(all: &mut Vec<u8>, filled: usize, room: usize) -> Result<(), AllocError>
     requires { filled ≤ length all.old.items }
     ensures ok { OnOk result (filled + room ≤ length all.new.items) }
@@ -176,8 +186,9 @@ fn make_room(all: &mut Vec<u8>, filled: usize, room: usize) -> Result<(), AllocE
     all.resize(end, 0)
 }
 
-/// Lends the room behind the first `filled` bytes of a vector to a source, so much of it. Tells how many bytes it wrote,
-/// and what it answered.
+/// Lends `room` bytes behind the first `filled` ones to a source.
+///
+/// Returns how many bytes the source wrote, and its answer.
 fn read_behind<S: Source>(
     all: &mut Vec<u8>,
     filled: usize,
@@ -194,7 +205,7 @@ fn read_behind<S: Source>(
     source.read(lent)
 }
 
-/// Copies the bytes behind a front, so many of them, onto the front, which has no fewer.
+/// Copies the `left` bytes behind a front onto the front, which is at least as long.
 fn copy_to_front(all: &mut Vec<u8>, front: usize, left: usize)
     requires inside { front + left ≤ length all.old.items }
     requires half { left ≤ front }

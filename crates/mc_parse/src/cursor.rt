@@ -8,19 +8,21 @@ use crate::note::KeySpan;
 use crate::peek::Peek;
 use mc_protocol::{Command, Keys, first_word_len};
 
-/// Where a retrieval stands whose keys take a turn each: what is left of its line, so that the next turn needn't read the
-/// line from its beginning. Places count from the first unread byte.
+/// The position in a retrieval whose keys take a turn each.
+///
+/// It keeps what is left of the line, so that a turn needn't read the line from its beginning.
+/// Places count from the first unread byte.
 #[derive(Clone, Copy)]
 pub struct Cursor {
-    /// How many turns were taken.
+    /// The number of turns taken.
     taken: usize,
-    /// Where the keys that are left begin.
+    /// Where the remaining keys begin.
     from: usize,
     /// Where the line's text ends.
     to: usize,
-    /// How many keys are left.
+    /// The number of remaining keys.
     left: usize,
-    /// How many bytes spell the retrieval.
+    /// The length of the retrieval in bytes.
     len: usize,
     with_unique: bool,
     /// The exptime of gat and gats.
@@ -28,8 +30,9 @@ pub struct Cursor {
 }
 
 impl Cursor {
-    /// Makes the cursor before the first turn of a retrieval of these keys, which the first `len` bytes spell, and whose
-    /// text ends at `to`.
+    /// Returns the cursor before the first turn of a retrieval with these keys.
+    ///
+    /// The retrieval has `len` bytes, and its text ends at `to`.
     pub fn first(
         keys: KeySpan,
         to: usize,
@@ -50,7 +53,7 @@ impl Cursor {
         }
     }
 
-    /// Takes one turn. It costs as much as a key.
+    /// Returns the cursor after one more turn. It reads one key.
     fn next(&self, unread: &[u8]) -> Cursor
         requires within { IsWithin self.now unread.now }
         requires taken { self.now.taken < 2 ^ 64 - 1 }
@@ -69,7 +72,7 @@ impl Cursor {
         }
     }
 
-    /// Finds the retrieval of the keys that are left. It looks at none of them.
+    /// Returns the retrieval of the remaining keys. It reads none of them.
     #[inline]
     pub fn peek<'a>(&self, unread: &'a [u8]) -> Peek<'a>
         requires { IsWithin self.now unread.now }
@@ -92,8 +95,9 @@ impl Cursor {
     }
 }
 
-/// Moves to the cursor after `taken` turns, from the `known` one if it isn't beyond, or from the `first` one. There is
-/// none if there is no first.
+/// Returns the cursor after `taken` turns, or `None` if there is no first one.
+///
+/// It moves on from `known` unless that is beyond, and then from `first`.
 pub fn cursor_after(
     known: Option<Cursor>,
     first: Option<Cursor>,
@@ -116,7 +120,7 @@ pub fn cursor_after(
     }
 }
 
-/// Moves to the cursor after `taken` turns. It costs as much as the keys that it passes.
+/// Returns the cursor after `taken` turns. The cost grows with the keys that it passes.
 fn moved_to(mut cursor: Cursor, unread: &[u8], taken: usize) -> Cursor
     requires within { IsWithin cursor unread.now }
     requires ahead { cursor.taken ≤ taken }
@@ -127,6 +131,6 @@ fn moved_to(mut cursor: Cursor, unread: &[u8], taken: usize) -> Cursor
     while cursor.taken < taken && cursor.left > 0 {
         cursor = cursor.next(unread);
     }
-    // Behind the last key all turns leave the same.
+    // Behind the last key every number of turns leaves the same.
     Cursor { taken, ..cursor }
 }

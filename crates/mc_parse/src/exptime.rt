@@ -3,7 +3,7 @@ ghost use Rattle.mc_parse.specs.Exptimes.{exptime_of, delay_of};
 
 use mc_protocol::number_up_to;
 
-/// Reads an exptime: a number of at most `i64::MAX`, which a minus may precede.
+/// Reads an exptime: a number of at most `i64::MAX`, perhaps with a minus before it.
 pub fn exptime_of(word: &[u8]) -> Option<i64>
     ensures { result ≡ exptime_of word.now }
 {

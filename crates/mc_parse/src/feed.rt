@@ -1,3 +1,9 @@
+//! A stream's unread bytes.
+//!
+//! A retrieval of n keys takes n turns. `peek_after(taken)` returns the rest of the first unit
+//! after `taken` turns, and `mark` notes where the next key begins, so the line is parsed once.
+//! `peek` takes no allocator: a key or block that it lends isn't copied.
+
 use crate::ahead::Ahead;
 use crate::cursor::{Cursor, cursor_after};
 use crate::peek::Peek;
@@ -7,17 +13,19 @@ use mc_protocol::LineFault;
 use std::alloc::{AllocError, Global};
 use std::marker::Model;
 
-/// The part of a stream that came and wasn't read yet. Contracts see the greatest charge, how many bytes are still to be
-/// passed over, and the unread bytes.
+/// The part of a stream that has arrived and isn't read yet.
+///
+/// Contracts see the greatest charge, the number of bytes still to be skipped, and the unread
+/// bytes.
 #[derive(Drop)]
 pub struct Feed {
     greatest: u64,
-    /// How many bytes are still to be passed over.
+    /// The number of bytes still to be skipped.
     passed: u64,
     unread: Queue<65536>,
-    /// Where the retrieval stands that the unread bytes begin with, if turns of it were noted.
+    /// The position in the retrieval at the front, if turns of it were noted.
     cursor: Option<Cursor>,
-    /// What the unread bytes begin with.
+    /// What is known of the front of the unread bytes.
     ahead: Ahead,
 }
 
@@ -40,7 +48,9 @@ impl Feed {
     ghost use Rattle.mc_parse.specs.Feeds.{Finds, FindsAny, FindsLeft, FindsAnyLeft};
     ghost use Rattle.mc_parse.specs.Queues.{first_piece, kept_in_feed};
 
-    /// Makes a feed of no bytes, whose storage commands may charge at most `greatest` bytes. It takes no memory.
+    /// Makes an empty feed whose storage commands may charge at most `greatest` bytes.
+    ///
+    /// It takes no memory.
     pub fn new(alloc: Global, greatest: u64) -> Feed
         ensures { result ≡ record { greatest = greatest; passed = 0; bytes = [] } }
     {
@@ -53,7 +63,9 @@ impl Feed {
         }
     }
 
-    /// Takes the next piece of the stream. What is to be passed over of it isn't kept. Refused, the feed is as it was.
+    /// Appends the next piece of the stream, without the bytes that are skipped.
+    ///
+    /// An error leaves the feed unchanged.
     pub fn push(&mut self, piece: &[u8]) -> Result<(), AllocError>
         ensures ok { OnOk result (self.new ≡ pushed self.old piece.now) }
         ensures err { OnErr result (self.new ≡ self.old) }
@@ -66,8 +78,10 @@ impl Feed {
         Ok(())
     }
 
-    /// Takes the next piece of the stream from a source, which writes it where it will lie, into room for `room` bytes.
-    /// What is to be passed over of it isn't kept. Refused, the source wasn't asked, and the feed is as it was.
+    /// Appends the next piece of the stream from a source, which writes it in place.
+    ///
+    /// The source gets room for `room` bytes. Bytes that are skipped aren't kept. After an error
+    /// the source wasn't called, and the feed is unchanged.
     pub fn push_from<S: Source>(
         &mut self,
         source: &mut S,
@@ -91,15 +105,17 @@ impl Feed {
         }
     }
 
-    /// Finds what the unread bytes begin with. It takes no memory and looks at no line: each was read once, when it was
-    /// whole. While a block is awaited it finds nothing.
+    /// Returns what the unread bytes begin with.
+    ///
+    /// It takes no memory and reads no line: each line was read once, when it was complete. Until a
+    /// block is complete it returns `More`.
     pub fn peek(&self) -> Peek<'_>
-        // What it finds is spelled by the front that it counts, and no byte is to be passed over.
+        // The unit is spelled by the front whose length is returned, and no byte is to be skipped.
         ensures found { Finds self.now (unit_of result) }
-        // It finds nothing exactly where no front of the stream spells anything.
+        // It finds nothing exactly if no front of the stream spells anything.
         ensures none { unit_of result ≡ None → HasNoUnit self.now }
         ensures more { HasNoUnit self.now → unit_of result ≡ None }
-        // Whatever a front spells is what it finds.
+        // Any unit that a front spells is the one found.
         ensures only { FindsAny self.now (unit_of result) }
         // No key of a command is longer than 250 bytes.
         ensures keys { FindsShortKeys (unit_of result) }
@@ -107,30 +123,34 @@ impl Feed {
         self.first_unit()
     }
 
-    /// Finds what is left of the first unit after `taken` of its turns: of a retrieval, the retrieval of the keys that are
-    /// left. If `mark` was told of these turns it looks at no key, and else at those that they took.
+    /// Returns what is left of the first unit after `taken` of its turns.
+    ///
+    /// For a retrieval that is the retrieval of the remaining keys. After `mark(taken)` it reads no
+    /// key, otherwise the keys of those turns.
     #[inline]
     pub fn peek_after(&self, taken: usize) -> Peek<'_>
         ensures found { FindsLeft self.now taken (unit_of result) }
-        // It finds nothing exactly where no front of the stream spells anything.
+        // It finds nothing exactly if no front of the stream spells anything.
         ensures none { unit_of result ≡ None → HasNoUnit self.now }
         ensures more { HasNoUnit self.now → unit_of result ≡ None }
-        // Of whatever a front spells, what is left is what it finds.
+        // For any unit that a front spells, what is left of it is what is found.
         ensures only { FindsAnyLeft self.now taken (unit_of result) }
         ensures keys { FindsShortKeys (unit_of result) }
     {
         self.unit_after(taken)
     }
 
-    /// Notes that `taken` turns of the first unit were taken, so that `peek_after` finds the next one at once.
+    /// Notes that `taken` turns of the first unit were taken. `peek_after` then finds the next at
+    /// once.
     pub fn mark(&mut self, taken: usize)
         ensures { self.new ≡ self.old }
     {
         self.cursor = self.cursor_at(taken);
     }
 
-    /// Passes over the unit that the unread bytes begin with, which `peek` found to be spelled by `len` bytes. The bytes
-    /// that a fault passes over are dropped as they come. It takes no memory.
+    /// Skips the first unit, for which `peek` returned the length `len`.
+    ///
+    /// Bytes that a fault skips are dropped as they arrive. It takes no memory.
     pub fn skip_unit(&mut self, len: usize)
         requires { HasUnit self.old len }
         ensures { ReadsUnit self.old len self.new }
@@ -142,10 +162,11 @@ impl Feed {
         self.done_passing(len, passed);
     }
 
-    /// Passes over the first `len` unread bytes, and the `passed` bytes behind them as they come. It takes no memory.
+    /// Skips the first `len` unread bytes, and the next `passed` bytes as they arrive. It takes no
+    /// memory.
     pub fn done_passing(&mut self, len: usize, passed: u64)
         requires inside { len ≤ length self.old.bytes }
-        // A unit that is passed over was found, so no byte is to be passed over before it.
+        // The skipped unit was found, so no byte is to be skipped before it.
         requires none { self.old.passed ≡ 0 }
         ensures { self.new ≡ read self.old len passed }
     {
@@ -157,7 +178,7 @@ impl Feed {
         self.ahead = Ahead::none().after(self.greatest, self.unread.as_slice());
     }
 
-    /// Drops what is unread and what is to be passed over. It takes no memory.
+    /// Drops the unread bytes and forgets what is to be skipped. It takes no memory.
     pub fn clear(&mut self)
         ensures { self.new ≡ record { greatest = self.old.greatest; passed = 0; bytes = [] } }
     {
@@ -167,7 +188,7 @@ impl Feed {
         self.ahead = Ahead::none();
     }
 
-    /// Counts the bytes of the stream that are held: the unread ones. Those that are passed over never are.
+    /// Returns the number of unread bytes. Skipped bytes are never held.
     pub fn held_bytes(&self) -> usize
         ensures unread { result ≡ length self.now.bytes }
         ensures settled { IsSettled self.now }
@@ -176,7 +197,8 @@ impl Feed {
         self.unread.len()
     }
 
-    /// Counts the bytes of memory that are filled: the unread ones, and of those that were read at most as many.
+    /// Returns how many bytes of memory are filled: the unread bytes, and at most as many read
+    /// ones.
     pub fn filled_bytes(&self) -> usize
         ensures least { length self.now.bytes ≤ result }
         ensures most { result ≤ 2 * length self.now.bytes }
@@ -185,7 +207,7 @@ impl Feed {
         self.unread.filled_bytes()
     }
 
-    /// Counts the bytes of memory that are reserved, filled or not: at most 65536 if no byte is unread.
+    /// Returns the number of reserved bytes: at most 65536 if no byte is unread.
     pub fn capacity(&self) -> usize
         ensures filled { length self.now.bytes ≤ result }
         ensures empty { self.now.bytes ≡ [] → result ≤ kept_in_feed }
@@ -193,8 +215,9 @@ impl Feed {
         self.unread.capacity()
     }
 
-    /// Gives back the memory that is kept beyond that of a first piece, if no byte is unread, and counts the bytes that
-    /// are reserved then.
+    /// Frees the memory beyond that of a first piece if no byte is unread.
+    ///
+    /// Returns the number of reserved bytes afterwards.
     pub fn rest(&mut self) -> usize
         ensures same { self.new ≡ self.old }
         ensures filled { length self.new.bytes ≤ result }
@@ -203,15 +226,16 @@ impl Feed {
         self.unread.rest()
     }
 
-    /// Counts the bytes of the unit that the unread bytes begin with, if its line announces a block, whether or not they
-    /// came; else none.
+    /// Returns the length of the first unit in bytes if its line announces a block, else 0.
+    ///
+    /// It counts bytes that haven't arrived too.
     pub fn announced_bytes(&self) -> usize
         ensures { self.now.bytes ≡ [] → result ≡ 0 }
     {
         self.ahead.announced_bytes()
     }
 
-    /// Finds what `peek` finds. What else is said there follows from the two clauses.
+    /// Returns what `peek` returns. The other clauses of `peek` follow from these two.
     #[inline]
     fn first_unit(&self) -> Peek<'_>
         ensures found { Finds self.now (unit_of result) }
@@ -223,7 +247,7 @@ impl Feed {
         self.ahead.peek(self.unread.as_slice())
     }
 
-    /// Finds what `peek_after` finds.
+    /// Returns what `peek_after` returns.
     #[inline]
     fn unit_after(&self, taken: usize) -> Peek<'_>
         ensures found { FindsLeft self.now taken (unit_of result) }
@@ -238,12 +262,13 @@ impl Feed {
         }
     }
 
-    /// Moves to the cursor after `taken` turns of the retrieval that the unread bytes begin with. There is none if they
-    /// begin with something else.
+    /// Returns the cursor after `taken` turns of the retrieval at the front.
+    ///
+    /// It is `None` if anything else is there.
     fn cursor_at(&self, taken: usize) -> Option<Cursor>
         ensures some { IsCursor self.now.greatest result self.now.bytes }
         ensures taken { IfSome result (λ cursor. cursor.taken ≡ taken) }
-        // If there is none a unit is whole after any turns.
+        // Without a cursor the unit is whole after any number of turns.
         ensures none { result ≡ None → StaysWhole self.now.greatest taken self.now.bytes }
     {
         let unread = self.unread.as_slice();

@@ -6,7 +6,7 @@ ghost use Rattle.mc_parse.specs.Units.{Spells, ProtocolUnit};
 ghost use Rattle.mc_parse.specs.Streams.{AreUnits};
 ghost use Rattle.mc_parse.specs.Feeds.{Unread, pushed, IsSettled};
 
-/// States that no spelling begins another. It does nothing.
+/// States that no spelling is the beginning of another. It does nothing.
 pub fn no_spelling_begins_another()
     ensures { (greatest : ℕ) (u v : ProtocolUnit) (a b x y : List ℕ) →
         Spells greatest u a → Spells greatest v b → a ++ x ≡ b ++ y → (u ≡ v) × (a ≡ b) }
@@ -18,7 +18,7 @@ pub fn a_spelling_has_a_byte()
         Spells greatest unit front → 0 < length front }
 {}
 
-/// States that a stream has one list of units, and no other. It does nothing.
+/// States that a stream has exactly one list of units. It does nothing.
 pub fn one_list_of_units()
     ensures some { (greatest passed : ℕ) (bytes : List ℕ) →
         (units : List ProtocolUnit) × AreUnits greatest passed bytes units }
@@ -27,13 +27,13 @@ pub fn one_list_of_units()
         units ≡ others }
 {}
 
-/// States that two pieces that are fed in turn leave what they leave joined. It does nothing.
+/// States that two pieces leave the same as the two joined. It does nothing.
 pub fn cutting_does_not_matter()
     ensures { (unread : Unread) (piece more : List ℕ) →
         pushed (pushed unread piece) more ≡ pushed unread (piece ++ more) }
 {}
 
-/// States that any number of pieces fed in turn leave what they leave joined. It does nothing.
+/// States that any number of pieces leave the same as all of them joined. It does nothing.
 pub fn pieces_are_fed_as_joined()
     ensures { (unread : Unread) (pieces : List (List ℕ)) →
         IsSettled unread → fold pushed unread pieces ≡ pushed unread (concat pieces) }

@@ -1,26 +1,29 @@
-//! Partial input as lent commands.
+//! Parses a stream of bytes into commands that are lent from it.
 //!
-//! Bytes come from a connection in pieces that have nothing to do with commands. This crate keeps
-//! what came, and says what it begins with: a command, a fault of a line, or nothing whole yet. The
-//! grammar is that of memcached's text protocol (doc/protocol.txt). Behind the buffer nothing is
-//! copied: keys and the block of a command are slices of the bytes where they lie.
+//! Bytes come from a connection in pieces that needn't end where commands do. This crate keeps what
+//! has arrived, and returns what it begins with: a command, a fault of a line, or nothing complete
+//! yet. The grammar is that of memcached's text protocol (doc/protocol.txt). Nothing is copied:
+//! keys and the block of a command are slices of the buffer.
 //!
-//! A line is read once, when its end is there, to a [`Noted`]: a command whose keys are places in
-//! the line ([`Span`], [`KeySpan`]) and whose block is a length ([`line_of`]; the names are one
-//! table, [`NAMES`]). [`lend`] makes the command of `mc_protocol` of it and the bytes. A [`Peek`] is
-//! what bytes begin with ([`peek_at`]). A [`Feed`] is a stream's unread bytes with what is known of
-//! their front: pieces are pushed, or read by a [`Source`] into the room where they will lie;
-//! `peek` lends the first unit, and `done` passes over it. Under it is a [`Queue`], which is also
-//! what output waits in.
+//! A line is parsed once, when its end has arrived, to a [`Noted`]: a command with places for keys
+//! ([`Span`], [`KeySpan`]) and a length for its block ([`line_of`]; the names are one table,
+//! [`NAMES`]). [`lend`] makes the command of `mc_protocol` from it and the bytes. A [`Peek`] is
+//! what bytes begin with ([`peek_at`]). A [`Feed`] has a stream's unread bytes, with what is known
+//! of their front. Pieces are pushed, or read by a [`Source`] into the room where they will stay.
+//! `peek` lends the first unit, and `skip_unit` skips it. A feed stores its bytes in a [`Queue`],
+//! which sessions also use for output.
 //!
 //! In definitions a unit is *spelled* by bytes, and a stream has a list of units
-//! (`specs/Units.antt`, `specs/Streams.antt`). Contracts say that a peek finds exactly what a front
-//! of the unread bytes spells, and nothing exactly if no front spells anything; that a line says
-//! what the grammar says, or its first fault; and that what is held is at most twice what is
-//! unread, and nothing of what is passed over. The laws say that no spelling begins another, that a
-//! stream has one list of units, and that it makes no difference how a stream is cut into pieces.
+//! (`specs/Units.antt`, `specs/Streams.antt`). Contracts promise that a peek finds exactly what a
+//! front of the unread bytes spells, and nothing exactly if no front spells anything. They promise
+//! that the meaning of a line is that of the grammar, or its first fault. They promise that the
+//! memory filled is at most twice the unread bytes, and that no skipped byte is held. The laws
+//! state that no spelling is the beginning of another, that a stream has one list of units, and
+//! that it makes no difference how a stream is cut into pieces.
 //!
 //! Begin with `specs/Lines.antt` and `src/line.rt` for the grammar, `src/feed.rt` for the stream.
+//!
+//! Tests: mc_session_tests, src/parse_tests.rt.
 #![tactic(auto)]
 
 mod ahead;

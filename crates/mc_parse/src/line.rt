@@ -38,7 +38,7 @@ const LONGEST_KEY: usize = 250;
 /// The longest block, in bytes.
 const LONGEST_BLOCK: u64 = 2147483645;
 
-/// Notes what a line says, or its first fault. `text` is the line without its end.
+/// Returns the command of a line, or the line's first fault. `text` is the line without its end.
 pub fn line_of(greatest: u64, text: &[u8]) -> Result<Noted, LineFault>
     ensures said { said text.now result ≡ meaning greatest (words text.now) }
     ensures fits { IfOk result (λ noted. Fits noted text.now) }
@@ -191,7 +191,7 @@ fn flush_line(args: &[u8]) -> Result<Noted, LineFault>
         });
     };
     let quiet = ending(rest)?;
-    // Of two words the first is the delay, whatever it is.
+    // If there are two words the first is the delay, even if it is `noreply`.
     if !quiet && word == b"noreply".as_slice() {
         return Ok(CommandOf::FlushAll {
             delay: 0,
@@ -202,7 +202,7 @@ fn flush_line(args: &[u8]) -> Result<Noted, LineFault>
     Ok(CommandOf::FlushAll { delay, quiet })
 }
 
-/// Reads the line of a command that is its name alone.
+/// Reads the line of a command that is only a name.
 fn lone_line(lone: Lone, args: &[u8]) -> Result<Noted, LineFault>
     ensures said { (text : List ℕ) → said text result ≡ lone_line lone (words args.now) }
     ensures fits { (text : List ℕ) → IfOk result (λ noted. Fits noted text) }
@@ -213,7 +213,7 @@ fn lone_line(lone: Lone, args: &[u8]) -> Result<Noted, LineFault>
     }
 }
 
-/// Finds a word that has to stand, and what follows it.
+/// Returns the next word, which must be there, and what follows it.
 fn next_word(text: &[u8]) -> Result<(&[u8], &[u8]), LineFault>
     ensures { MatchResult result
         (λ p. (words text.now ≡ p.0.now ∷ words p.1.now) × EndsIn text.now p.1.now)
@@ -222,7 +222,7 @@ fn next_word(text: &[u8]) -> Result<(&[u8], &[u8]), LineFault>
     first_word(text).ok_or(LineFault::Unknown)
 }
 
-/// Finds a key that has to stand, and what follows it.
+/// Returns the next key, which must be there, and what follows it.
 fn next_key(text: &[u8]) -> Result<(&[u8], &[u8]), LineFault>
     ensures { MatchResult result
         (λ p. words text.now ≡ p.0.now ∷ words p.1.now)
@@ -231,7 +231,7 @@ fn next_key(text: &[u8]) -> Result<(&[u8], &[u8]), LineFault>
     first_key(text).ok_or(LineFault::Unknown)
 }
 
-/// Reads the end of a line, and returns whether it makes the command quiet: `noreply` does, and nothing doesn't.
+/// Reads the end of a line, and returns whether it is `noreply`. It may also be empty.
 fn ending(args: &[u8]) -> Result<bool, LineFault>
     ensures { result ≡ ending (words args.now) }
 {
@@ -241,7 +241,7 @@ fn ending(args: &[u8]) -> Result<bool, LineFault>
     }
 }
 
-/// Reads the end of a delete's line as `ending` does; it may have a 0 before the `noreply`.
+/// Reads the end of a delete's line as `ending` does. A 0 may come first.
 fn delete_ending(args: &[u8]) -> Result<bool, LineFault>
     ensures { result ≡ delete_ending (words args.now) }
 {
@@ -263,7 +263,7 @@ fn noreply(word: &[u8], rest: &[u8]) -> Result<bool, LineFault>
     }
 }
 
-/// Lets a block of `len` bytes pass, unless its item would be charged more than `greatest`.
+/// Returns the length `len` of a block, unless its item's charge would be above `greatest`.
 fn check_charge(greatest: u64, key: &[u8], len: u32) -> Result<u32, LineFault>
     ensures { result ≡ fitting greatest key.now len }
 {
@@ -277,7 +277,7 @@ fn check_charge(greatest: u64, key: &[u8], len: u32) -> Result<u32, LineFault>
     }
 }
 
-/// Notes where the key stands with which the arguments begin.
+/// Returns the place of the key that the arguments begin with.
 fn key_formed(text: &[u8], args: &[u8], key: &[u8]) -> Result<Span, LineFault>
     requires tail { EndsIn text.now args.now }
     requires first { (more : List (List ℕ)) × (words args.now ≡ key.now ∷ more) }
@@ -291,7 +291,7 @@ fn key_formed(text: &[u8], args: &[u8], key: &[u8]) -> Result<Span, LineFault>
     Ok(Span::new(text.len() - args.len() + spaces_len(args), key.len()))
 }
 
-/// Notes where the keys stand that the words of the arguments are, at least one.
+/// Returns the place of the keys, the words of the arguments. There must be at least one.
 fn keys_noted(text: &[u8], args: &[u8]) -> Result<KeySpan, LineFault>
     requires { EndsIn text.now args.now }
     ensures { MatchResult result
@@ -302,7 +302,9 @@ fn keys_noted(text: &[u8], args: &[u8]) -> Result<KeySpan, LineFault>
     Ok(KeySpan::new(text.len() - args.len(), keys.len()))
 }
 
-/// Finds the keys that the words of a text are, at least one. They are tested and counted in one walk.
+/// Returns the keys that are the words of a text. There must be at least one.
+///
+/// They are checked and counted in one pass.
 fn keys_formed(text: &[u8]) -> Result<Keys<'_>, LineFault>
     ensures { result ≡ keys_formed (words text.now) }
 {
@@ -319,7 +321,9 @@ fn keys_formed(text: &[u8]) -> Result<Keys<'_>, LineFault>
     Ok(Keys::with_count(text, count))
 }
 
-/// Returns whether a word is a key. A word of a line holds no space and no line feed, so its length is all that is asked.
+/// Returns whether a word is a key.
+///
+/// A word of a line has no space and no line feed, so only its length is checked.
 fn is_key(word: &[u8]) -> bool
     ensures { result ≡ is_key word.now }
 {

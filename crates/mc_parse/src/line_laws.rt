@@ -5,7 +5,7 @@ ghost use Rattle.mc_protocol.specs.Words.{words};
 ghost use Rattle.mc_parse.specs.Units.{with_block};
 ghost use Rattle.mc_parse.specs.Lines.{Line, meaning, IsWord, IsKey, HasKeys};
 
-/// States that no word of a text without a line feed holds a space or a line feed. It does nothing.
+/// States that no word of a text without a line feed has a space or a line feed. It does nothing.
 #[tactic(auto, using(crate::proofs::LineWords::words_are_words))]
 pub fn words_hold_no_space_or_feed()
     ensures { (text : List ℕ) → All (λ b. b ≢ 10) text → All IsWord (words text) }

@@ -6,7 +6,7 @@ ghost use Rattle.mc_parse.specs.Lines.{name_of, named};
 
 use mc_protocol::{Lone, Verb};
 
-/// The commands as their first word names them.
+/// The commands by their first word.
 #[derive(Clone, Copy, Debug, PartialEq, Eq)]
 pub enum Name {
     /// set, add, replace, append, prepend
@@ -25,7 +25,7 @@ pub enum Name {
     Lone(Lone),
 }
 
-/// The names of the commands. Those that come most often stand first.
+/// The names of the commands, most frequent first.
 pub const NAMES: [(&[u8], Name); 17] = [
     (b"get", Name::Get { with_unique: false }),
     (b"set", Name::Store(Verb::Set)),
@@ -46,21 +46,21 @@ pub const NAMES: [(&[u8], Name); 17] = [
     (b"quit", Name::Lone(Lone::Quit)),
 ];
 
-/// Finds the command that a word names.
+/// Returns the command that a word names, or `None`.
 pub(crate) fn name_of(word: &[u8]) -> Option<Name>
     ensures { result ≡ name_of word.now }
 {
     find_name(&NAMES, word)
 }
 
-/// Finds what the first row with this word names.
+/// Returns the command of the first row with this word, or `None`.
 fn find_name(rows: &[(&[u8], Name)], word: &[u8]) -> Option<Name>
     ensures { result ≡ named (λ name. name.now) rows.now word.now }
 {
     row_named(rows, word)
 }
 
-/// Finds what the first row with this word names, as `find` says it.
+/// Returns the command of the first row with this word; its contract is in terms of `find`.
 fn row_named(rows: &[(&[u8], Name)], word: &[u8]) -> Option<Name>
     ensures { result ≡ option_map (λ row. row.1)
         (find (λ row. bytes_eq row.0.now word.now) rows.now) }

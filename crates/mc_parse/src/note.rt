@@ -1,3 +1,8 @@
+//! A parsed command as numbers and places in the buffer.
+//!
+//! A `Note` has places, and is lent as a `Command` from these and the bytes. A value that borrows
+//! can't be kept beside the buffer that it borrows from.
+
 ghost use Rattle.std.specs.Prelude.{◌≡◌, ◌≤◌, ◌+◌, ◌<◌, ℕ, List, length, take};
 ghost use Rattle.std.specs.Result.{IfOk};
 ghost use Rattle.mc_protocol.specs.Commands.{block_in, retrieval_in};
@@ -11,7 +16,7 @@ use crate::line::line_of;
 use crate::peek::{Peek, block_peeked, without_carriage_return};
 use mc_protocol::{Bytes, Command, CommandOf, Keys, LineFault};
 
-/// Where a key stands in the text of a line.
+/// The place of a key in the text of a line.
 #[derive(Clone, Copy)]
 pub struct Span {
     from: usize,
@@ -19,7 +24,7 @@ pub struct Span {
 }
 
 impl Span {
-    /// Makes the span of the `len` bytes behind the first `from`.
+    /// Returns the span of the `len` bytes behind the first `from`.
     pub(crate) fn new(from: usize, len: usize) -> Span
         ensures from { result.from ≡ from }
         ensures len { result.len ≡ len }
@@ -27,7 +32,7 @@ impl Span {
         Span { from, len }
     }
 
-    /// Lends the bytes of the span. Those that a text doesn't have are left out.
+    /// Lends the bytes of the span, as far as the text has them.
     #[inline]
     pub fn lend<'a>(&self, text: &'a [u8]) -> Bytes<'a>
         ensures { result ≡ at text.now self.now }
@@ -38,7 +43,7 @@ impl Span {
     }
 }
 
-/// Where the keys of a retrieval stand in the text of a line, and how many they are.
+/// The place of a retrieval's keys in the text of a line, and their number.
 #[derive(Clone, Copy)]
 pub struct KeySpan {
     pub(crate) from: usize,
@@ -46,7 +51,7 @@ pub struct KeySpan {
 }
 
 impl KeySpan {
-    /// Makes the span of the `count` words behind the first `from` bytes.
+    /// Returns the span of the `count` words behind the first `from` bytes.
     pub(crate) fn new(from: usize, count: usize) -> KeySpan
         ensures from { result.from ≡ from }
         ensures count { result.count ≡ count }
@@ -54,7 +59,7 @@ impl KeySpan {
         KeySpan { from, count }
     }
 
-    /// Lends the keys. It looks at none of them.
+    /// Lends the keys. It reads none of them.
     #[inline]
     pub fn lend<'a>(&self, text: &'a [u8]) -> Keys<'a>
         requires { FitIn self.now text.now }
@@ -65,10 +70,10 @@ impl KeySpan {
     }
 }
 
-/// A command as it is noted of a line: where its keys stand, and how long its block is.
+/// A parsed command: its keys are places, and its block is a length.
 pub type Noted = CommandOf<Span, KeySpan, u32>;
 
-/// Lends the command that was noted of a line's text, with its block, if it has one.
+/// Returns the command that was parsed from a line's text, with its block, if it has one.
 #[inline]
 pub fn lend<'a>(noted: &Noted, text: &'a [u8], block: &'a [u8]) -> Command<'a>
     requires { Fits noted.now text.now }
@@ -142,7 +147,7 @@ pub fn lend<'a>(noted: &Noted, text: &'a [u8], block: &'a [u8]) -> Command<'a>
     }
 }
 
-/// Returns how long the block is that a noted command announces.
+/// Returns the length of the block that a command announces, or `None`.
 #[inline]
 fn announced_block(noted: &Noted) -> Option<u32>
     ensures { result ≡ block_in noted.now }
@@ -153,7 +158,7 @@ fn announced_block(noted: &Noted) -> Option<u32>
     }
 }
 
-/// Returns what a noted retrieval asks: the exptime that it may set, its keys, and whether the unique number is told.
+/// Returns a retrieval's exptime, keys and `with_unique`, or `None` for another command.
 fn retrieval_in(noted: &Noted) -> Option<(Option<i64>, KeySpan, bool)>
     ensures { result ≡ retrieval_in noted.now }
 {
@@ -168,18 +173,18 @@ fn retrieval_in(noted: &Noted) -> Option<(Option<i64>, KeySpan, bool)>
     }
 }
 
-/// The first line of unread bytes: what it says, and where.
+/// The first line of unread bytes, parsed, and its place.
 #[derive(Clone, Copy)]
 pub struct Note {
     /// Where the line's text ends.
     to: usize,
-    /// Where the line feed is.
+    /// The place of the line feed.
     end: usize,
     said: Result<Noted, LineFault>,
 }
 
 impl Note {
-    /// Reads the first line of the unread bytes, whose line feed is at `end`.
+    /// Parses the first line of the unread bytes, whose line feed is at `end`.
     pub fn of(greatest: u64, unread: &[u8], end: usize) -> Note
         requires line { IsLine (take (end + 1) unread.now) (take end unread.now) }
         requires inside { end < length unread.now }
@@ -194,7 +199,7 @@ impl Note {
         }
     }
 
-    /// Counts the bytes of the line and of the block that it announces; none if it announces no block.
+    /// Returns the length in bytes of the line with the block that it announces, or 0 without one.
     pub fn announced_bytes(&self) -> usize {
         match self.said {
             Ok(noted) => match announced_block(&noted) {
@@ -205,7 +210,7 @@ impl Note {
         }
     }
 
-    /// Tells what the unread bytes begin with. Of the line it looks at nothing.
+    /// Returns what the unread bytes begin with. It doesn't read the line.
     #[inline]
     pub fn peek<'a>(&self, unread: &'a [u8]) -> Peek<'a>
         requires { (greatest : ℕ) × IsNoted greatest self.now unread.now }
@@ -224,13 +229,14 @@ impl Note {
         }
     }
 
-    /// Gives the cursor before the first turn of the retrieval that the line says. There is none if it says
-    /// something else.
+    /// Returns the cursor before the first turn of the line's retrieval.
+    ///
+    /// It is `None` if the line is anything else.
     pub fn cursor(&self, unread: &[u8]) -> Option<Cursor>
         requires { (greatest : ℕ) × IsNoted greatest self.now unread.now }
         ensures some { (greatest : ℕ) →
             IsNoted greatest self.now unread.now → IsFirstCursor greatest result unread.now }
-        // If there is none a unit is whole after any turns.
+        // Without a cursor the unit is whole after any number of turns.
         ensures none { (greatest taken : ℕ) → IsNoted greatest self.now unread.now →
             result ≡ None → StaysWhole greatest taken unread.now }
     {

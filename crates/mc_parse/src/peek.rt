@@ -14,35 +14,37 @@ use memchr::memchr;
 /// What the unread bytes begin with.
 #[derive(Drop)]
 pub enum Peek<'a> {
-    /// A command, spelled by so many bytes.
+    /// A command, and its length in bytes.
     Whole(Command<'a>, usize),
-    /// Nothing whole yet.
+    /// Nothing complete yet.
     More,
-    /// A fault, spelled by so many bytes.
+    /// A fault, and its length in bytes.
     Bad(LineFault, usize),
     /// A line of more than 65536 bytes.
     TooLong,
 }
 
-/// The longest line, without its end.
+/// Bytes of the longest line, without its end.
 pub const LONGEST: usize = 65536;
 
-/// Finds what bytes begin with, where none is to be passed over and a charge may be at most `greatest`. It looks at the
-/// first line, and of a block only at the two bytes behind it.
+/// Returns what bytes begin with, if none is to be skipped and a charge is at most `greatest`.
+///
+/// It reads the first line, and of a block only the two bytes behind it.
 pub fn peek_at(greatest: u64, unread: &[u8]) -> Peek<'_>
-    // What it finds is spelled by the front that it counts.
+    // The unit is spelled by the front whose length is returned.
     ensures found { FindsSpelled greatest (unit_of result) unread.now }
     // It finds nothing only if no front spells anything.
     ensures none { MissesNone greatest (unit_of result) unread.now }
-    // Whatever a front spells is what it finds.
+    // Any unit that a front spells is the one found.
     ensures only { FindsWhatever greatest (unit_of result) unread.now }
 {
     let ahead = Ahead::none().after(greatest, unread);
     ahead.peek(unread)
 }
 
-/// Finds the first line feed, if a line may be so long. None of the first `searched` bytes is one, and they aren't looked
-/// at.
+/// Returns the place of the first line feed, if the line isn't too long.
+///
+/// The first `searched` bytes have none, and are skipped.
 pub fn first_feed(unread: &[u8], searched: usize) -> Option<usize>
     requires { AllByRecursion (λ b. b ≢ 10) (take searched unread.now) }
     ensures some { IfSome result (λ end. HasLine end unread.now) }
@@ -57,8 +59,9 @@ pub fn first_feed(unread: &[u8], searched: usize) -> Option<usize>
     }
 }
 
-/// Tells what the unread bytes begin with, whose first line has its line feed at `end`, and this noted of its text. A block of
-/// `len` bytes is to follow it.
+/// Returns what the unread bytes begin with, if the line that ends at `end` announces a block.
+///
+/// The line is parsed, and its block has `len` bytes.
 #[inline]
 pub fn block_peeked<'a>(
     noted: &Noted,
@@ -90,7 +93,7 @@ pub fn block_peeked<'a>(
     }
 }
 
-/// Lends the text of a line without the carriage return at its end.
+/// Returns the text of a line without the carriage return at its end.
 pub fn without_carriage_return(text: &[u8]) -> &[u8]
     ensures { result.now ≡ strip_carriage_return text.now }
 {

@@ -1,25 +1,33 @@
+//! A queue of bytes.
+//!
+//! A queue counts the bytes consumed at its front, and moves the rest only if the rest is no longer
+//! than what was consumed, so each consumed byte pays for one moved byte. An empty queue frees its
+//! memory if it has more than `KEPT` bytes. Text is appended as a value of the trait `Append`, not
+//! by a closure: a closure that captures a lent `Command` has the unit type as its postcondition.
+
 use crate::append::Append;
 use crate::buffer::Buffer;
 use crate::source::Source;
 use std::alloc::{AllocError, Global};
 use std::marker::Model;
 
-/// How many bytes of memory what is empty keeps if nothing is to come soon: those of the first piece of a stream.
+/// The memory in bytes that an idle empty queue keeps: enough for the first piece of a stream.
 pub const FIRST_PIECE: usize = 2048;
 
-/// Of how many parts of a text one is to be there before room is made for all of it.
+/// Room for a whole text is reserved once one part in `SHARE` of it has arrived.
 const SHARE: usize = 16;
 
-/// For how many bytes behind a text room is made with it: what comes with its last bytes needs no room of its own.
+/// Bytes that are reserved beyond a text, so that what arrives with its end needs no further room.
 const BEHIND: usize = 16384;
 
-/// Bytes that are appended behind and taken away in front. While it has none it reserves at most `KEPT` bytes of memory.
-/// Contracts see the bytes that weren't taken yet.
+/// Bytes that are appended at the end and consumed at the front.
+///
+/// An empty queue reserves at most `KEPT` bytes. Contracts see the bytes that aren't consumed.
 #[derive(Drop)]
 pub struct Queue<const KEPT: usize> {
     alloc: Global,
     buffer: Buffer,
-    /// How many bytes of the buffer were taken: never more than are left.
+    /// The number of consumed bytes of the buffer, never more than are left.
     taken: usize,
 }
 
@@ -39,7 +47,7 @@ impl<const KEPT: usize> Queue<KEPT> {
     ghost use Rattle.mc_parse.specs.Sources.{Brings};
     ghost use Rattle.mc_parse.specs.Queues.{first_piece};
 
-    /// Makes a queue of no bytes. It takes no memory.
+    /// Makes an empty queue. It takes no memory.
     pub fn new(alloc: Global) -> Queue<KEPT>
         ensures { result ≡ [] }
     {
@@ -50,7 +58,7 @@ impl<const KEPT: usize> Queue<KEPT> {
         }
     }
 
-    /// Lends the bytes that weren't taken yet.
+    /// Lends the bytes that aren't consumed.
     pub fn as_slice(&self) -> &[u8]
         ensures { result.now ≡ self.now }
     {
@@ -58,22 +66,22 @@ impl<const KEPT: usize> Queue<KEPT> {
         left
     }
 
-    /// Counts the bytes that weren't taken yet.
+    /// Returns the number of bytes that aren't consumed.
     pub fn len(&self) -> usize
         ensures { result ≡ length self.now }
     {
         self.buffer.len() - self.taken
     }
 
-    /// Returns whether every byte was taken.
+    /// Returns whether every byte was consumed.
     pub fn is_empty(&self) -> bool
         ensures { IsTrue result ↔ (self.now ≡ []) }
     {
         self.len() == 0
     }
 
-    /// Counts the bytes of memory that are filled: those that weren't taken yet, and of those that were taken at most as
-    /// many.
+    /// Returns how many bytes of memory are filled: those not consumed, and at most as many
+    /// consumed.
     pub fn filled_bytes(&self) -> usize
         ensures least { length self.now ≤ result }
         ensures most { result ≤ 2 * length self.now }
@@ -81,7 +89,7 @@ impl<const KEPT: usize> Queue<KEPT> {
         self.buffer.len()
     }
 
-    /// Counts the bytes of memory that are reserved, filled or not. An empty queue reserves at most `KEPT`.
+    /// Returns the number of reserved bytes. An empty queue reserves at most `KEPT`.
     pub fn capacity(&self) -> usize
         ensures filled { length self.now ≤ result }
         ensures empty { self.now ≡ [] → result ≤ KEPT }
@@ -89,8 +97,9 @@ impl<const KEPT: usize> Queue<KEPT> {
         self.buffer.capacity()
     }
 
-    /// Gives back the memory that an empty queue keeps beyond that of a first piece, and counts the bytes that are reserved
-    /// then.
+    /// Frees the memory of an empty queue beyond that of a first piece.
+    ///
+    /// Returns the number of reserved bytes afterwards.
     pub fn rest(&mut self) -> usize
         ensures same { self.new ≡ self.old }
         ensures filled { length self.new ≤ result }
@@ -100,7 +109,7 @@ impl<const KEPT: usize> Queue<KEPT> {
         self.buffer.capacity()
     }
 
-    /// Appends bytes. Refused, the queue is as it was.
+    /// Appends bytes. An error leaves the queue unchanged.
     pub fn push(&mut self, bytes: &[u8]) -> Result<(), AllocError>
         ensures ok { OnOk result (self.new ≡ self.old ++ bytes.now) }
         ensures err { OnErr result (self.new ≡ self.old) }
@@ -110,10 +119,12 @@ impl<const KEPT: usize> Queue<KEPT> {
         result
     }
 
-    /// Appends bytes of a text that has `whole` bytes, more than `KEPT`, of which the first ones are there. Once a sixteenth of
-    /// it is, room is made for all of it in one, and nothing is moved from then on; so for what is announced and never comes no
-    /// more is reserved than sixteen times what came, and 16384 bytes. If memory for that is refused, the queue grows as
-    /// bytes come. Refused, it is as it was.
+    /// Appends bytes of a text of `whole` bytes, whose earlier ones are in the queue.
+    ///
+    /// If `whole` is above `KEPT` and a sixteenth of the text is there, room for all of it is
+    /// reserved at once, and nothing is moved from then on. So a text that is announced and never
+    /// comes reserves at most sixteen times the bytes that came, and 16384 bytes. If that
+    /// reservation is refused, the queue grows as bytes come. An error leaves the queue unchanged.
     pub fn push_part(&mut self, bytes: &[u8], whole: usize) -> Result<(), AllocError>
         ensures ok { OnOk result (self.new ≡ self.old ++ bytes.now) }
         ensures err { OnErr result (self.new ≡ self.old) }
@@ -122,8 +133,9 @@ impl<const KEPT: usize> Queue<KEPT> {
         self.push(bytes)
     }
 
-    /// Appends what a source writes into room for `room` bytes, where it will lie: bytes of a text that has `whole`, as
-    /// `push_part` appends them. Refused, the source wasn't asked, and the queue is as it was.
+    /// Appends what a source writes into room for `room` bytes, as `push_part` appends bytes.
+    ///
+    /// After an error the source wasn't called, and the queue is unchanged.
     pub fn push_part_from<S: Source>(
         &mut self,
         source: &mut S,
@@ -141,7 +153,7 @@ impl<const KEPT: usize> Queue<KEPT> {
         result
     }
 
-    /// Makes room for `whole` bytes, if a sixteenth of them is there, and for some that come with the last of them.
+    /// Reserves room for `whole` bytes and a few more, if a sixteenth of them is there.
     fn make_room(&mut self, whole: usize)
         ensures { self.new ≡ self.old }
     {
@@ -153,7 +165,7 @@ impl<const KEPT: usize> Queue<KEPT> {
         self.buffer.give_back(KEPT, self.alloc);
     }
 
-    /// Appends a text. Refused, the queue is as it was.
+    /// Appends a text. An error leaves the queue unchanged.
     pub fn append<T: Append>(&mut self, text: &T) -> Result<(), AllocError>
         requires { T.can_append text.now }
         ensures ok { OnOk result (self.new ≡ self.old ++ T.bytes text.now) }
@@ -164,8 +176,10 @@ impl<const KEPT: usize> Queue<KEPT> {
         result
     }
 
-    /// Takes the first `n` bytes away. What is left is moved to the front if it is no longer than what was taken, so
-    /// that each byte that is taken pays for one that is moved.
+    /// Consumes the first `n` bytes.
+    ///
+    /// The rest is moved to the front if it is no longer than what was consumed, so that each
+    /// consumed byte pays for one moved byte.
     pub fn consume(&mut self, n: usize)
         requires { n ≤ length self.old }
         ensures { self.new ≡ drop n self.old }
@@ -179,7 +193,7 @@ impl<const KEPT: usize> Queue<KEPT> {
         }
     }
 
-    /// Takes all bytes away.
+    /// Consumes all bytes.
     pub fn clear(&mut self)
         ensures { self.new ≡ [] }
     {

@@ -1,3 +1,8 @@
+//! Commands, and the steps that each one consists of.
+//!
+//! `CommandOf<K, L, B>` is a command over three ways of keeping its key, its keys and its block:
+//! lent (`Command`), as places in a line (`Noted` of mc_parse), and in specs as bytes.
+
 ghost use Rattle.std.specs.Prelude.{◌≡◌, ◌<◌, [], ◌∷◌, length, slice_get};
 ghost use Rattle.mc_protocol.specs.Commands.{steps, is_quiet, HasBlock, IsSingle};
 
@@ -7,8 +12,9 @@ use crate::lone::Lone;
 use crate::step::{KeyStep, Verb};
 use std::alloc::AllocError;
 
-/// A command, over how its key, the keys of a retrieval and its block are kept. A quiet one ended in
-/// `noreply`.
+/// A command, generic over how its key, the keys of a retrieval and its block are kept.
+///
+/// A quiet command ended in `noreply`.
 #[derive(Drop)]
 pub enum CommandOf<K, L, B> {
     /// set, add, replace, append, prepend
@@ -58,7 +64,7 @@ pub enum CommandOf<K, L, B> {
         by: u64,
         quiet: bool,
     },
-    /// flush_all, with a delay of 0 if none is given
+    /// flush_all; without a delay it is 0
     FlushAll {
         delay: u64,
         quiet: bool,
@@ -67,7 +73,7 @@ pub enum CommandOf<K, L, B> {
     Lone(Lone),
 }
 
-// By hand, as a derived one takes each variant apart.
+// By hand: a derived one takes each variant apart.
 impl<K: Copy, L: Copy, B: Copy> Clone for CommandOf<K, L, B> {
     ghost is_clone = { λ x y. y ≡ x };
 
@@ -80,11 +86,13 @@ impl<K: Copy, L: Copy, B: Copy> Clone for CommandOf<K, L, B> {
 
 impl<K: Copy, L: Copy, B: Copy> Copy for CommandOf<K, L, B> {}
 
-/// A command whose keys and block lie in the input.
+/// A command whose keys and block are slices of the input.
 pub type Command<'a> = CommandOf<Bytes<'a>, Keys<'a>, Bytes<'a>>;
 
-/// Counts the steps of a command: one a key for a retrieval, none for one that is its name alone,
-/// one for every other.
+/// Returns the number of steps of a command.
+///
+/// A retrieval has one for each key, a command that is only a name has none, and every other has
+/// one.
 pub fn steps_of(command: &Command<'_>) -> usize
     ensures { result ≡ length (steps command.now) }
 {
@@ -110,7 +118,7 @@ pub fn is_quiet(command: &Command<'_>) -> bool
     }
 }
 
-/// Lends step `at` of a command, counted from 0.
+/// Returns step `at` of a command, counted from 0.
 pub fn step_at<'a>(command: &Command<'a>, at: usize) -> KeyStep<'a>
     requires { at < length (steps command.now) }
     ensures { slice_get (steps command.now) at ≡ Some result }
@@ -127,7 +135,7 @@ pub fn step_at<'a>(command: &Command<'a>, at: usize) -> KeyStep<'a>
     }
 }
 
-/// Lends key `at` of a retrieval, counted from 0, which it has.
+/// Returns key `at` of a retrieval, counted from 0. It must have that key.
 fn key_at<'a>(keys: &Keys<'a>, at: usize) -> Bytes<'a>
     requires { at < length keys.now }
     ensures { slice_get keys.now at ≡ Some result }
@@ -138,7 +146,7 @@ fn key_at<'a>(keys: &Keys<'a>, at: usize) -> Bytes<'a>
     }
 }
 
-/// Lends the step of a command that has just one.
+/// Returns the step of a command that has just one.
 fn only_step<'a>(command: &Command<'a>) -> KeyStep<'a>
     requires { IsSingle command.now }
     ensures { steps command.now ≡ result ∷ [] }
@@ -162,7 +170,7 @@ fn only_step<'a>(command: &Command<'a>) -> KeyStep<'a>
     }
 }
 
-/// Lends the step of a command that a block comes after.
+/// Returns the step of a command with a block.
 fn block_step<'a>(command: &Command<'a>) -> KeyStep<'a>
     requires { HasBlock command.now }
     ensures { steps command.now ≡ result ∷ [] }

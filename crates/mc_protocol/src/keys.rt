@@ -1,7 +1,7 @@
 use crate::words::Words;
 use std::marker::Model;
 
-/// The keys of a retrieval: the words of the rest of its line, and how many they are.
+/// The keys of a retrieval: the words of the rest of its line, and their number.
 #[derive(Drop)]
 pub struct Keys<'a> {
     text: &'a [u8],
@@ -24,7 +24,7 @@ impl<'a> Keys<'a> {
     ghost use Rattle.std.specs.Prelude.{◌≡◌, length, slice_get};
     ghost use Rattle.mc_protocol.specs.Words.{words};
 
-    /// Makes the keys that the words of `text` are. The cost grows with the text.
+    /// Returns the keys that are the words of `text`. The cost grows with the text.
     pub fn of(text: &'a [u8]) -> Keys<'a>
         ensures { result ≡ words text.now }
     {
@@ -34,7 +34,7 @@ impl<'a> Keys<'a> {
         }
     }
 
-    /// Makes the keys of `text` if it is known how many words it has. It costs nothing.
+    /// Returns the keys of `text`, which must have `count` words. It costs nothing.
     pub fn with_count(text: &'a [u8], count: usize) -> Keys<'a>
         requires { count ≡ length (words text.now) }
         ensures { result ≡ words text.now }
@@ -42,14 +42,14 @@ impl<'a> Keys<'a> {
         Keys { text, count }
     }
 
-    /// Counts the keys. It costs nothing.
+    /// Returns the number of keys. It costs nothing.
     pub fn len(&self) -> usize
         ensures { result ≡ length self.now }
     {
         self.count
     }
 
-    /// Lends key `at`, counted from 0, if there is one. The cost grows with the keys before it.
+    /// Lends key `at`, counted from 0, or `None`. The cost grows with the keys before it.
     pub fn get(&self, at: usize) -> Option<&'a [u8]>
         ensures { option_copied result ≡ slice_get self.now at }
     {

@@ -21,18 +21,21 @@ pub fn other_keys_stay()
         get new.items other ≡ get old.items other }
 {}
 
-/// States that a step on one key depends on that key's item, the cut, the next unique number, the
-/// greatest charge, and for which needs there is room: states that agree there give one answer,
-/// and agree at the key and in those numbers after it.
+/// States that the result of a step on one key depends on that key and a few numbers alone.
+///
+/// These are the key's item, the cut, the next unique number, the greatest charge, and the needs
+/// for which there is room. Two states that agree in them give the same answer, and agree at the
+/// key and in the numbers afterwards.
 pub fn one_key_decides()
     ensures { (a b : Plain) (step : KeyStep) (now : ℕ) →
         IsOnKey step → AgreeAt (key_of step) a b → HaveSameRoom step now a b →
         AgreeAfter (key_of step) (plain a step now) (plain b step now) }
 {}
 
-/// States that a step is refused for want of chunks exactly where what it writes takes some, is not
-/// too large, can draw a unique number, and finds no room. Nothing changes then, but that a dead
-/// item of the key is dropped.
+/// States when a step is refused for want of chunks.
+///
+/// It is refused exactly if its write takes chunks, isn't too large, has a unique number, and finds
+/// no room. Nothing changes then, except that a dead item of the key is dropped.
 pub fn refused_without_room()
     ensures exactly { (old : Plain) (step : KeyStep) (now : ℕ) →
         IsOnKey step → (plain old step now ≡ Answered Reply.NoChunk (found_by step now old))
@@ -41,8 +44,7 @@ pub fn refused_without_room()
         plain old step now ≡ Answered Reply.NoChunk new → new ≡ found_by step now old }
 {}
 
-/// States that no step takes a page from a class, changes the limit, or has more pages than the
-/// limit.
+/// States that no step takes a page from a class, changes the limit or exceeds it.
 pub fn pages_stay()
     ensures never_fall { (old new : Plain) (step : KeyStep) (now : ℕ) (reply : Reply) (class : ℕ) →
         plain old step now ≡ Answered reply new → pages_of old class ≤ pages_of new class }
@@ -53,9 +55,10 @@ pub fn pages_stay()
         sum old.pages ≤ old.limit → sum new.pages ≤ new.limit }
 {}
 
-/// States that a write takes the least pages with which the chunks that it needs can be had: with
-/// its class's pages then so many chunks have no item, and with fewer, but no fewer than it has,
-/// there aren't so many.
+/// States that a write takes the fewest pages that give it the chunks it needs.
+///
+/// With its class's pages afterwards there are enough chunks without an item. With fewer pages, but
+/// at least those that the class had, there aren't.
 pub fn wanted_pages_are_least()
     ensures enough { (old : Plain) (need : NeedState) →
         IsNeed need → length old.pages ≡ class_count →
@@ -67,8 +70,9 @@ pub fn wanted_pages_are_least()
         pages * chunks_a_page need.class - count_of old.items need.class < need.count }
 {}
 
-/// States how many chunks of a class the items have after each change of the items: an item that is
-/// put takes the place of the key's old one, and one that is taken out counts no more.
+/// States how many chunks of a class the items have after a change of the items.
+///
+/// An inserted item replaces the key's old one, and a removed item no longer counts.
 pub fn counts_follow()
     ensures empty { (class : ℕ) → count_of empty class ≡ 0 }
     ensures insert { (items : Items) (key : List ℕ) (item : Entry) (class : ℕ) →
@@ -85,15 +89,17 @@ pub fn counts_follow()
         + count_of (retain_keys items (λ key. not (meant key))) class }
 {}
 
-/// States that an item that is dead stays so, while nothing changes it and no flush comes.
+/// States that a dead item stays dead while no write and no flush comes.
 pub fn the_dead_stay_dead()
     ensures { (expiry : Expiry) (updated : ℕ) (cut : Option ℕ) (now later : ℕ) →
         now ≤ later → is_dead expiry updated cut now ≡ true →
         is_dead expiry updated cut later ≡ true }
 {}
 
-/// States that a flush at once leaves no item. One with a delay leaves those that are alive, and
-/// none of them stands at its moment or later while it was updated before that.
+/// States that a flush without a delay leaves no item.
+///
+/// One with a delay leaves the items that are alive. At its moment and later, none of them is alive
+/// that was updated before that moment.
 pub fn flushes_empty()
     ensures once { (old new : Plain) (now : ℕ) (reply : Reply) (key : List ℕ) →
         plain old (KeyStep.Flush 0) now ≡ Answered reply new → get new.items key ≡ None }
@@ -106,8 +112,9 @@ pub fn flushes_empty()
         alive new.cut later (Some item) ≡ None }
 {}
 
-/// States that a block in two parts, of which the first is longer than the digits of a number, is
-/// the number that the first is, if the second has nothing but spaces, and else no number.
+/// States which number a block in two parts is, if the first part has more than 20 bytes.
+///
+/// It is the first part's number if the second part is only spaces, and else no number.
 pub fn a_front_tells_the_number()
     ensures { (front rest : List ℕ) → 20 < length front →
         number_of (front ++ rest)

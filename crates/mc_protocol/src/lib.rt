@@ -1,26 +1,27 @@
-//! Commands as they are lent, their steps on keys, the replies, and the plain machine.
+//! Commands, their steps on keys, the replies, and the plain machine that takes the steps.
 //!
 //! This is the protocol without its bytes: memcached's doc/protocol.txt as types, and as a machine
 //! that takes one step on one key. All stores are proved to do what it does, so it is short, and
 //! written to be read: `specs/Plain.antt` beside protocol.txt, row by row.
 //!
-//! A [`Command`] is what a client asks, with keys and block lent from the input. It is a list of
-//! steps ([`steps_of`], [`step_at`]), each a [`KeyStep`]: a retrieval has one for each key, so that
-//! steps of others may come between. [`row_of`] is the protocol's table: by the item that stands
-//! under the key it finds the [`Row`], which says what is answered and what becomes of the item.
-//! Every store goes by it, so that the table stands once in code. A [`Reply`] is what a step is
-//! answered.
+//! A [`Command`] is a client's request; its keys and its block are lent from the input. It is a
+//! list of steps ([`steps_of`], [`step_at`]), each a [`KeyStep`]. A retrieval has one step for each
+//! key, so that other clients' steps can come between. [`row_of`] is the protocol's table: given
+//! the item under the key it returns the [`Row`], which has the reply and the change of the item.
+//! Every store uses it, so that the table is in the code once. A [`Reply`] is the answer to a step.
 //!
-//! [`Steps`] is the seam of the program: above it sessions and workers, which ask steps of any
-//! store; below it the stores. An implementation says by ghost members which replies a step may
-//! have, when its numbers are spent, and which of its states are the same, and no more is asked of
-//! it. [`Answer`] takes a reply, and a hit's block where it lies. The machine itself, as a store
-//! over an ordered map, is `PlainStore` of the crate `mc_command`, on which tests stand alone.
+//! [`Steps`] is the interface between sessions and workers, which take steps of any store, and the
+//! stores. Ghost members of an implementation define which replies a step may have, when its
+//! numbers are used up, and which of its states are the same; nothing else is required. An
+//! [`Answer`] receives a reply, and a hit's block where it lies. The machine itself, as a store
+//! over an ordered map, is `PlainStore` of the crate `mc_command`, which only tests use.
 //!
-//! The laws say what follows of the definitions: that a step on one key changes no other, that the
-//! dead stay dead, that a flush leaves nothing that it was to drop.
+//! The laws state consequences of the definitions: a step on one key changes no other, a dead item
+//! stays dead, and a flush leaves nothing that it should drop.
 //!
 //! Begin with `src/command.rt`, `specs/Plain.antt` and `src/row.rt`.
+//!
+//! Tests: mc_session_tests, src/parse_line_tests.rt.
 #![tactic(auto)]
 
 mod answer;

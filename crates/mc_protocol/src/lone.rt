@@ -1,7 +1,12 @@
+//! Commands that are only a name.
+//!
+//! Each is one variant of `Lone`, and adding one changes five files (docs/FIRST-CHANGE.md adds
+//! one).
+
 ghost use Rattle.std.specs.Prelude.{◌≡◌};
 ghost use Rattle.mc_protocol.specs.Lones.{closes};
 
-/// A command that is its name alone, and takes no step (protocol.txt, "Other commands").
+/// A command that is only a name and takes no step (protocol.txt, "Other commands").
 #[derive(Clone, Copy, Debug, PartialEq, Eq)]
 pub enum Lone {
     Version,

@@ -5,8 +5,10 @@ ghost use Rattle.mc_protocol.specs.Words.{is_space};
 ghost use Rattle.mc_protocol.specs.Numbers.{number_up_to};
 ghost use Rattle.mc_protocol.specs.Plain.{number_of, counted};
 
-/// Reads the number that one or more decimal digits write; none if another byte is there, or
-/// if the number is above `limit`. Leading zeros are allowed. The cost grows with the length.
+/// Returns the number that decimal digits write, or `None`.
+///
+/// It is `None` without a digit, with any other byte, and above `limit`. Leading zeros are allowed.
+/// The cost grows with the length.
 pub fn number_up_to(limit: u64, word: &[u8]) -> Option<u64>
     ensures { result ≡ number_up_to limit word.now }
 {
@@ -25,8 +27,10 @@ pub fn number_up_to(limit: u64, word: &[u8]) -> Option<u64>
     if number <= limit { Some(number) } else { None }
 }
 
-/// Reads the number that a block is: 1 to 20 digits of a value below 2^64, and then any number of
-/// spaces and nothing else; none of any other block. The cost grows with its length.
+/// Returns the number that a block is, or `None`.
+///
+/// A number is 1 to 20 digits of a value below 2^64, and then any number of spaces. The cost grows
+/// with the length.
 pub fn number_of(block: &[u8]) -> Option<u64>
     ensures { result ≡ number_of block.now }
 {
@@ -38,22 +42,23 @@ pub fn number_of(block: &[u8]) -> Option<u64>
     }
 }
 
-/// Counts the digits that a text begins with.
+/// Returns how many digits a text begins with.
 fn digits_len(text: &[u8]) -> usize
     ensures { result ≡ length (take_while is_ascii_digit text.now) }
 {
     text.iter().take_while(|byte| byte.is_ascii_digit()).count()
 }
 
-/// Returns whether a text has nothing but spaces.
+/// Returns whether a text has only spaces.
 fn is_blank(text: &[u8]) -> bool
     ensures { result ≡ list_all is_space text.now }
 {
     text.iter().all(|byte| *byte == b' ')
 }
 
-/// Counts a number up by incr, which wraps at 2^64, or down by decr, which stops at 0
-/// (protocol.txt, "Increment/Decrement").
+/// Returns the number that incr or decr makes of `old` (protocol.txt, "Increment/Decrement").
+///
+/// Incr wraps at 2^64, decr stops at 0.
 pub fn count_up_or_down(up: bool, by: u64, old: u64) -> u64
     ensures { result ≡ counted up by old }
 {

@@ -1,12 +1,12 @@
 use crate::block::Block;
 
-/// What a step is answered.
+/// The reply to a step.
 #[derive(Drop)]
 pub enum Reply {
     Stored,
-    /// The command's own condition failed.
+    /// The command's condition failed.
     NotStored,
-    /// The item was written since the unique number was read.
+    /// The item was written after its unique number was read.
     Exists,
     NotFound,
     /// A retrieval found no item.
@@ -23,7 +23,7 @@ pub enum Reply {
     Number(u64),
     /// The block isn't a number.
     NotNumeric,
-    /// The joined block's charge would be above the greatest.
+    /// The charge of the joined block would be above the limit.
     TooLarge,
     /// No chunk is left.
     NoChunk,

@@ -1,4 +1,8 @@
-//! The rows of the protocol's table: what a step on a key does, by the item that stands under it.
+//! The rows of the protocol's table: what a step on a key does, given the item under the key.
+//!
+//! `row_of` is the protocol's table, once in code and once in `specs/Plain.antt`. The plain store
+//! and a shelf both take their steps from it. It isn't named `row`, because a function `row` beside
+//! an enum `Row` is refused.
 
 ghost use Rattle.std.specs.Prelude.{◌≡◌};
 ghost use Rattle.mc_protocol.specs.Plain as machine;
@@ -13,20 +17,20 @@ use mc_time::{Expiry, Moment, expiry_of};
 /// Why a step leaves the key's item as it is (protocol.txt, the replies of each command).
 #[derive(Clone, Copy, Debug, PartialEq, Eq)]
 pub enum Refusal {
-    /// The condition of add, replace, append or prepend fails.
+    /// The condition of add, replace, append or prepend failed.
     NotStored,
-    /// The item has another unique number than the one that cas names.
+    /// The item's unique number isn't the one that cas names.
     Exists,
-    /// No item stands under the key.
+    /// There is no item under the key.
     NotFound,
-    /// A retrieval finds no item.
+    /// A retrieval found no item.
     Miss,
-    /// The block that incr or decr is to count is no number.
+    /// The block that incr or decr would count isn't a number.
     NotNumeric,
 }
 
 impl Refusal {
-    /// Gives the reply of the refusal.
+    /// Returns the reply of the refusal.
     pub fn reply(self) -> Reply
         ensures { result ≡ refusal_reply self }
     {
@@ -43,18 +47,18 @@ impl Refusal {
 /// How the block of a write is made.
 #[derive(Clone, Copy, Debug, PartialEq, Eq)]
 pub enum Body {
-    /// It is the step's own.
+    /// The step's own block.
     Given,
-    /// The step's own goes behind the old item's.
+    /// The old item's block, and behind it the step's own.
     Appended,
-    /// The step's own goes before the old item's.
+    /// The step's own block, and behind it the old item's.
     Prepended,
-    /// It is the decimal digits of this number.
+    /// The decimal digits of this number.
     Counted(u64),
 }
 
 impl Body {
-    /// Gives the reply of the write.
+    /// Returns the reply of the write.
     pub fn reply(self) -> Reply
         ensures { result ≡ write_reply self }
     {
@@ -65,7 +69,7 @@ impl Body {
     }
 }
 
-/// What a write puts under the key, but for its unique number and its moment.
+/// What a write stores under the key, without its unique number and its moment.
 #[derive(Clone, Copy, Debug, PartialEq, Eq)]
 pub struct Draft {
     pub flags: u32,
@@ -76,19 +80,19 @@ pub struct Draft {
 /// What a step does at its key.
 #[derive(Clone, Copy, Debug, PartialEq, Eq)]
 pub enum Row {
-    /// Answers so, and leaves the item.
+    /// Replies with this refusal, and leaves the item as it is.
     Refuses(Refusal),
-    /// Answers with the item, and sets its expiry if one is given.
+    /// Replies with the item, and sets its expiry if one is given.
     Reads(Option<Expiry>),
     /// Sets the item's expiry.
     Touches(Expiry),
     /// Removes the item.
     Deletes,
-    /// Writes an item, under the next unique number.
+    /// Writes an item with the next unique number.
     Writes(Draft),
 }
 
-/// What stands under a key, and lends its fields.
+/// An item under a key, which returns its fields.
 pub trait Standing {
     ghost use Rattle.std.specs.Prelude.{◌≡◌};
     ghost use Rattle.mc_protocol.specs.Plain.{Entry, number_of};
@@ -96,27 +100,29 @@ pub trait Standing {
     /// The item, as contracts see it.
     ghost entry_of: { Self → Entry };
 
-    /// Reads the flags that were stored with it.
+    /// Returns the client's flags.
     fn flags(&self) -> u32
         ensures { result ≡ (entry_of self.now).flags };
 
-    /// Reads when it expires.
+    /// Returns when it expires.
     fn expiry(&self) -> Expiry
         ensures { result ≡ (entry_of self.now).expiry };
 
-    /// Reads its unique number, which no other write has.
+    /// Returns its unique number, which no other write has.
     fn unique(&self) -> u64
         ensures { result ≡ (entry_of self.now).unique };
 
-    /// Reads the number that its block is, as [`number_of`] does; none if it is none. The cost
-    /// grows with the block's length.
+    /// Returns the number that its block is, as [`number_of`] does, or `None`.
+    ///
+    /// The cost grows with the block's length.
     fn number(&self) -> Option<u64>
         ensures { result ≡ number_of (entry_of self.now).block };
 }
 
-/// Finds the row of a step by the item that stands under its key, at a moment. A flush is on no
-/// key, which is answered as one under which nothing stands. It takes no memory; the cost is that
-/// of a few comparisons, and of reading the digits of a number that is to be counted.
+/// Returns the row of a step at a moment, given the item under its key.
+///
+/// A flush has no key; its row is that of a missing item. It takes no memory, and costs a few
+/// comparisons and the digits of a number to count.
 pub fn row_of<T: Standing>(step: &KeyStep<'_>, item: Option<&T>, now: Moment) -> Row
     ensures { result ≡ machine.row_of step.now now (standing_in T.entry_of item.entry) }
 {
@@ -142,7 +148,7 @@ pub fn row_of<T: Standing>(step: &KeyStep<'_>, item: Option<&T>, now: Moment) ->
     }
 }
 
-/// Drafts a write of the step's own block.
+/// Returns the row of a write of the step's own block.
 fn draft_own(flags: u32, expiry: Expiry) -> Row
     ensures { result ≡ machine.given flags expiry }
 {
@@ -153,7 +159,7 @@ fn draft_own(flags: u32, expiry: Expiry) -> Row
     })
 }
 
-/// Drafts a write that keeps the item's flags and its expiry.
+/// Returns the row of a write that keeps the item's flags and its expiry.
 fn draft_joined<T: Standing>(old: &T, body: Body) -> Row
     ensures { result ≡ machine.joined (T.entry_of old.now) body }
 {
@@ -164,7 +170,7 @@ fn draft_joined<T: Standing>(old: &T, body: Body) -> Row
     })
 }
 
-/// Finds the row of set, add, replace, append or prepend.
+/// Returns the row of set, add, replace, append or prepend.
 fn store_row<T: Standing>(verb: Verb, flags: u32, expiry: Expiry, item: Option<&T>) -> Row
     ensures { result ≡ machine.store_row verb flags expiry (standing_in T.entry_of item.entry) }
 {
@@ -182,7 +188,7 @@ fn store_row<T: Standing>(verb: Verb, flags: u32, expiry: Expiry, item: Option<&
     }
 }
 
-/// Finds the row of cas.
+/// Returns the row of cas.
 fn cas_row<T: Standing>(flags: u32, expiry: Expiry, unique: u64, item: Option<&T>) -> Row
     ensures { result ≡ machine.cas_row flags expiry unique (standing_in T.entry_of item.entry) }
 {
@@ -198,7 +204,7 @@ fn cas_row<T: Standing>(flags: u32, expiry: Expiry, unique: u64, item: Option<&T
     }
 }
 
-/// Finds the row of a retrieval, which sets the item's expiry if one is given.
+/// Returns the row of a retrieval, which sets the item's expiry if one is given.
 fn read_row<T: Standing>(expiry: Option<Expiry>, item: Option<&T>) -> Row
     ensures { result ≡ machine.read_row expiry (standing_in T.entry_of item.entry) }
 {
@@ -208,7 +214,7 @@ fn read_row<T: Standing>(expiry: Option<Expiry>, item: Option<&T>) -> Row
     }
 }
 
-/// Finds the row of touch.
+/// Returns the row of touch.
 fn touch_row<T: Standing>(expiry: Expiry, item: Option<&T>) -> Row
     ensures { result ≡ machine.touch_row expiry (standing_in T.entry_of item.entry) }
 {
@@ -218,7 +224,7 @@ fn touch_row<T: Standing>(expiry: Expiry, item: Option<&T>) -> Row
     }
 }
 
-/// Finds the row of delete.
+/// Returns the row of delete.
 fn delete_row<T: Standing>(item: Option<&T>) -> Row
     ensures { result ≡ machine.delete_row (standing_in T.entry_of item.entry) }
 {
@@ -228,7 +234,7 @@ fn delete_row<T: Standing>(item: Option<&T>) -> Row
     }
 }
 
-/// Finds the row of incr or decr.
+/// Returns the row of incr or decr.
 fn count_row<T: Standing>(up: bool, by: u64, item: Option<&T>) -> Row
     ensures { result ≡ machine.count_row up by (standing_in T.entry_of item.entry) }
 {

@@ -1,3 +1,8 @@
+//! Steps on one key, and the stores that take them.
+//!
+//! `view` (specs/Commands.antt) has one row for each step: its key and its block, or a flush's
+//! delay. Lemmas about any step use this view, so a new step needs a row there and no new lemma.
+
 ghost use Rattle.std.specs.Prelude.{◌≡◌};
 ghost use Rattle.mc_protocol.specs.Commands.{key_of};
 ghost use Rattle.mc_protocol.specs.Plain.{block_of};
@@ -13,19 +18,19 @@ use thiserror::Error;
 /// How a storage command stores (protocol.txt, "Storage commands").
 #[derive(Clone, Copy, Debug, PartialEq, Eq)]
 pub enum Verb {
-    /// In any case.
+    /// Always.
     Set,
-    /// Only if no item stands.
+    /// Only if the key has no item.
     Add,
-    /// Only if an item stands.
+    /// Only if the key has an item.
     Replace,
-    /// The block after the standing item's.
+    /// Puts the block behind the item's.
     Append,
-    /// The block before the standing item's.
+    /// Puts the block before the item's.
     Prepend,
 }
 
-/// What a command asks of one key.
+/// What a command does at one key.
 #[derive(Drop)]
 pub enum KeyStep<'a> {
     Store {
@@ -67,7 +72,7 @@ pub enum KeyStep<'a> {
 }
 
 impl<'a> KeyStep<'a> {
-    /// Lends the key that the step is on. A flush is on none, for which it lends no bytes.
+    /// Lends the key of the step. For a flush it is empty.
     pub fn key(&self) -> &'a [u8]
         ensures { result.now ≡ key_of self.now }
     {
@@ -83,7 +88,7 @@ impl<'a> KeyStep<'a> {
         }
     }
 
-    /// Lends the block that the step brings, and no bytes if it brings none.
+    /// Lends the block of the step, which is empty if it has none.
     pub fn block(&self) -> &'a [u8]
         ensures { result.now ≡ block_of self.now }
     {
@@ -94,13 +99,13 @@ impl<'a> KeyStep<'a> {
     }
 }
 
-/// Why a step was not taken. The store is as it was.
+/// Why a step wasn't taken. The store is unchanged.
 #[derive(Debug, Drop, Error)]
 pub enum StepFault {
-    /// A growth was refused.
+    /// An allocation was refused.
     #[error("out of memory")]
     NoMemory,
-    /// The write would draw the last unique number.
+    /// The write would use the last unique number.
     #[error("out of unique numbers")]
     NumbersSpent,
 }
@@ -128,24 +133,27 @@ pub trait Steps {
     ghost use Rattle.mc_protocol.specs.declared.reply.Reply.{Reply};
     ghost use Rattle.mc_protocol.specs.Commands.{key_of, longest_key};
 
-    /// The step may be taken at that moment with that reply, from one state to the other.
+    /// The step may be taken at that moment with that reply, from the first state to the second.
     ghost took: { Self → KeyStep → ℕ → Reply → Self → Type 0 };
-    /// The unique numbers that the step needs at that moment are spent.
+    /// The unique numbers that the step needs at that moment are used up.
     ghost spent: { Self → KeyStep → ℕ → Type 0 };
-    /// No step is answered differently by the one than by the other: what they hold is the same,
-    /// though how may differ.
+    /// Both states answer every step alike: they hold the same, though perhaps in different ways.
     ghost same: { Self → Self → Type 0 };
 
-    /// Takes one step on one key. If it isn't taken, what the store holds is the same.
+    /// Takes one step on one key, and returns its reply.
+    ///
+    /// After an error the store holds the same.
     fn step(&mut self, alloc: Global, step: &KeyStep<'_>, now: Moment) -> Result<Reply, StepFault>
         requires { length (key_of step.now) ≤ longest_key }
         ensures took { IfOk result (λ reply. took self.old step.now now reply self.new) }
         ensures spent { result ≡ Err StepFault.NumbersSpent → spent self.old step.now now }
         ensures err { OnErr result (same self.old self.new) };
 
-    /// Takes one step on one key, and has its reply told. A hit is told while its item stands where
-    /// it is, before the step is decided. If the step isn't taken, what the store holds is the
-    /// same.
+    /// Takes one step on one key, and passes its reply to `answer`.
+    ///
+    /// A store of chunks passes a hit on while its item is in place, before the step is decided, so
+    /// that its block is copied once. After an error the store holds the same, unless the error is
+    /// `Untold`.
     fn step_telling<A: Answer>(
         &mut self,
         alloc: Global,

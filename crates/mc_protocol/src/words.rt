@@ -23,7 +23,7 @@ impl<'a> Model for Words<'a> {
 
 #[tactic(auto, using(crate::proofs::WordLemmas::word_rules))]
 impl<'a> Words<'a> {
-    /// Makes the words of a text. It looks at no byte: each word is found when it is asked for.
+    /// Returns the words of a text. Each word is searched when it is wanted.
     pub fn of(text: &'a [u8]) -> Words<'a>
         ensures value { result ≡ words text.now }
         ensures len { length result ≤ length text.now }
@@ -46,7 +46,7 @@ impl<'a> Iterator for Words<'a> {
     }
 }
 
-/// Finds the first word of a text, and what follows it. There is none if the text has no word.
+/// Returns the first word of a text and what follows it, or `None` if the text has no word.
 pub fn first_word(text: &[u8]) -> Option<(&[u8], &[u8])>
     ensures { MatchOption result
         (words text.now ≡ [])
@@ -59,7 +59,9 @@ pub fn first_word(text: &[u8]) -> Option<(&[u8], &[u8])>
     Some(text.split_at(word_len(text)))
 }
 
-/// Finds the first word of a text, and what follows it, as `first_word` does. It is the faster one where the word is long.
+/// Returns the first word of a text and what follows it, as `first_word` does.
+///
+/// It is faster for long words.
 pub fn first_key(text: &[u8]) -> Option<(&[u8], &[u8])>
     ensures { MatchOption result
         (words text.now ≡ [])
@@ -72,8 +74,9 @@ pub fn first_key(text: &[u8]) -> Option<(&[u8], &[u8])>
     Some(rest.split_at(key_len(rest)))
 }
 
-/// Counts the bytes of the first word of a text and of the spaces before it; if it has no word, all
-/// of its bytes.
+/// Returns how many bytes the first word of a text and the spaces before it have.
+///
+/// Without a word it is the length of the text.
 pub fn first_word_len(text: &[u8]) -> usize
     ensures within { result ≤ length text.now }
     ensures rest { words (drop result text.now) ≡ drop 1 (words text.now) }
@@ -82,7 +85,7 @@ pub fn first_word_len(text: &[u8]) -> usize
     before.len() + key_len(text)
 }
 
-/// Counts the spaces that a text begins with. Behind them its first word begins.
+/// Returns how many spaces a text begins with. The first word follows them.
 pub fn spaces_len(text: &[u8]) -> usize
     ensures within { result ≤ length text.now }
     ensures first { (word : List ℕ) (more : List (List ℕ)) →
@@ -91,7 +94,7 @@ pub fn spaces_len(text: &[u8]) -> usize
     spaces(text)
 }
 
-/// Counts the spaces that the text begins with.
+/// Returns how many spaces the text begins with.
 fn spaces(text: &[u8]) -> usize
     ensures len { result ≡ length (take_while is_space text.now) }
     ensures within { result ≤ length text.now }
@@ -99,14 +102,14 @@ fn spaces(text: &[u8]) -> usize
     text.iter().take_while(|b| **b == b' ').count()
 }
 
-/// Counts the bytes before the first space.
+/// Returns how many bytes come before the first space.
 fn word_len(text: &[u8]) -> usize
     ensures { result ≡ length (take_while (λ b. not (is_space b)) text.now) }
 {
     text.iter().take_while(|b| **b != b' ').count()
 }
 
-/// Counts the bytes before the first space, many at a time.
+/// Returns how many bytes come before the first space. It compares several bytes at once.
 fn key_len(text: &[u8]) -> usize
     ensures { result ≡ length (take_while (λ b. not (is_space b)) text.now) }
 {

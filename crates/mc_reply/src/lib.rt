@@ -1,21 +1,23 @@
 //! Replies as bytes.
 //!
-//! What a client is told depends on the command as well as on the reply: a retrieval ends with
-//! `END` after its last key, `gets` tells the unique number, and a command with `noreply` is told
-//! nothing. The rule and the texts are memcached's (doc/protocol.txt). They stand in a crate of
-//! their own, so that the stores know replies and no texts, and so that the whole wording is one
-//! page of definitions, `specs/Texts.antt`.
+//! The text of a reply depends on the command as well as on the reply: a retrieval ends with `END`
+//! after its last key, only `gets` and `gats` send the unique number, and a command with `noreply`
+//! gets no text. The rule and the texts are memcached's (doc/protocol.txt). They are in a crate of
+//! their own, so that stores know replies but no texts, and so that the whole wording is one page
+//! of definitions, `specs/Texts.antt`.
 //!
-//! Each call appends one text to a vector: [`write`] that of a reply to a step of a command,
-//! [`write_hit`] that of a hit whose block still lies in its chunks, so that it is copied once, and
-//! the others those of faults, of commands that are their names alone, of lines that are too long,
-//! and of unique numbers that are spent. Room is reserved once, for the exact length, before the
-//! first byte is written.
+//! Each call appends one text to a vector. [`write`] appends that of a reply to a step of a
+//! command. [`write_hit`] appends that of a hit whose block is still in its chunks, so that it is
+//! copied once. The other calls append the texts of faults, of commands that are only a name, of
+//! lines that are too long, and of exhausted unique numbers. Each reserves the exact length once,
+//! before the first byte is written.
 //!
-//! So the contracts say that exactly the text is appended, or the vector is as it was; and that it
-//! is refused only if there is no room for the text.
+//! Contracts promise that exactly the text is appended, or the vector is unchanged, and that a call
+//! fails only if the vector has no room for the text.
 //!
 //! Begin with `specs/Texts.antt` and `src/texts.rt`.
+//!
+//! Tests: mc_session_tests, src/reply_tests.rt.
 #![tactic(auto)]
 
 mod numbers;

@@ -1,10 +1,11 @@
 use std::marker::Model;
 
-/// The longest text: three numbers of up to 20 digits with a space before each, and CR LF.
+/// Bytes of the longest text: three numbers of up to 20 digits with a space before each, and CR LF.
 const LONGEST: usize = 65;
 
-/// The end of a line, written from its last byte to its first: numbers, and then CR LF. Contracts
-/// see the text.
+/// The end of a line, built from its last byte to its first: numbers, and then CR LF.
+///
+/// Contracts see the text.
 #[derive(Drop)]
 pub struct Numbers {
     bytes: [u8; LONGEST],
@@ -24,7 +25,7 @@ impl Model for Numbers {
 impl Numbers {
     ghost use Rattle.std.specs.Prelude.{◌≡◌, ◌≤◌, ◌+◌, ◌++◌, length, codes, decimal};
 
-    /// A line end with no number before it.
+    /// Returns a line end without numbers.
     pub fn new() -> Numbers
         ensures { result ≡ codes "\r\n" }
     {
@@ -65,7 +66,7 @@ impl Numbers {
         self.bytes[self.start] = b' ';
     }
 
-    /// The text.
+    /// Lends the text.
     pub fn as_slice(&self) -> &[u8]
         ensures { result.now ≡ self.now }
     {

@@ -7,8 +7,9 @@ use crate::numbers::Numbers;
 use mc_protocol::{Bytes, Keys, Reply};
 use std::alloc::AllocError;
 
-/// Appends what a retrieval tells of key `at`, and `END` after the last. Only a hit reads the key.
-/// It is refused as `write` is.
+/// Appends a retrieval's text for key `at`, and `END` after the last key.
+///
+/// Only a hit reads the key. It fails as `write` does.
 pub(crate) fn write_retrieval(
     keys: &Keys<'_>,
     with_unique: bool,
@@ -36,7 +37,7 @@ pub(crate) fn write_retrieval(
     }
 }
 
-/// Appends the same for a hit of these flags and this unique number, whose block lies in these parts.
+/// Appends a retrieval's text of a hit, whose block is the parts one after another.
 pub(crate) fn write_found(
     keys: &Keys<'_>,
     with_unique: bool,
@@ -80,7 +81,7 @@ fn end_of(count: usize, at: usize) -> &'static [u8]
     if at + 1 == count { b"END\r\n" } else { b"" }
 }
 
-/// Counts the bytes of parts, or as many of them as a number can say.
+/// Returns the number of bytes of parts, at most 2^64 - 1.
 fn length_of(parts: &[Bytes<'_>]) -> usize
     ensures { result ≡ min (length (concat parts.now)) 18446744073709551615 }
 {
@@ -91,8 +92,10 @@ fn length_of(parts: &[Bytes<'_>]) -> usize
     counted
 }
 
-/// Appends the parts of a hit, with room for all of them made once. `block_len` is what `length_of`
-/// counts of them. What a refusal leaves behind the old text is the caller's to drop.
+/// Appends the parts of a hit after one reservation for all of them.
+///
+/// `block_len` is what `length_of` returns for the parts. After an error the old text is followed
+/// by a partial one, which the caller drops.
 fn append_hit(
     key: &[u8],
     numbers: &[u8],
@@ -124,7 +127,7 @@ fn append_hit(
     out.extend_from_slice(end)
 }
 
-/// Appends parts one after another. What a refusal leaves behind the old bytes is the caller's to drop.
+/// Appends parts one after another. After an error the caller drops what follows the old bytes.
 fn append_parts(parts: &[Bytes<'_>], out: &mut Vec<u8>) -> Result<(), AllocError>
     ensures ok { OnOk result (out.new.items ≡ out.old.items ++ concat parts.now) }
     ensures err { OnErr result (take (length out.old.items) out.new.items ≡ out.old.items) }

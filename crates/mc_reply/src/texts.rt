@@ -1,3 +1,8 @@
+//! The texts of replies.
+//!
+//! A text is written after one reservation of its exact length, so a refused reservation leaves the
+//! output unchanged.
+
 ghost use Rattle.std.specs.Prelude.{◌≡◌, ◌++◌, ◌<◌, ◌+◌, length, codes, decimal, OnOk, OnErr};
 ghost use Rattle.std.specs.List.{concat};
 ghost use Rattle.mc_protocol.specs.Commands.{steps};
@@ -9,10 +14,11 @@ use crate::retrieval::{write_found, write_retrieval};
 use mc_protocol::{Bytes, Command, LineFault, Lone, Reply, is_quiet};
 use std::alloc::AllocError;
 
-/// Appends the text of the reply to step `at`, with `END` after the last key of a retrieval, and
-/// nothing if the command is quiet. It is refused only if the vector has no room for the
-/// text, and leaves the vector unchanged then. A hit costs what finding its key costs, and the
-/// copying of the key and the block.
+/// Appends the text of the reply to step `at`; a quiet command has none.
+///
+/// After the last key of a retrieval it appends `END` too. The only error is that the vector has no
+/// room for the text; the vector is then unchanged. A hit costs finding its key, and copying the
+/// key and the block.
 pub fn write(
     command: &Command<'_>,
     at: usize,
@@ -37,9 +43,10 @@ pub fn write(
     }
 }
 
-/// Appends the text of the reply to step `at` where it is a hit of these flags and this unique number,
-/// whose block lies in these parts one after another, as `write` does of such a reply. It is refused as
-/// `write` is.
+/// Appends the text of a hit as the reply to step `at`, as `write` does.
+///
+/// The hit has these flags and this unique number, and its block is in these parts one after
+/// another. It fails as `write` does.
 pub fn write_hit(
     command: &Command<'_>,
     at: usize,
@@ -66,7 +73,7 @@ pub fn write_hit(
     }
 }
 
-/// Appends the text of a reply that isn't a retrieval's. It is refused as `write` is.
+/// Appends the text of a reply that isn't a retrieval's. It fails as `write` does.
 fn write_said(reply: &Reply, out: &mut Vec<u8>) -> Result<(), AllocError>
     ensures ok { OnOk result (out.new.items ≡ out.old.items ++ said reply.now) }
     ensures err { OnErr result (out.new.items ≡ out.old.items) }
@@ -89,7 +96,7 @@ fn write_said(reply: &Reply, out: &mut Vec<u8>) -> Result<(), AllocError>
     out.extend_from_slice(text)
 }
 
-/// Appends a number as a line. It is refused as `write` is.
+/// Appends a number as a line. It fails as `write` does.
 fn write_number(number: u64, out: &mut Vec<u8>) -> Result<(), AllocError>
     ensures ok { OnOk result (out.new.items ≡ out.old.items ++ decimal number ++ codes "\r\n") }
     ensures err { OnErr result (out.new.items ≡ out.old.items) }
@@ -100,7 +107,7 @@ fn write_number(number: u64, out: &mut Vec<u8>) -> Result<(), AllocError>
     out.extend_from_slice(numbers.as_slice())
 }
 
-/// Appends the text of a line's fault. It is refused as `write` is.
+/// Appends the text of a line's fault. It fails as `write` does.
 pub fn write_fault(fault: &LineFault, out: &mut Vec<u8>) -> Result<(), AllocError>
     ensures ok { OnOk result (out.new.items ≡ out.old.items ++ fault_text fault.now) }
     ensures err { OnErr result (out.new.items ≡ out.old.items) }
@@ -122,8 +129,9 @@ fn fault_bytes(fault: &LineFault) -> &'static [u8]
     }
 }
 
-/// Appends the text of a command that is its name alone, and nothing for one with steps. It is refused as
-/// `write` is.
+/// Appends the text of a command that is only a name; a command with steps has none.
+///
+/// It fails as `write` does.
 pub fn write_plain(command: &Command<'_>, out: &mut Vec<u8>) -> Result<(), AllocError>
     ensures ok { OnOk result (out.new.items ≡ out.old.items ++ plain_text command.now) }
     ensures err { OnErr result (out.new.items ≡ out.old.items) }
@@ -135,7 +143,7 @@ pub fn write_plain(command: &Command<'_>, out: &mut Vec<u8>) -> Result<(), Alloc
     }
 }
 
-/// Returns the text of a command that is its name alone.
+/// Returns the text of a command that is only a name.
 fn lone_bytes(lone: Lone) -> &'static [u8]
     ensures { result.now ≡ lone_text lone }
 {
@@ -145,7 +153,7 @@ fn lone_bytes(lone: Lone) -> &'static [u8]
     }
 }
 
-/// Appends the text of a line that is too long. It is refused as `write` is.
+/// Appends the text of a line that is too long. It fails as `write` does.
 pub fn write_too_long(out: &mut Vec<u8>) -> Result<(), AllocError>
     ensures ok { OnOk result (out.new.items ≡ out.old.items ++ long_text) }
     ensures err { OnErr result (out.new.items ≡ out.old.items) }
@@ -154,8 +162,9 @@ pub fn write_too_long(out: &mut Vec<u8>) -> Result<(), AllocError>
     out.extend_from_slice(b"CLIENT_ERROR line too long\r\n")
 }
 
-/// Appends the text of a step whose unique numbers are spent, and nothing if the command is
-/// quiet. It is refused as `write` is.
+/// Appends the text of a step whose unique numbers are used up; a quiet command has none.
+///
+/// It fails as `write` does.
 pub fn write_spent(command: &Command<'_>, out: &mut Vec<u8>) -> Result<(), AllocError>
     ensures ok { OnOk result (out.new.items ≡ out.old.items ++ spent_text command.now) }
     ensures err { OnErr result (out.new.items ≡ out.old.items) }

@@ -1,17 +1,18 @@
-//! Rows of steps with what they are answered, over any store that takes steps, for tests. No
-//! program uses it.
+//! Rows of steps with their expected answers, over any store, for tests.
 //!
-//! One crate's test is often another's with a different store. What they share stands here, so that
-//! each store is held to the same rows, and a test is a table of data.
+//! One crate's test is often another's with a different store. The rows are here so that every
+//! store is tested with the same ones, and a test is a table of data. No program uses this crate.
 //!
-//! A [`Row`] is a step at a moment and what is wanted of it; [`first_unlike`] takes rows over any
-//! store that takes steps (`mc_protocol`'s `Steps`), and tells the first that was answered otherwise.
+//! A [`Row`] is a step at a moment with its expected answer. [`first_unlike`] takes the steps of
+//! rows over any store (`mc_protocol`'s `Steps`), and returns the first whose answer differs.
 //!
-//! It has next to no contracts, and is proved safe as all else is. It stands on mc_time and
-//! mc_protocol, so that tests of every store can use it. The rows of the plain store stand in
+//! It has hardly any contracts, and is proved safe as all else is. It uses only mc_time and
+//! mc_protocol, so that tests of every store can use it. The rows of the plain store are in
 //! `mc_session_tests` (`src/rows_tests.rt`).
 //!
 //! Begin with `src/steps.rt`.
+//!
+//! Tests: mc_session_tests, src/rows_tests.rt.
 #![tactic(auto)]
 
 mod steps;

@@ -1,4 +1,4 @@
-//! Rows of steps with what they are answered, over any store that takes steps.
+//! Rows of steps with their expected answers, over any store.
 
 ghost use Rattle.std.specs.Prelude.{◌≤◌, length};
 ghost use Rattle.mc_protocol.specs.Commands.{key_of};
@@ -7,7 +7,7 @@ use mc_protocol::{Bytes, KeyStep, Reply, StepFault, Steps, Verb};
 use mc_time::Moment;
 use std::alloc::{AllocError, Global};
 
-/// What is asked of a key. What is stored has the flags 7, and by cas the exptime 0.
+/// A step without its key. Items are stored with the flags 7, and by cas with the exptime 0.
 #[derive(Clone, Copy)]
 pub enum Ask<'a> {
     /// The exptime and the block.
@@ -22,24 +22,24 @@ pub enum Ask<'a> {
     Delete,
     Incr(u64),
     Decr(u64),
-    /// The delay. It is asked of no key.
+    /// The delay. It has no key.
     Flush(u64),
 }
 
-/// What it is answered.
+/// The expected answer.
 #[derive(Clone, Copy)]
 pub enum Want<'a> {
     /// A reply, or why there is none, by its name in `told_of`.
     Told(&'a str),
-    /// A hit of an item of the flags 7: its unique number and its block.
+    /// A hit of an item with the flags 7: its unique number and its block.
     Hit(u64, &'a [u8]),
     Number(u64),
 }
 
-/// At which second it is asked, of which key, what is asked, and what it is answered.
+/// The second, the key, the step and the expected answer.
 pub type Row<'a> = (u64, &'a [u8], Ask<'a>, Want<'a>);
 
-/// Makes the row of a set.
+/// Returns the row of a set.
 pub fn set<'a>(
     seconds: u64,
     key: &'a [u8],
@@ -51,7 +51,7 @@ pub fn set<'a>(
     (seconds, key, ask, Want::Told(want))
 }
 
-/// Makes the step that asks this of a key of at most 250 bytes.
+/// Returns this step on a key of at most 250 bytes.
 pub fn step_of<'a>(key: &'a [u8], ask: Ask<'a>) -> KeyStep<'a>
     requires { length key.now ≤ 250 }
     ensures { length (key_of result) ≤ 250 }
@@ -82,7 +82,7 @@ pub fn step_of<'a>(key: &'a [u8], ask: Ask<'a>) -> KeyStep<'a>
     }
 }
 
-/// Names a reply.
+/// Returns the name of a reply.
 fn reply_word(reply: &Reply) -> &'static str {
     match reply {
         Reply::Stored => "stored",
@@ -101,7 +101,7 @@ fn reply_word(reply: &Reply) -> &'static str {
     }
 }
 
-/// Names what came of a step.
+/// Returns the name of a step's result.
 pub fn told_of(taken: &Result<Reply, StepFault>) -> &'static str {
     match taken {
         Ok(reply) => reply_word(reply),
@@ -110,8 +110,9 @@ pub fn told_of(taken: &Result<Reply, StepFault>) -> &'static str {
     }
 }
 
-/// Lends what a hit has beside its name, its flags, unique number and block; or, in the place of the
-/// unique number, a number.
+/// Returns a hit's flags, unique number and block.
+///
+/// For a number it returns the number in place of the unique number.
 fn parts(reply: &Reply) -> (u32, u64, &[u8]) {
     match reply {
         Reply::Hit {
@@ -129,7 +130,7 @@ pub fn is_same(reply: &Reply, other: &Reply) -> bool {
     reply_word(reply) == reply_word(other) && parts(reply) == parts(other)
 }
 
-/// Returns whether what came of a step is what is wanted.
+/// Returns whether the result of a step is the expected one.
 pub fn is_wanted(taken: &Result<Reply, StepFault>, want: Want<'_>) -> bool {
     match want {
         Want::Told(text) => told_of(taken) == text,
@@ -146,7 +147,7 @@ fn has(taken: &Result<Reply, StepFault>, wanted: (u32, u64, &[u8])) -> bool {
     }
 }
 
-/// Takes a step, again if memory is refused.
+/// Takes a step, and once more if memory is refused.
 pub fn ask_step<S: Steps>(
     store: &mut S,
     alloc: Global,
@@ -161,8 +162,9 @@ pub fn ask_step<S: Steps>(
     }
 }
 
-/// Takes a step, again if memory is refused, and answers nothing if the refusal changed the
-/// key's item.
+/// Takes a step, and once more if memory is refused.
+///
+/// Returns `None` if the refusal changed the key's item.
 fn take_again<S: Steps>(
     store: &mut S,
     alloc: Global,
@@ -185,9 +187,10 @@ fn take_again<S: Steps>(
     Ok(Some(store.step(alloc, step, now)?))
 }
 
-/// Takes the steps of rows one after another, and finds the first that isn't answered as it wants:
-/// its second and the name of its answer. It ends there. A step that is refused memory must leave
-/// its key's item as it was, and is taken again.
+/// Takes the steps of rows in order, and returns the first unexpected answer with its second.
+///
+/// It stops there. A step that is refused memory must leave its key's item unchanged, and is taken
+/// again.
 pub fn first_unlike<S: Steps>(
     store: &mut S,
     alloc: Global,
@@ -212,7 +215,7 @@ pub fn first_unlike<S: Steps>(
     Ok(None)
 }
 
-/// Makes so many bytes, asked for again if memory is refused.
+/// Returns `len` bytes. It allocates once more if memory is refused.
 pub fn filled_block(alloc: Global, len: usize) -> Result<Vec<u8>, AllocError> {
     match vec![in alloc; b'x'; len] {
         Err(_) => vec![in alloc; b'x'; len],

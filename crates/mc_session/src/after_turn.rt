@@ -3,7 +3,7 @@
 pub enum AfterTurn {
     /// The next turn of the same unit.
     Step,
-    /// The next unit: this one had `len` bytes, and passes over `passed` bytes behind it.
+    /// The next unit: this one had `len` bytes, and the next `passed` bytes are skipped.
     Read { len: usize, passed: u64 },
     /// Nothing: the session is closed.
     Close,

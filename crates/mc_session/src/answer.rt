@@ -17,9 +17,10 @@ use mc_protocol::{Command, LineFault, Steps, Unanswered, step_at, steps_of};
 use mc_time::Moment;
 use std::alloc::Global;
 
-/// Takes the first turn of what was found, and appends its text. Does nothing if nothing was
-/// found. Refused, the output is as it was, and the fault tells whether the step stands in the
-/// store.
+/// Takes the first turn of a unit, and appends its text to the output.
+///
+/// It does nothing if there is no unit. After an error the output is unchanged, and `decided` is
+/// whether the store took the step.
 pub fn answer<S: Steps>(
     alloc: Global,
     found: Peek<'_>,
@@ -77,7 +78,7 @@ fn answer_fault(fault: LineFault, len: usize, out: &mut Output) -> Result<AfterT
     Ok(AfterTurn::Read { len, passed })
 }
 
-/// Takes the first turn of a command that is spelled by `len` bytes, and appends its text.
+/// Takes the first turn of a command of `len` bytes, and appends its text.
 fn answer_command<S: Steps>(
     alloc: Global,
     command: &Command<'_>,
@@ -103,7 +104,7 @@ fn answer_command<S: Steps>(
     Ok(next_after(command, len))
 }
 
-/// Returns what comes after the first turn of a command that is spelled by `len` bytes.
+/// Returns what comes after the first turn of a command of `len` bytes.
 fn next_after(command: &Command<'_>, len: usize) -> AfterTurn
     ensures next { result ≡ next_of (Request command.now) 0 len }
     ensures few { turn_count (Request command.now) < 2 ^ 64 }

@@ -1,33 +1,39 @@
-//! What serving a session has in common with serving one of a world's sessions.
+//! What a session and a session of a world have in common for the loop that serves them.
+//!
+//! One loop serves both: `serve_endpoint` takes any `Endpoint<S>`, whose ghost members describe a
+//! turn, a piece and a write. The store is a parameter of each call and not a field, because the
+//! caller lends it.
 
 use crate::session::{Session, Turn};
 use mc_protocol::Steps;
 use mc_time::Moment;
 use std::alloc::{AllocError, Global};
 
-/// One end of a connection, which stands in a store: pieces of a stream come to it, it takes the
-/// stream's turns of the store, and it has output to be written.
+/// One end of a connection, over a store.
+///
+/// Pieces of a stream are brought to it, it takes the stream's turns on the store, and it has
+/// output.
 pub trait Endpoint<S> {
     ghost use Rattle.std.specs.Prelude.{◌≡◌, ◌≤◌, ℕ, List, length, Ok, OnOk, OnErr};
 
-    /// The output that is to be written.
+    /// The output that isn't written yet.
     ghost waits: { Self → S → List ℕ };
-    /// So many bytes at the front of the output are gone, which were written.
+    /// The first bytes of the output, as many as this number, were written and are dropped.
     ghost sends: { ℕ → Self → S → Self → S → Type 0 };
     /// A turn was given at that moment: it was taken, or none was due.
     ghost turns: { ℕ → Self → S → Self → S → Type 0 };
-    /// Memory ran out in a turn at that moment.
+    /// Memory was refused in a turn at that moment.
     ghost loses_turn: { ℕ → Self → S → Self → S → Type 0 };
-    /// The next piece of the stream came.
+    /// The next piece of the stream was brought.
     ghost takes: { List ℕ → Self → S → Self → S → Type 0 };
-    /// Memory ran out in a piece.
+    /// Memory was refused for a piece.
     ghost loses_piece: { List ℕ → Self → S → Self → S → Type 0 };
-    /// It is open, and no turn is due until more bytes come.
+    /// It is open, and no turn is due until more bytes are brought.
     ghost is_idle: { Self → S → Type 0 };
-    /// It isn't open.
+    /// It is closed.
     ghost is_closed: { Self → S → Type 0 };
 
-    /// Lends the output that is to be written.
+    /// Lends the output that isn't written yet.
     fn output<'a>(&'a self, store: &'a S) -> &'a [u8]
         ensures { result.now ≡ waits self.now store.now };
 
@@ -37,7 +43,7 @@ pub trait Endpoint<S> {
         ensures sends { sends n self.old store.old self.new store.new }
         ensures idle { is_idle self.old store.old → is_idle self.new store.new };
 
-    /// Takes the next turn of the stream at `now`, if one is due, and says which it was.
+    /// Takes the next turn of the stream at `now`, if one is due, and returns which it was.
     fn take_turn(&mut self, alloc: Global, store: &mut S, now: Moment) -> Result<Turn, AllocError>
         ensures ok { OnOk result (turns now self.old store.old self.new store.new) }
         ensures idle { result ≡ Ok Turn.Idle → is_idle self.new store.new }

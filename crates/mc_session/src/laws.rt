@@ -11,8 +11,9 @@ use mc_parse::no_spelling_begins_another;
 use mc_protocol::Steps;
 use mc_time::Clock;
 
-/// States that the turns of a run are, in their order, the first turns of the units of what was
-/// read. They are all of them if no turn is due any more, or if the session was closed.
+/// States that the turns of a run are the first turns of the units that were read, in order.
+///
+/// They are all of these turns if no further turn is due, or if the session was closed.
 pub fn a_run_takes_the_turns_of_its_stream<S: Steps, C: Clock>()
     ensures first { (clock : C) (greatest : ℕ) (read : List ℕ) (units : List ProtocolUnit)
         (taken : List (ProtocolUnit × ℕ)) (last : SessionState) (before after : S) →
@@ -28,9 +29,10 @@ pub fn a_run_takes_the_turns_of_its_stream<S: Steps, C: Clock>()
     no_spelling_begins_another();
 }
 
-/// States that the pieces in which a stream came make no difference: the turns that were taken are
-/// those of a run of the joined stream, which leaves what was written and then what is still to be
-/// written. Each turn is one of the calls.
+/// States that it makes no difference in which pieces a stream came.
+///
+/// The turns that were taken are those of a run of the joined stream. That run's output is what was
+/// written, and then the output that isn't written yet. Each turn is one of the calls.
 pub fn the_pieces_of_a_stream_do_not_matter<S: Steps, C: Clock>()
     ensures run { (clock : C) (greatest calls : ℕ) (read written : List ℕ)
         (taken : List (ProtocolUnit × ℕ)) (last : SessionState) (before after : S) →
@@ -43,8 +45,9 @@ pub fn the_pieces_of_a_stream_do_not_matter<S: Steps, C: Clock>()
         length taken ≤ calls }
 {}
 
-/// States that bytes that are to be passed over may be dropped as soon as they come: what is to be
-/// read is the same, and so are its units.
+/// States that skipped bytes may be dropped as soon as they come.
+///
+/// What is to be read is the same, and so are its units.
 pub fn passing_over_early_does_not_matter()
     ensures read { (unread : Unread) → to_read (settled unread) ≡ to_read unread }
     ensures units { (unread : Unread) (units : List ProtocolUnit) →

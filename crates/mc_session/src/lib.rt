@@ -1,24 +1,26 @@
-//! Sessions: the turns of one connection, and a whole run of one over a reader and a writer.
+//! Sessions: the turns of one connection, and a loop that serves one over a reader and a writer.
 //!
-//! A connection is a stream of bytes in and one of bytes out, and between them the commands' steps
-//! on a store that others use too. So that nobody waits long for another, a session takes one
-//! *turn* at a time: at most one step of the store, whose text is appended to its output. A
-//! retrieval of n keys is n turns. Who calls decides when a turn is taken, when bytes are brought
-//! and when output is written: a world does, a worker, or the loop of this crate.
+//! A connection is a stream of bytes in and one out, and between them the steps of the commands on
+//! a store that others use too. To keep waits short, a session takes one *turn* at a time: at most
+//! one step of the store, whose text is appended to its output. A retrieval of n keys is n turns.
+//! The caller decides when a turn is taken, when bytes are brought and when output is written. The
+//! callers are a world, a worker, and the loop of this crate.
 //!
-//! A [`Session`] is a feed of `mc_parse`, how many turns of its first unit were taken, and the
-//! output. Its `turn` goes over any store that takes steps (`mc_protocol`'s `Steps`). [`Endpoint`]
-//! is one end of a connection as the loop [`serve_endpoint`] sees it, a session or a session of a
-//! world; [`serve`] is a whole run of one session over a reader and a writer, which writes when
-//! nothing more is due, and before a turn once [`WRITE_AT`] bytes wait.
+//! A [`Session`] is a feed of `mc_parse`, the number of turns taken of its first unit, and the
+//! output. Its `turn` works over any store that takes steps (`mc_protocol`'s `Steps`). [`Endpoint`]
+//! is one end of a connection as the loop [`serve_endpoint`] sees it: a session, or a session of a
+//! world. [`serve`] serves one session over a reader and a writer. It writes when nothing more is
+//! due, and before a turn once there are [`WRITE_AT`] bytes of output.
 //!
-//! Contracts tell a session as its unread part, the turns taken, its output and whether it is open.
-//! A turn takes the step that comes next in its stream, and appends its text. Want of memory closes
-//! the session, keeps its output, and is told with whether the step stands; no step is asked
-//! twice. What a run wrote is a beginning of the texts of its stream's turns, and all of them
-//! if it went well. The laws say that the pieces of a stream make no difference.
+//! Contracts see a session as its unread part, the turns taken, its output and whether it is open.
+//! A turn takes the next step of its stream, and appends its text. Want of memory closes the
+//! session and keeps its output, and the error has whether the step was taken; no step is taken
+//! twice. What a run wrote is a beginning of the texts of its stream's turns, and all of them if it
+//! succeeded. The laws state that the pieces of a stream make no difference.
 //!
 //! Begin with `specs/Turns.antt` and `src/session.rt`; the loop is `src/rounds.rt`.
+//!
+//! Tests: mc_session_tests, src/session_tests.rt.
 #![tactic(auto)]
 
 mod after_turn;

@@ -1,4 +1,4 @@
-//! The loop that serves an endpoint: turns, and the writes and reads that they ask for.
+//! The loop that serves an endpoint: turns, and the writes and reads that they require.
 
 ghost use Rattle.std.specs.Prelude.{◌≡◌, ◌≢◌, ◌<◌, ◌^◌, [], true, Ok, Err, OnOk, OnErr, IfOk, IfErr, IsFalse, length};
 ghost use Rattle.std.specs.Io.KnownBytes.{IsAtEnd};
@@ -12,16 +12,16 @@ use mc_time::Clock;
 use std::alloc::Global;
 use std::io::{ErrorKind, Read, Write};
 
-/// The most turns in a run, with those that find none due.
+/// The most turns of a run, including calls that find none due.
 const TURNS: u64 = 1 << 40;
 
-/// The most bytes that are read at once.
+/// The most bytes read at once.
 const PIECE: usize = 16384;
 
-/// Once so many bytes of output wait, they are written before the next turn.
+/// Output of this many bytes is written before the next turn.
 pub const WRITE_AT: usize = 65536;
 
-/// Makes a buffer for pieces of 16384 bytes. The one fault is want of memory.
+/// Returns a buffer for pieces of 16384 bytes. The only error is `NoMemory`.
 pub fn piece_buffer(alloc: Global) -> Result<Vec<u8>, ServeFault>
     ensures ok { IfOk result (λ buffer. 0 < length buffer.items) }
     ensures err { IfErr result (λ fault. fault ≡ ServeFault.NoMemory) }
@@ -32,13 +32,14 @@ pub fn piece_buffer(alloc: Global) -> Result<Vec<u8>, ServeFault>
     }
 }
 
-/// Serves an endpoint: takes turns at the clock's moments, and reads pieces and writes the output
-/// as the turns ask for it, until the input ends or the endpoint closes. The output is written when
-/// no turn is due, and before a turn once `WRITE_AT` bytes of it wait. At the end some of it may
-/// still be waiting.
+/// Serves an endpoint until the input ends or the endpoint closes.
 ///
-/// It fails with `Read` if the reader fails and after 2^40 turns, with `Write` if the writer
-/// fails or takes nothing, and with `NoMemory` if memory is refused for a piece or for a turn.
+/// It takes turns at the clock's moments, reads a piece when no turn is due, and writes the output
+/// then and before a turn once there are `WRITE_AT` bytes of it. At the end some output may be
+/// unwritten.
+///
+/// The error is `Read` if the reader fails and after 2^40 turns, `Write` if the writer fails or
+/// takes nothing, and `NoMemory` if memory is refused for a piece or a turn.
 pub fn serve_endpoint<R: Read, W: Write, S, E: Endpoint<S>, C: Clock>(
     alloc: Global,
     reader: &mut R,
@@ -70,8 +71,9 @@ pub fn serve_endpoint<R: Read, W: Write, S, E: Endpoint<S>, C: Clock>(
     Err(ServeFault::Read)
 }
 
-/// Takes one turn, with the writes and the read that it asks for. Returns whether nothing more is
-/// to come.
+/// Takes one turn, with the writes and the read that it requires.
+///
+/// Returns whether nothing more is to come.
 fn round<R: Read, W: Write, S, E: Endpoint<S>, C: Clock>(
     alloc: Global,
     reader: &mut R,
@@ -105,8 +107,9 @@ fn round<R: Read, W: Write, S, E: Endpoint<S>, C: Clock>(
     }
 }
 
-/// Writes the output, if `WRITE_AT` bytes or more of it wait. At a failure what was not written
-/// is left.
+/// Writes the output if there are at least `WRITE_AT` bytes of it.
+///
+/// After an error the unwritten output is kept.
 fn write_much<W: Write, S, E: Endpoint<S>>(
     writer: &mut W,
     endpoint: &mut E,
@@ -131,8 +134,10 @@ fn is_full<S, E: Endpoint<S>>(endpoint: &E, store: &S) -> bool
     endpoint.output(store).len() >= WRITE_AT
 }
 
-/// Writes an endpoint's output. It fails with `Write` if the writer fails or takes nothing; then
-/// what was not written is left. A write that was interrupted is tried again.
+/// Writes an endpoint's output.
+///
+/// The error is `Write` if the writer fails or takes nothing, and the unwritten output is then
+/// kept. An interrupted write is retried.
 pub fn write_out<W: Write, S, E: Endpoint<S>>(
     writer: &mut W,
     endpoint: &mut E,
@@ -161,8 +166,9 @@ pub fn write_out<W: Write, S, E: Endpoint<S>>(
     Err(ServeFault::Write)
 }
 
-/// Reads the next piece and brings it to the endpoint. Returns whether the input is at its end. A
-/// read that was interrupted brings nothing.
+/// Reads the next piece and brings it to the endpoint. Returns whether the input is at its end.
+///
+/// An interrupted read brings nothing.
 fn read_piece<R: Read, S, E: Endpoint<S>>(
     alloc: Global,
     reader: &mut R,

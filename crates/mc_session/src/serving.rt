@@ -1,3 +1,8 @@
+//! Serving one session from its beginning to its end.
+//!
+//! `serve` writes its output at 64 KiB, not only when idle: no turn is taken with more, so the
+//! output is at most 64 KiB and one text. Interrupted reads and writes are retried.
+
 ghost use Rattle.std.specs.Prelude.{◌≡◌, Ok, OnOk};
 ghost use Rattle.mc_session.specs.Serving.{Serves, ServesAll, ServesUntilRefused};
 
@@ -18,19 +23,20 @@ pub enum ServeFault {
     /// The writer failed.
     #[error("writing failed")]
     Write,
-    /// A growth was refused.
+    /// An allocation was refused.
     #[error("out of memory")]
     NoMemory,
 }
 
-/// Serves one session: reads pieces, takes turns at the clock's moments and writes their texts,
-/// until the input ends or the session closes. The output is written when no turn is due, at the
-/// end, and once `WRITE_AT` bytes of it wait.
+/// Serves one session until the input ends or the session closes.
 ///
-/// It fails with `Read` if the reader fails and after 2^40 calls of `Session::turn`, with
-/// `Write` if the writer fails or takes nothing, and with `NoMemory` if memory is refused for
-/// the buffer, for a piece or for a turn. A failure leaves a beginning of the run: what was read is
-/// answered by what was written and by output that is dropped.
+/// It reads pieces, takes turns at the clock's moments and writes their texts: when no turn is due,
+/// at the end, and once there are `WRITE_AT` bytes of output.
+///
+/// The error is `Read` if the reader fails and after 2^40 calls of `Session::turn`, `Write` if the
+/// writer fails or takes nothing, and `NoMemory` if memory is refused for the buffer, a piece or a
+/// turn. After an error a beginning of the run was done: what was read is answered by what was
+/// written and by output that is dropped.
 pub fn serve<R: Read, W: Write, S: Steps, C: Clock>(
     alloc: Global,
     reader: &mut R,

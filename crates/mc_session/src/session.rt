@@ -24,11 +24,11 @@ pub enum Turn {
     Closed,
 }
 
-/// Memory ran out, and the session is closed. The text of the turn isn't told.
+/// Memory was refused, and the session is closed. The turn has no text.
 #[derive(Debug, Drop, Error)]
 #[error("out of memory")]
 pub struct TurnFault {
-    /// Whether the turn's step stands in the store.
+    /// Whether the store took the turn's step.
     pub decided: bool,
 }
 
@@ -42,12 +42,14 @@ impl From<AllocError> for TurnFault {
     }
 }
 
-/// The turns of one connection. Contracts see the unread part of its stream, how many turns of its
-/// first unit were taken, the output that is to be written, and whether it is open.
+/// The turns of one connection.
+///
+/// Contracts see the unread part of its stream, the number of turns taken of its first unit, the
+/// output that isn't written yet, and whether it is open.
 #[derive(Drop)]
 pub struct Session {
     feed: Feed,
-    /// How many turns of the first unit were taken.
+    /// The number of turns taken of the first unit.
     taken: usize,
     out: Output,
     is_open: bool,
@@ -78,8 +80,9 @@ impl Session {
     ghost use Rattle.mc_session.specs.Answers.{gone_on, MayGoOn};
     ghost use Rattle.mc_session.specs.Resting.{resting, kept_empty};
 
-    /// Makes a session that was fed nothing, whose storage commands may charge at most `greatest`
-    /// bytes. It takes no memory.
+    /// Makes a session without bytes, whose storage commands may charge at most `greatest` bytes.
+    ///
+    /// It takes no memory.
     pub fn new(alloc: Global, greatest: u64) -> Session
         ensures { result ≡ opened greatest }
     {
@@ -91,8 +94,9 @@ impl Session {
         }
     }
 
-    /// Takes the next piece of the stream, and none of it if the session is closed. Refused, the
-    /// session is as it was.
+    /// Brings the next piece of the stream. A closed session ignores it.
+    ///
+    /// An error leaves the session unchanged.
     pub fn feed(&mut self, piece: &[u8]) -> Result<(), AllocError>
         ensures ok { OnOk result (self.new ≡ fed self.old piece.now) }
         ensures err { OnErr result (self.new ≡ self.old) }
@@ -104,9 +108,10 @@ impl Session {
         }
     }
 
-    /// Takes the next piece of an open session's stream from a source, which writes it where it
-    /// will lie, into room for `room` bytes. Refused, the source wasn't asked, and the session is as
-    /// it was.
+    /// Brings the next piece of an open session's stream from a source, which writes it in place.
+    ///
+    /// The source gets room for `room` bytes. After an error the source wasn't called, and the
+    /// session is unchanged.
     pub fn feed_from<S: Source>(
         &mut self,
         source: &mut S,
@@ -122,8 +127,10 @@ impl Session {
     }
 
     /// Takes the next turn of the session's stream, if one is due: at most one step of the store,
-    /// at `now`. Its text is appended to the output. Want of memory closes the session; the output
-    /// stays.
+    /// at `now`.
+    ///
+    /// The turn's text is appended to the output. Want of memory closes the session and keeps the
+    /// output.
     pub fn turn<S: Steps>(
         &mut self,
         alloc: Global,
@@ -136,10 +143,10 @@ impl Session {
         ensures closed { result ≡ Ok Turn.Closed →
             FindsClosed self.old self.new store.old store.new }
         ensures err { OnErr result (self.new ≡ closed self.old) }
-        // Memory runs out only if a turn is due.
+        // Memory is refused only if a turn is due.
         ensures due { OnErr result (TurnIsDue self.old) }
-        // What was not decided left the store with what it held; what was decided is the step of
-        // the turn, whose text alone is missing.
+        // If the step wasn't decided the store holds the same; if it was, the store took the turn's
+        // step, and only its text is missing.
         ensures undecided { IfErr result (λ fault. IsFalse fault.decided →
             S.same store.old store.new) }
         ensures decided { IfErr result (λ fault. IsTrue fault.decided →
@@ -172,7 +179,7 @@ impl Session {
         self.feed.held_bytes() == 0
     }
 
-    /// Goes on with what comes after a turn.
+    /// Updates the session for what comes after a turn.
     fn go_on(&mut self, next: AfterTurn)
         requires { MayGoOn next self.old }
         ensures { self.new ≡ gone_on next self.old }
@@ -190,23 +197,22 @@ impl Session {
         }
     }
 
-    /// Returns whether the session is open and no turn is due until more bytes come.
+    /// Returns whether the session is open and no turn is due until more bytes are brought.
     pub fn is_idle(&self) -> bool
         ensures { IsTrue result ↔ (IsTrue self.now.is_open × NoTurnDue self.now) }
     {
         self.is_open && is_more(&self.feed.peek_after(self.taken))
     }
 
-    /// Returns whether the session was closed: by a quit, a line that is too long, want of memory
-    /// or `close`.
+    /// Returns whether the session was closed: by quit, a too long line, want of memory or `close`.
     pub fn is_closed(&self) -> bool
         ensures { IsTrue result ↔ IsFalse self.now.is_open }
     {
         !self.is_open
     }
 
-    /// Counts the bytes of output that are held in memory: those that are to be written, and of
-    /// those that were sent at most as many.
+    /// Returns how many bytes of output are in memory: those not written, and at most as many
+    /// written.
     pub fn held_bytes(&self) -> usize
         ensures least { length self.now.out ≤ result }
         ensures most { result ≤ 2 * length self.now.out }
@@ -214,8 +220,8 @@ impl Session {
         self.out.filled_bytes()
     }
 
-    /// Counts the bytes of memory that are reserved for what is unread and for the output, filled
-    /// or not: at most 196608 if there is neither.
+    /// Returns the number of bytes reserved for unread bytes and output: at most 196608 if there
+    /// are neither.
     pub fn capacity(&self) -> usize
         ensures unread { length self.now.unread.bytes ≤ result }
         ensures out { length self.now.out ≤ result }
@@ -224,8 +230,9 @@ impl Session {
         self.feed.capacity().saturating_add(self.out.capacity())
     }
 
-    /// Gives back the memory that is kept beyond that of two first pieces, if nothing is unread
-    /// and no output waits, and counts the bytes that are reserved then.
+    /// Frees memory beyond that of two first pieces, if there are no unread bytes and no output.
+    ///
+    /// Returns the number of reserved bytes afterwards.
     pub fn rest(&mut self) -> usize
         ensures same { self.new ≡ self.old }
         ensures empty { self.new.unread.bytes ≡ [] → self.new.out ≡ [] → result ≤ resting }
@@ -234,15 +241,16 @@ impl Session {
         unread.saturating_add(self.out.rest())
     }
 
-    /// Counts the bytes of the unit that the unread bytes begin with, if its line announces a
-    /// block, whether or not they came; else none.
+    /// Returns the length of the first unit in bytes if its line announces a block, else 0.
+    ///
+    /// It counts bytes that haven't arrived too.
     pub fn announced_bytes(&self) -> usize
         ensures { self.now.unread.bytes ≡ [] → result ≡ 0 }
     {
         self.feed.announced_bytes()
     }
 
-    /// Lends the key of the next turn, if that is one of a retrieval.
+    /// Returns the key of the next turn, if that is one of a retrieval.
     pub fn key(&self) -> Option<&[u8]>
         ensures none { NoTurnDue self.now → result ≡ None }
         ensures short { IfSome result (λ key. length key.now ≤ longest_key) }
@@ -253,16 +261,17 @@ impl Session {
         }
     }
 
-    /// Lends the output that is to be written.
+    /// Lends the output that isn't written yet.
     pub fn out(&self) -> &[u8]
         ensures { result.now ≡ self.now.out }
     {
         self.out.as_slice()
     }
 
-    /// Drops the first `n` bytes of the output, which were written. What is left is moved only
-    /// if it is no longer than what was written, so that each byte that is written pays for one
-    /// that is moved.
+    /// Drops the first `n` bytes of the output, which were written.
+    ///
+    /// The rest is moved only if it is no longer than what was written, so that each written byte
+    /// pays for one moved byte.
     pub fn drop_sent(&mut self, n: usize)
         requires { n ≤ length self.old.out }
         ensures { self.new ≡ sent self.old n }
@@ -270,7 +279,7 @@ impl Session {
         self.out.consume(n);
     }
 
-    /// Closes the session: what is unread is dropped, and the output stays.
+    /// Closes the session and drops the unread bytes. The output is kept.
     pub fn close(&mut self)
         ensures { self.new ≡ closed self.old }
     {
@@ -280,7 +289,7 @@ impl Session {
     }
 }
 
-/// Lends the key of a retrieval's first step, and none of another command.
+/// Returns the key of a retrieval's first step, and `None` for another command.
 fn key_of<'a>(command: &Command<'a>) -> Option<&'a [u8]>
     requires { HasShortKeys command.now }
     ensures { IfSome result (λ key. length key.now ≤ longest_key) }

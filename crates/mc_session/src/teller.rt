@@ -1,4 +1,8 @@
-//! How the reply to a command's first step is told: its text is appended to an output.
+//! Appends the reply to a command's first step to an output.
+//!
+//! A store writes a step's reply into the output itself (`Steps::step_telling`), so a hit's block
+//! is copied once, from its chunks. A hit is written before its step is decided: if its text needs
+//! memory that is refused, no step is taken and the session closes.
 
 ghost use Rattle.std.specs.Prelude.{◌<◌, length};
 ghost use Rattle.mc_protocol.specs.Commands.{steps};

@@ -1,34 +1,35 @@
-//! What turns are answered with.
+//! The texts of turns.
 
 use mc_parse::{Append, Queue};
 use mc_protocol::{Bytes, Command, LineFault, Reply};
 use mc_reply::{write, write_fault, write_hit, write_plain, write_spent, write_too_long};
 use std::alloc::AllocError;
 
-/// The texts that are to be written. While there are none they take at most 131072 bytes of memory: an output
-/// that is written when it has 65536 bytes seldom takes more, so its memory isn't asked for anew each time.
+/// The texts that aren't written yet. An empty output keeps at most 131072 bytes of memory.
+///
+/// An output that is written once it has 65536 bytes seldom takes more, so its memory is seldom
+/// reserved again.
 pub type Output = Queue<131072>;
 
-/// What a turn is answered with.
+/// The text of a turn.
 #[derive(Drop)]
 pub enum Text<'a> {
     /// The reply to the first step of a command.
     First(&'a Command<'a>, &'a Reply),
-    /// The reply to the first step of a command where it is a hit, whose block is lent where it lies, in
-    /// parts one after another.
+    /// The reply to the first step of a command, if it is a hit; its block is lent in parts.
     Hit {
         command: &'a Command<'a>,
         flags: u32,
         unique: u64,
         parts: &'a [Bytes<'a>],
     },
-    /// That the unique numbers are spent, which a command's step needs.
+    /// The error that unique numbers are used up, which a command's step needs.
     Spent(&'a Command<'a>),
-    /// What a command without a step is answered.
+    /// The reply of a command without a step.
     Plain(&'a Command<'a>),
     /// A line's fault.
     Flaw(LineFault),
-    /// That a line is too long.
+    /// The error that a line is too long.
     TooLong,
 }
 

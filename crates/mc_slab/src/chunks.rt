@@ -1,4 +1,7 @@
-//! Chunks that are had together.
+//! Chunks that are taken and given back together.
+//!
+//! `Chunks` may be dropped. Dropped chunks stay counted as in use. A linear type would need a
+//! destructor by hand in each type that holds chunks.
 
 ghost use Rattle.std.specs.Prelude.{◌≡◌, ℕ, ◌+◌, ◌-◌, ◌<◌, ◌≤◌, length, take, IfOk};
 ghost use Rattle.mc_slab.specs.Chunks.{ChunksState, AreChunks, AreChunksOf, chunk_at, need_in, with_part};
@@ -14,11 +17,12 @@ use crate::sheet::Sheet;
 use std::alloc::{AllocError, Global};
 use std::marker::Model;
 
-/// One chunk of a class, or two to eight chunks of a page each. Contracts see the class, the count,
-/// and the bytes of the chunks one after another. They are moved and never copied; chunks that are
-/// let go, and not given back to their slab, stay out in the slab's account for ever. The memory of
-/// a class below the last stays with the process until the process ends, even if its chunk or
-/// its slab is dropped; that of a page is given back.
+/// One chunk of a class, or two to eight chunks of a page each.
+///
+/// Contracts see the class, the count, and the bytes of the chunks one after another. Chunks are
+/// moved and never copied. Chunks that are dropped without being given back to their slab stay out
+/// in the slab's account for ever. Memory of a class below the last stays with the process until it
+/// ends, even if the chunk or its slab is dropped; memory of a page is freed.
 #[derive(Drop)]
 pub struct Chunks {
     held: Held,
@@ -38,7 +42,7 @@ impl Model for Chunks {
 }
 
 impl Chunks {
-    /// Tells the need that they serve: their class, and how many there are.
+    /// Returns the need that they serve: their class and their count.
     pub fn need(&self) -> Need
         ensures value { result ≡ need_in self.now }
         ensures are { AreChunks self.now }
@@ -55,8 +59,9 @@ impl Chunks {
         held::first(&self.held)
     }
 
-    /// Lends the bytes of the chunk at a place, the first at 0, as many as the class's size. It goes
-    /// from one chunk to the next.
+    /// Lends the bytes of the chunk at a place, the first at 0, as many as the class's size.
+    ///
+    /// It walks from chunk to chunk.
     pub fn part(&self, at: usize) -> &[u8]
         requires { at < self.now.count }
         ensures value { result.now ≡ chunk_at self.now at }
@@ -68,8 +73,9 @@ impl Chunks {
         held::sheet(&self.held).part(at)
     }
 
-    /// Copies a part to the place `at` of the bytes, counted from 0 over the chunks one after
-    /// another. All else stays.
+    /// Copies `part` to the place `at` of the bytes, counted from 0 over all chunks.
+    ///
+    /// The other bytes are unchanged.
     pub fn write_at(&mut self, at: usize, part: &[u8])
         requires { at + length part.now ≤ length self.old.bytes }
         ensures value { self.new ≡ record self.old { bytes = with_part self.old.bytes at part.now } }
@@ -78,7 +84,9 @@ impl Chunks {
         held::write_at(&mut self.held, at, part);
     }
 
-    /// Cuts a chunk of a class below the last off.
+    /// Cuts one chunk of a class below the last off the front of memory.
+    ///
+    /// Returns the chunk and the rest of the memory.
     pub(crate) fn cut(class: Class, memory: &'static mut [u8]) -> (Chunks, &'static mut [u8])
         requires class { class < 40 }
         requires room { size_of class ≤ length memory.old }
@@ -89,15 +97,16 @@ impl Chunks {
         (Chunks { held }, rest)
     }
 
-    /// Makes a chunk of the last class, of zeros. The one error is a refused allocation.
+    /// Allocates one chunk of the last class, of zeros. The only error is a refused allocation.
     pub(crate) fn page(alloc: Global) -> Result<Chunks, AllocError>
         ensures { IfOk result (AreChunksOf (record { class = 40; count = 1 })) }
     {
         Ok(of_sheets(Sheet::new(alloc)?))
     }
 
-    /// Puts one chunk in front of fewer than eight others, all of the last class. It takes no
-    /// memory.
+    /// Puts one chunk in front of fewer than eight others, all of the last class.
+    ///
+    /// It takes no memory.
     pub(crate) fn in_front(one: Chunks, behind: Chunks) -> Chunks
         requires one { AreChunksOf (record { class = 40; count = 1 }) one }
         requires behind { (behind.class ≡ 40) × (behind.count < 8) }
@@ -107,7 +116,7 @@ impl Chunks {
         of_sheets(Sheet::in_front(one, behind))
     }
 
-    /// Takes the first chunk off others. It takes no memory.
+    /// Splits the first chunk from the others. It takes no memory.
     #[inline(never)]
     pub(crate) fn taken_off(self) -> (Chunks, Chunks)
         requires { 2 ≤ self.count }
@@ -120,7 +129,7 @@ impl Chunks {
     }
 }
 
-/// Chunks of the last class.
+/// Returns the chunks of the last class on a sheet.
 fn of_sheets(sheet: Box<Sheet>) -> Chunks
     requires { AreChunks (chunks_in (Sheets sheet)) }
     ensures { result ≡ chunks_in (Sheets sheet) }

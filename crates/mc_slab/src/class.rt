@@ -6,13 +6,13 @@ ghost use Rattle.mc_slab.specs.Classes.{IsClass, chunk_sizes, size_of, chunks_a_
 use std::alloc::AllocError;
 use std::marker::Model;
 
-/// How many bytes a page has.
+/// Bytes of a page.
 pub(crate) const PAGE: u32 = 1 << 20;
 
-/// How many classes there are.
+/// The number of classes.
 pub(crate) const CLASSES: u8 = 40;
 
-/// How many bytes a chunk of each class has, class 1 first.
+/// Bytes of a chunk of each class, class 1 first.
 static SIZES: [u32; 40] = [
     96, 120, 152, 192, 240, 304, 384, 480, 600, 752, 944, 1184, 1480, 1856, 2320, 2904, 3632, 4544,
     5680, 7104, 8880, 11104, 13880, 17352, 21696, 27120, 33904, 42384, 52984, 66232, 82792, 103496,
@@ -51,7 +51,7 @@ impl Clone for Class {
 impl Copy for Class {}
 
 impl Class {
-    /// The class of a number, from 1 to 40.
+    /// Returns the class of a number, from 1 to 40.
     pub(crate) fn of(number: u8) -> Class
         requires { IsClass number }
         ensures { result ≡ number }
@@ -59,7 +59,7 @@ impl Class {
         Class { number }
     }
 
-    /// Its place among the classes, from 0 to 39.
+    /// Returns its index in the table, from 0 to 39.
     pub(crate) fn index(self) -> usize
         ensures value { result ≡ self - 1 }
         ensures is_class { IsClass self }
@@ -67,7 +67,7 @@ impl Class {
         usize::from(self.number) - 1
     }
 
-    /// Gives its number, 1 to 40.
+    /// Returns its number, from 1 to 40.
     pub fn number(self) -> u8
         ensures value { result ≡ self }
         ensures is_class { IsClass result }
@@ -75,7 +75,7 @@ impl Class {
         self.number
     }
 
-    /// Gives the size of its chunks, 96 to 1048576 bytes.
+    /// Returns the size of its chunks, 96 to 1048576 bytes.
     pub fn size(self) -> u32
         ensures value { result ≡ size_of self }
         ensures range { (96 ≤ result) × (result ≤ 1048576) }
@@ -84,7 +84,7 @@ impl Class {
         SIZES[usize::from(self.number) - 1]
     }
 
-    /// Counts the chunks of it that a page of 1048576 bytes gives, 1 to 10922.
+    /// Returns how many of its chunks a page of 1048576 bytes holds, 1 to 10922.
     pub fn chunks_a_page(self) -> u32
         ensures value { result ≡ chunks_a_page self }
         ensures range { (1 ≤ result) × (result ≤ 10922) }
@@ -94,15 +94,16 @@ impl Class {
     }
 }
 
-/// How many sizes are below the charge.
+/// Returns how many sizes are smaller than the charge.
 fn smaller_sizes(charge: u64) -> usize
     ensures { PartsAt charge result }
 {
     SIZES.partition_point(|size| u64::from(*size) < charge)
 }
 
-/// Finds the smallest class whose chunks hold a charge of that many bytes; there is none above
-/// 1048576. It takes at most six comparisons.
+/// Returns the smallest class whose chunks hold a charge of that many bytes.
+///
+/// It is `None` above 1048576 bytes. It takes at most six comparisons.
 pub fn class_of(charge: u64) -> Option<Class>
     ensures value { result ≡ class_of charge }
     ensures none { IsNone result ↔ (1048576 < charge) }

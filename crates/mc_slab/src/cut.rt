@@ -1,4 +1,8 @@
-//! Chunks that are cut of memory.
+//! Cuts chunks off memory.
+//!
+//! A page is reserved in runs of at most 32768 bytes, or of one larger chunk. A run is written and
+//! cut when its first chunk is taken, and then stays with the process, because a chunk is a slice
+//! that lives as long as the process.
 
 ghost use Rattle.std.specs.Prelude.{◌≡◌, ◌<◌, ◌≤◌, length, take, drop};
 ghost use Rattle.mc_slab.specs.Classes.{IsClass, size_of};
@@ -7,7 +11,9 @@ ghost use Rattle.mc_slab.specs.Helds.{chunks_in};
 use crate::class::Class;
 use crate::held::Held;
 
-/// Cuts a chunk of a class below the last off.
+/// Cuts one chunk of a class below the last off the front of memory.
+///
+/// Returns the chunk and the rest of the memory.
 pub(crate) fn cut(class: Class, memory: &'static mut [u8]) -> (Held, &'static mut [u8])
     requires class { class < 40 }
     requires room { size_of class ≤ length memory.old }
@@ -29,7 +35,7 @@ pub(crate) fn cut(class: Class, memory: &'static mut [u8]) -> (Held, &'static mu
     }
 }
 
-/// Cuts a chunk of one of the classes from 1 to 8 off.
+/// Cuts one chunk of a class from 1 to 8 off the front of memory.
 fn cut_tiny(class: Class, memory: &'static mut [u8]) -> (Held, &'static mut [u8])
     requires class { (1 ≤ class) × (class ≤ 8) }
     requires room { size_of class ≤ length memory.old }
@@ -73,7 +79,7 @@ fn cut_tiny(class: Class, memory: &'static mut [u8]) -> (Held, &'static mut [u8]
     }
 }
 
-/// Cuts a chunk of one of the classes from 9 to 16 off.
+/// Cuts one chunk of a class from 9 to 16 off the front of memory.
 fn cut_small(class: Class, memory: &'static mut [u8]) -> (Held, &'static mut [u8])
     requires class { (9 ≤ class) × (class ≤ 16) }
     requires room { size_of class ≤ length memory.old }
@@ -117,7 +123,7 @@ fn cut_small(class: Class, memory: &'static mut [u8]) -> (Held, &'static mut [u8
     }
 }
 
-/// Cuts a chunk of one of the classes from 17 to 24 off.
+/// Cuts one chunk of a class from 17 to 24 off the front of memory.
 fn cut_middle(class: Class, memory: &'static mut [u8]) -> (Held, &'static mut [u8])
     requires class { (17 ≤ class) × (class ≤ 24) }
     requires room { size_of class ≤ length memory.old }
@@ -161,7 +167,7 @@ fn cut_middle(class: Class, memory: &'static mut [u8]) -> (Held, &'static mut [u
     }
 }
 
-/// Cuts a chunk of one of the classes from 25 to 32 off.
+/// Cuts one chunk of a class from 25 to 32 off the front of memory.
 fn cut_large(class: Class, memory: &'static mut [u8]) -> (Held, &'static mut [u8])
     requires class { (25 ≤ class) × (class ≤ 32) }
     requires room { size_of class ≤ length memory.old }
@@ -205,7 +211,7 @@ fn cut_large(class: Class, memory: &'static mut [u8]) -> (Held, &'static mut [u8
     }
 }
 
-/// Cuts a chunk of one of the classes from 33 to 39 off.
+/// Cuts one chunk of a class from 33 to 39 off the front of memory.
 fn cut_great(class: Class, memory: &'static mut [u8]) -> (Held, &'static mut [u8])
     requires class { (33 ≤ class) × (class ≤ 39) }
     requires room { size_of class ≤ length memory.old }
@@ -245,7 +251,7 @@ fn cut_great(class: Class, memory: &'static mut [u8]) -> (Held, &'static mut [u8
     }
 }
 
-/// Parts memory behind so many bytes.
+/// Splits memory behind its first `N` bytes.
 fn front<const N: usize>(memory: &'static mut [u8]) -> (&'static mut [u8; N], &'static mut [u8])
     requires { N ≤ length memory.old }
     ensures first { result.0.now ≡ take N memory.entry.now }

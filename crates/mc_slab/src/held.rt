@@ -1,4 +1,10 @@
-//! Where chunks lie: behind a thin pointer whose tag is the class, so that it takes 16 bytes.
+//! Where chunks are: behind a thin pointer whose tag is the class.
+//!
+//! A chunk takes 16 bytes of memory: an enum whose variant is the class and which holds a thin
+//! pointer to an array of that class's length. A slice would take 24 bytes. A chunk's length is
+//! read from the table of sizes and not from its variant, because match arms that differ in a
+//! constant compile to a jump table. A chunk is written by `write_at` and lends no mutable slice: a
+//! method that lends one isn't proved if its length is an invariant.
 
 ghost use Rattle.std.specs.Prelude.{◌≡◌, ◌+◌, ◌<◌, ◌≤◌, length, take, drop};
 ghost use Rattle.mc_slab.specs.Chunks.{ChunksState, AreChunks, need_in, with_part};
@@ -9,7 +15,7 @@ use crate::class::{CLASSES, Class};
 use crate::need::Need;
 use crate::sheet::Sheet;
 
-/// One chunk of a class below the last, or chunks of the last.
+/// One chunk of a class below the last, or the chunks of the last class.
 #[derive(Drop)]
 pub(crate) enum Held {
     C1(&'static mut [u8; 96]),
@@ -54,7 +60,7 @@ pub(crate) enum Held {
     Sheets(Box<Sheet>),
 }
 
-/// Their class.
+/// Returns their class.
 pub(crate) fn class(held: &Held) -> Class
     ensures { result ≡ (chunks_in held.now).class }
 {
@@ -102,7 +108,7 @@ pub(crate) fn class(held: &Held) -> Class
     }
 }
 
-/// The need that they serve.
+/// Returns the need that they serve.
 pub(crate) fn need(held: &Held) -> Need
     requires { AreChunks (chunks_in held.now) }
     ensures { result ≡ need_in (chunks_in held.now) }
@@ -115,17 +121,18 @@ pub(crate) fn need(held: &Held) -> Need
     }
 }
 
-/// Lends the bytes of the first, as many as the class's size.
+/// Lends the bytes of the first chunk, as many as the class's size.
 pub(crate) fn first(held: &Held) -> &[u8]
     requires { AreChunks (chunks_in held.now) }
     ensures { result.now
         ≡ take (size_of (chunks_in held.now).class) (chunks_in held.now).bytes }
 {
-    // The length is read from the table of sizes. By the variants alone it would be a jump to one of 40 places.
+    // The length is read from the table of sizes. Matching on the variants alone would compile to a
+    // jump with 40 targets.
     &whole(held)[..class(held).size() as usize]
 }
 
-/// Lends the bytes of the first.
+/// Lends the bytes of the first chunk.
 fn whole(held: &Held) -> &[u8]
     requires { 1 ≤ (chunks_in held.now).count }
     ensures { result.now ≡ first_in held.now }
@@ -174,7 +181,9 @@ fn whole(held: &Held) -> &[u8]
     }
 }
 
-/// Copies a part to the place `at` of the bytes, one chunk's after another's. All else stays.
+/// Copies `part` to the place `at` of the bytes, counted over all chunks.
+///
+/// The other bytes are unchanged.
 pub(crate) fn write_at(held: &mut Held, at: usize, part: &[u8])
     requires { at + length part.now ≤ length (chunks_in held.old).bytes }
     ensures { chunks_in held.new ≡ record (chunks_in held.old) {
@@ -190,7 +199,7 @@ pub(crate) fn write_at(held: &mut Held, at: usize, part: &[u8])
     }
 }
 
-/// Copies a part to a place of one chunk of a class below the last.
+/// Copies `part` to the place `at` of one chunk of a class below the last.
 fn write_one(held: &mut Held, at: usize, part: &[u8])
     requires class { (chunks_in held.old).class < 40 }
     requires room { at + length part.now ≤ length (chunks_in held.old).bytes }
@@ -242,7 +251,7 @@ fn write_one(held: &mut Held, at: usize, part: &[u8])
     }
 }
 
-/// Copies a part to a place.
+/// Copies `part` to the place `at` of `bytes`.
 fn write_part(bytes: &mut [u8], at: usize, part: &[u8])
     requires { at + length part.now ≤ length bytes.old }
     ensures { bytes.new ≡ with_part bytes.old at part.now }
@@ -250,8 +259,10 @@ fn write_part(bytes: &mut [u8], at: usize, part: &[u8])
     copy(&mut bytes[at..at + part.len()], part);
 }
 
-/// Copies bytes over as many. It stands alone so that the compiler sees that each variant is written
-/// alike, and makes no jump to one of 40 places.
+/// Copies `part` over `bytes`, which are equally many.
+///
+/// It is a function of its own so that the compiler sees that each variant is written alike, and
+/// makes no jump with 40 targets.
 #[inline(never)]
 fn copy(bytes: &mut [u8], part: &[u8])
     requires { length part.now ≡ length bytes.old }
@@ -272,7 +283,7 @@ pub(crate) fn sheet(held: &Held) -> &Sheet
     }
 }
 
-/// The sheet of chunks of the last class.
+/// Returns the sheet of chunks of the last class.
 pub(crate) fn into_sheet(held: Held) -> Box<Sheet>
     requires { (chunks_in held).class ≡ 40 }
     ensures { (result.value.0 ≡ (chunks_in held.entry).count)

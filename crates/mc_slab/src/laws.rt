@@ -1,4 +1,4 @@
-//! What the rule of the classes comes to, each the contract of a function that does nothing.
+//! Laws of the table of classes and of pages, each the contract of a function that does nothing.
 
 ghost use Rattle.std.specs.Prelude.{◌≡◌, ℕ, ◌+◌, ◌*◌, ◌/◌, ◌<◌, ◌≤◌, List, [], ◌∷◌, map, Some, None, true};
 ghost use Rattle.mc_slab.specs.Classes.{chunk_sizes, chunks_a_page, class_of};
@@ -18,8 +18,10 @@ ghost use Rattle.mc_slab.specs.Slabs.{
   unused,
 };
 
-/// States that the table of classes is this one: the chunk sizes, how many chunks a page gives, and
-/// the edges of the first class and of the last. It does nothing.
+/// States the table of classes. It does nothing.
+///
+/// It gives the chunk sizes, how many chunks a page holds, and the edges of the first class and of
+/// the last.
 pub fn table_of_classes()
     ensures sizes { chunk_sizes ≡
         96 ∷ 120 ∷ 152 ∷ 192 ∷ 240 ∷ 304 ∷ 384 ∷ 480 ∷ 600 ∷ 752 ∷ 944 ∷ 1184 ∷ 1480 ∷ 1856 ∷
@@ -35,8 +37,9 @@ pub fn table_of_classes()
         × (class_of 1048576 ≡ Some 40) × (class_of 1048577 ≡ None) }
 {}
 
-/// States that the pages that a class is given for a need are the fewest that serve it, and that so
-/// many are left if there is room. It does nothing.
+/// States that a class is given the fewest pages that serve a need. It does nothing.
+///
+/// If there is room for the need, that many pages are left.
 pub fn wanted_pages_are_least()
     ensures enough { (slab : SlabState) (need : NeedState) (back : ℕ) → IsNeed need
         → need.count ≤ unused slab need.class + back
@@ -48,8 +51,9 @@ pub fn wanted_pages_are_least()
         → has_room_with slab need back ≡ true → pages_wanted slab need back ≤ pages_left slab }
 {}
 
-/// States that once a class was made ready for a need, and the chunks that were to come back came,
-/// the need can be taken with no page more. It does nothing.
+/// States that a class made ready for a need wants no further page. It does nothing.
+///
+/// The need can be taken once the chunks that were to be given back were given back.
 pub fn ready_is_enough()
     ensures room { (slab : SlabState) (need : NeedState) (back : ℕ) → IsSlab slab → IsNeed need
         → back ≤ out_of slab need.class

@@ -1,25 +1,26 @@
 //! Slab classes, and the pages and chunks that a store's memory is handed out in.
 //!
-//! A store is given a number of pages, and is to say exactly when it is full. With the system's
-//! allocator nobody could: how much it takes beside a block, and how much lies unused between
-//! blocks, it doesn't tell. So memory comes in pages of 1048576 bytes, each of which goes to one
-//! class of chunks and stays with it, and a charge gets a chunk of the smallest class that holds
-//! it. That is memcached's scheme (doc/protocol.txt there, "Slab statistics"), with sizes that grow
-//! by about a quarter; a charge above a page gets two to eight whole ones.
+//! A store has a limit of pages, and must report exactly when it is full. With the system's
+//! allocator it couldn't: the allocator reports neither its overhead for a block nor the unused
+//! memory between blocks. So memory comes in pages of 1048576 bytes. Each page goes to one class of
+//! chunks and stays with it, and a charge gets a chunk of the smallest class that holds it. That is
+//! memcached's scheme (doc/protocol.txt there, "Slab statistics"), with sizes that grow by about a
+//! quarter. A charge above a page gets two to eight whole pages.
 //!
-//! A [`Class`] is one of 40 sizes, 96 to 1048576 bytes ([`class_of`]); a [`Need`] is how many
-//! chunks of which class hold a charge ([`need_of`]). A [`Slab`] counts the pages that are left,
-//! and keeps for each class the chunks that came back and what is still to be cut of its pages.
-//! [`Chunks`] are what is taken and given back: they are moved and never copied. [`Pages`] are
-//! memory that was asked for before a slab is at hand, so that who shares one with others holds it
-//! for a short time.
+//! A [`Class`] is one of 40 sizes, 96 to 1048576 bytes ([`class_of`]). A [`Need`] is a class and
+//! the number of its chunks that hold a charge ([`need_of`]). A [`Slab`] counts the pages that are
+//! left, and keeps for each class the free chunks and the memory that isn't cut yet. [`Chunks`] are
+//! what is taken and given back: they are moved and never copied. [`Pages`] are memory that is
+//! allocated before a slab is at hand, so that a thread holds a shared slab only briefly.
 //!
-//! Contracts see of a slab the limit of pages, and of each class its pages and the chunks that are
-//! out. A taking is refused as full exactly if the chunks that aren't out, and those of the pages
-//! left, are too few; it asks for memory only for pages; and a refusal changes nothing. The laws
-//! say the table of sizes, and that no class is given a page more than a need wants.
+//! Contracts see a slab as its limit of pages and, for each class, its pages and the chunks that
+//! are out. `take_all` fails as full exactly if the unused chunks and those of the pages left are
+//! too few. It allocates only for pages, and an error changes nothing. The laws state the table of
+//! sizes, and that no class is given more pages than a need wants.
 //!
 //! Begin with `specs/Slabs.antt` and `src/slab.rt`; the table is `src/class.rt`.
+//!
+//! Tests: mc_item_tests, src/slab_tests.rt.
 #![tactic(auto)]
 
 mod chunks;

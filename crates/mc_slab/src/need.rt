@@ -1,4 +1,4 @@
-//! What a charge needs: how many chunks of which class.
+//! The class and the number of chunks that hold a charge.
 
 ghost use Rattle.std.specs.Prelude.{◌≡◌, ◌+◌, ◌*◌, ◌<◌, ◌≤◌, ◌↔◌, IfSome, IsNone};
 ghost use Rattle.mc_slab.specs.Classes.{IsClass};
@@ -8,14 +8,15 @@ use crate::class::{CLASSES, Class, class_of};
 use std::alloc::AllocError;
 use std::marker::Model;
 
-/// How many bytes of charge the chunks of one need hold at most: eight pages.
+/// The largest charge, in bytes, that chunks can hold: eight pages.
 const MOST: u64 = 1 << 23;
 
-/// How many of them a page holds.
+/// Bytes of charge that a page holds.
 const WHOLE: u64 = 1 << 20;
 
-/// What a charge needs: one chunk of a class, or two to eight whole pages. Contracts see the class
-/// and the count.
+/// What a charge needs: one chunk of a class, or two to eight whole pages.
+///
+/// Contracts see the class and the count.
 #[derive(Debug, PartialEq, Eq)]
 pub struct Need {
     class: Class,
@@ -49,7 +50,7 @@ impl Clone for Need {
 impl Copy for Need {}
 
 impl Need {
-    /// One chunk of the class.
+    /// Returns the need of one chunk of the class.
     pub(crate) fn one(class: Class) -> Need
         requires { IsClass class }
         ensures { result ≡ record { class = class; count = 1 } }
@@ -57,7 +58,7 @@ impl Need {
         Need { class, count: 1 }
     }
 
-    /// So many pages, 1 to 8.
+    /// Returns the need of `count` pages, 1 to 8.
     pub(crate) fn pages(count: u8) -> Need
         requires { (1 ≤ count) × (count ≤ 8) }
         ensures { result ≡ record { class = 40; count = count } }
@@ -68,7 +69,7 @@ impl Need {
         }
     }
 
-    /// Gives the class of its chunks.
+    /// Returns the class of its chunks.
     pub fn class(self) -> Class
         ensures value { result ≡ self.class }
         ensures is_need { IsNeed self }
@@ -76,7 +77,7 @@ impl Need {
         self.class
     }
 
-    /// Gives the count of its chunks, 1 to 8; more than one are pages.
+    /// Returns the number of its chunks, 1 to 8; more than one are pages.
     pub fn count(self) -> u32
         ensures value { result ≡ self.count }
         ensures range { (1 ≤ result) × (result ≤ 8) }
@@ -86,9 +87,10 @@ impl Need {
     }
 }
 
-/// Finds what a charge of that many bytes needs: one chunk of the smallest class that holds it, and
-/// above 1048576 as many whole pages as hold it. There is none above 8388608. It takes at most six
-/// comparisons, and two more above a page.
+/// Returns the need of a charge of that many bytes, or `None` above 8388608.
+///
+/// It is one chunk of the smallest class that holds the charge, and above 1048576 bytes the fewest
+/// whole pages that do. It takes at most six comparisons, and two more above a page.
 pub fn need_of(charge: u64) -> Option<Need>
     ensures value { result ≡ need_of charge }
     ensures none { IsNone result ↔ (8388608 < charge) }
@@ -103,7 +105,7 @@ pub fn need_of(charge: u64) -> Option<Need>
     }
 }
 
-/// As many pages as hold a charge of more than one, if at most eight do.
+/// Returns the fewest pages that hold a charge above one page, if eight are enough.
 fn pages_of(charge: u64) -> Option<Need>
     requires { 1048576 < charge }
     ensures value { result ≡ need_of charge }

@@ -1,4 +1,4 @@
-//! Memory of which no chunk is cut yet, in runs.
+//! Memory that isn't cut into chunks yet, in runs.
 
 ghost use Rattle.std.specs.Prelude.{◌≡◌, ◌+◌, ◌*◌, ◌^◌, ◌<◌, ◌≤◌, [], IfOk, OnOk, OnErr, vec_len, vec_capacity};
 ghost use Rattle.std.specs.List.{All};
@@ -11,17 +11,17 @@ use crate::class::{CLASSES, Class};
 use std::alloc::{AllocError, Global};
 use std::marker::Model;
 
-/// How many bytes a run has at most, if its chunks aren't larger.
+/// The largest run, in bytes, unless one chunk is larger.
 const RUN: u32 = 1 << 15;
 
-/// Memory that chunks are to be cut of. In that of a class below the last nothing is written before.
+/// Memory that chunks will be cut from. For a class below the last it isn't written yet.
 #[derive(Drop)]
 enum Memory {
     Bytes(Vec<u8>),
     Page(Chunks),
 }
 
-/// Memory from which chunks of a class are to be cut, had at once.
+/// One allocation that chunks of a class will be cut from.
 #[derive(Drop)]
 struct Run {
     class: Class,
@@ -43,7 +43,7 @@ impl Model for Run {
 }
 
 impl Run {
-    /// Asks for the memory of so many chunks.
+    /// Allocates the memory of `count` chunks.
     fn new(alloc: Global, class: Class, count: u32) -> Result<Run, AllocError>
         requires some { 1 ≤ count }
         requires few { count ≤ chunks_a_run class }
@@ -56,14 +56,14 @@ impl Run {
         })
     }
 
-    /// The count of its chunks.
+    /// Returns the number of its chunks.
     fn count(&self) -> u32
         ensures { result ≡ self.now.count }
     {
         self.count
     }
 
-    /// Writes its memory, of zeros.
+    /// Fills its memory with zeros.
     fn write_memory(self) -> Run
         ensures { result ≡ self.entry }
     {
@@ -79,8 +79,9 @@ impl Run {
         }
     }
 
-    /// Cuts its chunks, of zeros, for which there is room. Those of a class below the last stay with
-    /// the process.
+    /// Cuts its memory into chunks of zeros and appends them to `chunks`, which has room.
+    ///
+    /// Chunks of a class below the last stay with the process.
     fn cut_into(self, chunks: &mut Vec<Chunks>)
         requires none { chunks.old.items ≡ [] }
         requires room { self.count ≤ vec_capacity chunks.old }
@@ -100,7 +101,7 @@ impl Run {
     }
 }
 
-/// Asks for the memory of so many chunks of the class.
+/// Allocates the memory of `count` chunks of the class.
 fn memory_of(alloc: Global, class: Class, count: u32) -> Result<Memory, AllocError>
     requires some { 1 ≤ count }
     requires few { count ≤ chunks_a_run class }
@@ -115,7 +116,7 @@ fn memory_of(alloc: Global, class: Class, count: u32) -> Result<Memory, AllocErr
     }
 }
 
-/// Writes memory, of zeros.
+/// Fills memory with zeros.
 fn zero_memory(memory: Memory, class: Class, count: u32) -> Memory
     requires class { IsClass class }
     requires memory { IsMemoryOf class count memory }
@@ -130,7 +131,7 @@ fn zero_memory(memory: Memory, class: Class, count: u32) -> Memory
     }
 }
 
-/// Cuts chunks of a class below the last of memory.
+/// Cuts the memory of `count` chunks of a class below the last.
 fn cut_bytes(mut bytes: Vec<u8>, class: Class, count: u32, chunks: &mut Vec<Chunks>)
     requires class { IsClass class × (class < 40) }
     requires bytes { count * size_of class ≤ vec_capacity bytes }
@@ -149,8 +150,8 @@ fn cut_bytes(mut bytes: Vec<u8>, class: Class, count: u32, chunks: &mut Vec<Chun
     }
 }
 
-/// Makes so many bytes of zeros, for which there is room. If they are there already it writes
-/// nothing.
+/// Extends `memory` with zeros to `length` bytes, which are reserved. It writes nothing if they are
+/// there.
 fn write_zeros(memory: &mut Vec<u8>, length: usize)
     requires { length ≤ vec_capacity memory.old }
     ensures length { vec_len memory.new ≡ length }
@@ -159,7 +160,7 @@ fn write_zeros(memory: &mut Vec<u8>, length: usize)
     memory.resize_with(length, || 0).unwrap();
 }
 
-/// The runs of a class. A page is made as runs, each of one allocation, and cut run by run as its chunks are asked for.
+/// The runs of a class. A page is allocated as runs, and a run is cut when a chunk is wanted.
 #[derive(Drop)]
 pub(crate) struct Runs {
     class: Class,
@@ -181,7 +182,7 @@ impl Model for Runs {
 }
 
 impl Runs {
-    /// No runs of the class.
+    /// Returns no runs of the class.
     pub(crate) fn new(alloc: Global, class: Class) -> Runs
         ensures { result ≡ record { class = class; count = 0 } }
     {
@@ -192,16 +193,17 @@ impl Runs {
         }
     }
 
-    /// Counts the chunks that are to be cut.
+    /// Returns the number of chunks that aren't cut yet.
     pub(crate) fn count(&self) -> u32
         ensures { result ≡ self.now.count }
     {
         self.count
     }
 
-    /// Asks for the memory of so many chunks of the class, but for those of the pages that are
-    /// brought, if they are of the class. What isn't wanted of them is let go. Refused, all is
-    /// let go.
+    /// Allocates the memory of `count` chunks of the class, and uses `pages` first if they fit.
+    ///
+    /// Memory of `pages` that is of another class, or that isn't wanted, is freed. After a refused
+    /// allocation all memory is freed.
     pub(crate) fn provide(
         alloc: Global,
         class: Class,
@@ -215,7 +217,7 @@ impl Runs {
             .fill_up(alloc, count)
     }
 
-    /// Lets runs go until at most so many chunks are to be cut.
+    /// Frees runs until at most `most` chunks are left to cut.
     fn keep_at_most(self, most: u32) -> Runs
         ensures class { result.class ≡ self.class }
         ensures most { result.count ≤ most }
@@ -231,7 +233,7 @@ impl Runs {
         Runs { class, count, runs }
     }
 
-    /// Asks for the memory that is wanting to so many chunks.
+    /// Allocates the memory of further chunks, up to `count`.
     fn fill_up(self, alloc: Global, count: u32) -> Result<Runs, AllocError>
         requires { self.count ≤ count }
         ensures { IfOk result (λ runs. runs ≡ record { class = self.class; count = count }) }
@@ -245,7 +247,7 @@ impl Runs {
         Ok(Runs { class, count, runs })
     }
 
-    /// Takes other runs of the class. Refused, nothing is changed.
+    /// Appends other runs of the class. An error changes nothing.
     pub(crate) fn join(&mut self, others: Runs) -> Result<(), AllocError>
         requires class { others.class ≡ self.old.class }
         requires few { self.old.count + others.count < 2 ^ 32 }
@@ -267,7 +269,7 @@ impl Runs {
         Ok(())
     }
 
-    /// Writes the run whose chunks are cut first.
+    /// Fills the run that will be cut first with zeros.
     fn write_next(&mut self)
         ensures { self.new ≡ self.old }
     {
@@ -276,7 +278,7 @@ impl Runs {
         }
     }
 
-    /// Cuts the chunks of one run, for which there is room.
+    /// Cuts one run and appends its chunks to `chunks`, which has room.
     #[inline(never)]
     pub(crate) fn cut_into(&mut self, chunks: &mut Vec<Chunks>)
         requires some { 0 < self.old.count }
@@ -294,7 +296,7 @@ impl Runs {
     }
 }
 
-/// The runs of the pages that are brought, if they are of the class.
+/// Returns the runs of `pages` if they are of the class, else none.
 fn runs_of_pages(alloc: Global, class: Class, pages: Option<Pages>) -> Runs
     ensures { result.class ≡ class }
 {
@@ -304,7 +306,7 @@ fn runs_of_pages(alloc: Global, class: Class, pages: Option<Pages>) -> Runs
     }
 }
 
-/// How many chunks of the class a run has.
+/// Returns the number of chunks in a run of the class.
 fn chunks_a_run(class: Class) -> u32
     ensures value { result ≡ chunks_a_run class }
     ensures some { 1 ≤ result }
@@ -312,7 +314,7 @@ fn chunks_a_run(class: Class) -> u32
     (RUN / class.size()).max(1)
 }
 
-/// Makes runs of so many chunks of the class more.
+/// Appends runs of `count` more chunks of the class.
 fn make_runs(runs: &mut Vec<Run>, alloc: Global, class: Class, count: u32) -> Result<(), AllocError>
     requires { AreRunsOf class runs.old.items }
     ensures ok { OnOk result (uncut runs.new.items ≡ uncut runs.old.items + count) }
@@ -328,9 +330,10 @@ fn make_runs(runs: &mut Vec<Run>, alloc: Global, class: Class, count: u32) -> Re
     Ok(())
 }
 
-/// The memory of pages for a class, had before a slab is asked for chunks. Of a class below the last the run whose chunks are
-/// cut first is written, and the last's are written whole. Contracts see the class and how many pages there are. What is let go
-/// gives its memory back.
+/// Memory of pages for a class, allocated before a slab is asked for chunks.
+///
+/// Below the last class the run that is cut first is filled with zeros; pages of the last class are
+/// filled whole. Contracts see the class and the number of pages. Dropping it frees the memory.
 #[derive(Drop)]
 pub struct Pages {
     count: u32,
@@ -348,8 +351,10 @@ impl Model for Pages {
 }
 
 impl Pages {
-    /// Asks for the memory of 1 to 8 pages of the class, and writes what a slab cuts of it first: 32768 bytes, or one larger chunk;
-    /// pages of 1048576 bytes each are written all. The one error is a refused allocation; what was had is then given back.
+    /// Allocates 1 to 8 pages for the class, and fills what is cut first with zeros.
+    ///
+    /// That is 32768 bytes, or one larger chunk; pages of the last class are filled whole. The only
+    /// error is a refused allocation, and the memory is then freed.
     pub fn new(alloc: Global, class: Class, count: u32) -> Result<Pages, AllocError>
         requires { (1 ≤ count) × (count ≤ 8) }
         ensures { IfOk result (λ pages. pages ≡ record { class = class; count = count }) }
@@ -360,14 +365,14 @@ impl Pages {
         Ok(Pages { count, runs })
     }
 
-    /// The class that they are for.
+    /// Returns the class that they are for.
     fn class(&self) -> Class
         ensures { result ≡ self.now.class }
     {
         self.runs.class
     }
 
-    /// Their runs.
+    /// Returns their runs.
     fn into_runs(self) -> Runs
         ensures { result.class ≡ self.class }
     {

@@ -1,4 +1,4 @@
-//! A chunk of a page's size, and those that lie behind it.
+//! A chunk of a page's size, and the chunks that are linked behind it.
 
 ghost use Rattle.std.specs.Prelude.{◌≡◌, ◌+◌, ◌*◌, ◌<◌, ◌≤◌, List, [], ◌++◌, length, take, drop, ℕ, IfOk};
 ghost use Rattle.mc_slab.specs.Chunks.{with_part};
@@ -9,21 +9,23 @@ use std::alloc::{AllocError, Global};
 use std::marker::Model;
 use std::mem;
 
-/// A chunk of a page's size, and those that lie behind it. Its box is made with the chunk, so that
-/// linking takes no memory. Contracts see how many there are, and their bytes one after another.
+/// A chunk of a page's size, and the chunks that are linked behind it.
+///
+/// Its box is allocated with the chunk, so that linking takes no memory. Contracts see the number
+/// of chunks, and their bytes one after another.
 #[cycle(sheet)]
 #[derive(Drop)]
 pub(crate) struct Sheet {
     node: Node,
 }
 
-/// What a sheet has.
+/// The content of a sheet.
 #[cycle(sheet)]
 #[derive(Drop)]
 enum Node {
     Last(Whole),
     Before(Whole, Box<Sheet>),
-    /// Its chunk was moved away for a moment.
+    /// The chunk was moved out for a moment.
     Hollow,
 }
 
@@ -44,7 +46,7 @@ impl Model for Sheet {
 }
 
 impl Sheet {
-    /// Makes one sheet, of zeros, in its box. The one error is a refused allocation.
+    /// Allocates one sheet of zeros in its box. The only error is a refused allocation.
     pub(crate) fn new(alloc: Global) -> Result<Box<Sheet>, AllocError>
         ensures { IfOk result (λ sheet.
             (sheet.value.0 ≡ 1) × (length sheet.value.1 ≡ 1048576)) }
@@ -58,7 +60,7 @@ impl Sheet {
         )?)
     }
 
-    /// Counts the chunks.
+    /// Returns the number of chunks.
     #[inline(never)]
     pub(crate) fn count(&self) -> u8
         requires { self.now.0 ≤ 8 }
@@ -84,7 +86,7 @@ impl Sheet {
         }
     }
 
-    /// Lends the bytes of the chunk at a place, the first at 0. It goes from one to the next.
+    /// Lends the bytes of the chunk at a place, the first at 0. It walks from chunk to chunk.
     #[inline(never)]
     pub(crate) fn part(&self, at: usize) -> &[u8]
         requires { at < self.now.0 }
@@ -113,7 +115,7 @@ impl Sheet {
         sheet
     }
 
-    /// Takes the first sheet off others. It takes no memory.
+    /// Splits the first sheet from the others. It takes no memory.
     pub(crate) fn taken_off(mut sheet: Box<Sheet>) -> (Box<Sheet>, Box<Sheet>)
         requires { 2 ≤ sheet.value.0 }
         ensures one { (result.0.value.0 ≡ 1) × (length result.0.value.1 ≡ 1048576) }
@@ -126,7 +128,9 @@ impl Sheet {
         (sheet, behind)
     }
 
-    /// Copies a part to the place `at` of the bytes, one chunk's after another's. All else stays.
+    /// Copies `part` to the place `at` of the bytes, counted over all chunks.
+    ///
+    /// The other bytes are unchanged.
     #[cycle(write_at)]
     #[inline(never)]
     pub(crate) fn write_at(&mut self, at: usize, part: &[u8])
@@ -141,7 +145,7 @@ impl Sheet {
     }
 }
 
-/// The node of one chunk, with others behind it.
+/// Returns the node of one chunk with others behind it.
 fn before(node: Node, behind: Box<Sheet>) -> Node
     requires { ((sheets_in node).0 ≡ 1) × (length (sheets_in node).1 ≡ 1048576) }
     ensures { sheets_in result
@@ -157,7 +161,7 @@ fn before(node: Node, behind: Box<Sheet>) -> Node
     }
 }
 
-/// The node of the first chunk, and what lay behind it.
+/// Returns the node of the first chunk, and the sheet behind it.
 fn part_node(node: Node) -> (Node, Box<Sheet>)
     requires { 2 ≤ (sheets_in node).0 }
     ensures one { ((sheets_in result.0).0 ≡ 1)
@@ -174,7 +178,7 @@ fn part_node(node: Node) -> (Node, Box<Sheet>)
     }
 }
 
-/// Copies a part to a place of the last chunk.
+/// Copies `part` to the place `at` of the last chunk.
 fn write_last(whole: &mut Whole, at: usize, part: &[u8])
     requires { at + length part.now ≤ length whole.old }
     ensures { whole.new ≡ with_part whole.old at part.now }
@@ -183,7 +187,7 @@ fn write_last(whole: &mut Whole, at: usize, part: &[u8])
     whole.write_at(at, part);
 }
 
-/// Copies a part to a place of a chunk and those behind it.
+/// Copies `part` to the place `at` of a chunk and those behind it.
 #[cycle(write_at)]
 fn write_before(whole: &mut Whole, behind: &mut Sheet, at: usize, part: &[u8])
     requires { at + length part.now ≤ length (whole.old ++ behind.old.1) }

@@ -1,4 +1,4 @@
-//! The slab: pages that go to classes, and the chunks that are taken of them.
+//! The slab: pages that go to classes, and the chunks that are taken from them.
 
 ghost use Rattle.std.specs.Prelude.{◌≡◌, ◌+◌, ◌≤◌, map, IfOk};
 ghost use Rattle.std.specs.List.{range_with_len};
@@ -26,20 +26,20 @@ use std::alloc::{AllocError, Global};
 use std::marker::Model;
 use thiserror::Error;
 
-/// Why a chunk could not be had. The slab is as it was.
+/// Why chunks couldn't be taken. The slab is unchanged.
 #[derive(Debug, Drop, Error)]
 pub enum TakeFault {
     /// Too few chunks of the class's pages are free, and too few pages are left.
     #[error("{out} chunks of the class's {pages} pages are out, and too few pages are left")]
     Full {
-        /// The class that was asked for.
+        /// The class of the need.
         class: Class,
-        /// How many pages it has.
+        /// The number of its pages.
         pages: u32,
-        /// How many of their chunks are out: all, if one was asked for.
+        /// How many of their chunks are out: all, if one was wanted.
         out: u32,
     },
-    /// The class needs pages, and memory for one was refused.
+    /// The class needs pages, and an allocation was refused.
     #[error("out of memory")]
     NoMemory,
 }
@@ -52,12 +52,14 @@ impl From<AllocError> for TakeFault {
     }
 }
 
-/// The memory of a store: pages of 1048576 bytes, which go to a class of chunks one by one and stay
-/// with it. The memory of a page is asked for at once, in runs of at most 32768 bytes or of one
-/// larger chunk, and each run is written, and cut into its chunks, when the first of them is taken.
-/// Runs that were cut are never given back: they stay with the process until it ends, even if the
-/// slab is dropped, or all their chunks were given back. Contracts see the limit of pages, and of
-/// each class its pages and its chunks that are out.
+/// The memory of a store: pages of 1048576 bytes, each of which goes to one class and stays with
+/// it.
+///
+/// A page is allocated at once, in runs of at most 32768 bytes or of one larger chunk. A run is
+/// written, and cut into chunks, when its first chunk is taken. Runs that were cut are never freed:
+/// they stay with the process until it ends, even if the slab is dropped or all chunks were given
+/// back. Contracts see the limit of pages and, for each class, its pages and the chunks that are
+/// out.
 #[derive(Drop)]
 pub struct Slab {
     pages_left: u32,
@@ -77,8 +79,9 @@ impl Model for Slab {
 }
 
 impl Slab {
-    /// Makes a slab of at most that many pages, 1 to 65536, none of which a class has yet. The one
-    /// error is a refused allocation.
+    /// Makes a slab with a limit of 1 to 65536 pages; no class has one yet.
+    ///
+    /// The only error is a refused allocation.
     pub fn new(alloc: Global, pages: u32) -> Result<Slab, AllocError>
         requires { (1 ≤ pages) × (pages ≤ 65536) }
         ensures value { IfOk result (λ slab. slab ≡ untouched pages) }
@@ -90,18 +93,21 @@ impl Slab {
         })
     }
 
-    /// Takes the chunks of a need, of any content, all or none. They are free ones that came back,
-    /// then those to be cut of the class's pages, and if too few are, just the pages that are
-    /// wanting go to the class first. Only that takes memory. If too few pages are left for them,
-    /// or memory for one is refused, the slab is as it was, and what was had of it is free again.
+    /// Takes all chunks of a need or none. Their content is unspecified.
+    ///
+    /// Chunks that were given back are taken first, then uncut ones of the class's pages. If these
+    /// are too few, the class is first given the pages that are missing; nothing else takes memory.
+    /// If too few pages are left, or an allocation is refused, the slab is unchanged, and what was
+    /// allocated is freed.
     pub fn take_all(&mut self, alloc: Global, need: Need) -> Result<Chunks, TakeFault>
         ensures { Takes need self.old result self.new }
     {
         self.take_all_with(alloc, need, None)
     }
 
-    /// Takes the chunks of a need, as `take_all` does. Pages that go to the class are those that are
-    /// brought, as far as they are wanted and of the class; what isn't wanted of them is let go.
+    /// Takes the chunks of a need as `take_all` does, and uses `pages` before it allocates.
+    ///
+    /// Memory of `pages` that is of another class, or that isn't wanted, is freed.
     pub fn take_all_with(
         &mut self,
         alloc: Global,
@@ -116,9 +122,11 @@ impl Slab {
         Ok(stock.take(need.count()))
     }
 
-    /// Gives the class of a need just the pages that it will want once `back` of its chunks that
-    /// are out came back, all or none, so that the need is then taken without a page. If too few
-    /// pages are left, or memory for one is refused, the slab is as it was.
+    /// Gives the class of a need the pages that it wants once `back` chunks were given back.
+    ///
+    /// The chunks are of the same class. It gives all pages or none, so that the need can then be
+    /// taken without a page. If too few pages are left, or an allocation is refused, the slab is
+    /// unchanged.
     pub fn ready(&mut self, alloc: Global, need: Need, back: u64) -> Result<(), TakeFault>
         requires { back ≤ out_of self.old need.class }
         ensures { Readies need back self.old result self.new }
@@ -126,8 +134,9 @@ impl Slab {
         self.ready_with(alloc, need, back, None)
     }
 
-    /// Gives the class of a need the pages that it will want, as `ready` does, of those that are
-    /// brought, as far as they are wanted and of the class; what isn't wanted of them is let go.
+    /// Gives the class of a need pages as `ready` does, and uses `pages` before it allocates.
+    ///
+    /// Memory of `pages` that is of another class, or that isn't wanted, is freed.
     pub fn ready_with(
         &mut self,
         alloc: Global,
@@ -153,7 +162,7 @@ impl Slab {
         Ok(())
     }
 
-    /// Takes chunks back, of whose class so many are out. It takes no memory.
+    /// Gives chunks back, if at least as many of their class are out. It takes no memory.
     pub fn give_all(&mut self, chunks: Chunks)
         requires { chunks.count ≤ out_of self.old chunks.class }
         ensures given { self.new ≡ given self.old chunks.entry.class chunks.entry.count }
@@ -164,14 +173,14 @@ impl Slab {
         stock.give(chunks, need.count());
     }
 
-    /// Says that it is one. It does nothing.
+    /// States the slab's invariant. It does nothing.
     fn is_slab(&self)
         ensures { IsSlab self.now }
     {
         let _ = &self.stocks;
     }
 
-    /// Counts the class's pages, and its chunks that are out.
+    /// Returns the class's pages, and the number of its chunks that are out.
     pub fn account(&self, class: Class) -> Account
         ensures value { result
             ≡ record { pages = pages_of self.now class; out = out_of self.now class } }
@@ -181,8 +190,10 @@ impl Slab {
         stock.account()
     }
 
-    /// Counts the class's chunks that aren't out: those that came back, and those that are still to be cut of its pages. With
-    /// those that are out they are all chunks of its pages.
+    /// Returns the number of the class's chunks that aren't out.
+    ///
+    /// These are the free chunks and those that aren't cut yet. With the chunks that are out they
+    /// are all chunks of its pages.
     pub fn unused_chunks(&self, class: Class) -> u32
         ensures value { result ≡ unused self.now class }
         ensures account { out_of self.now class + result ≡ chunks_of self.now class }
@@ -191,7 +202,7 @@ impl Slab {
         self.stocks[class.index()].unused_chunks()
     }
 
-    /// Counts the pages that no class has yet.
+    /// Returns the number of pages that no class has yet.
     pub fn pages_left(&self) -> u32
         ensures value { result ≡ pages_left self.now }
         ensures is_slab { IsSlab self.now }
@@ -200,7 +211,7 @@ impl Slab {
     }
 }
 
-/// A stock of each class, in order, with no page.
+/// Returns a stock without pages for each class, in order.
 fn empty_stocks(alloc: Global) -> Result<Vec<Stock>, AllocError>
     ensures { IfOk result (λ stocks. stocks.items ≡ map empty_stock (range_with_len 1 40)) }
 {

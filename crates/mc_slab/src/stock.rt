@@ -1,4 +1,4 @@
-//! What one class has: its pages, its chunks that are out, and its free ones.
+//! The memory of one class: its pages, its chunks that are out, and its free ones.
 
 ghost use Rattle.std.specs.Prelude.{◌≡◌, ◌+◌, ◌-◌, ◌*◌, ◌<◌, ◌≤◌, OnOk, OnErr, vec_len, vec_capacity};
 ghost use Rattle.std.specs.List.{All};
@@ -13,16 +13,17 @@ use crate::run::{Pages, Runs};
 use std::alloc::{AllocError, Global};
 use std::marker::Model;
 
-/// What a class has: its pages, and how many of their chunks are out.
+/// The pages of a class, and how many of their chunks are out.
 #[derive(Clone, Copy, Debug, PartialEq, Eq)]
 pub struct Account {
-    /// How many pages of 1048576 bytes went to the class.
+    /// The number of pages of 1048576 bytes that went to the class.
     pub pages: u32,
-    /// How many chunks of them are out.
+    /// The number of their chunks that are out.
     pub out: u32,
 }
 
-/// The pages of one class: how many it has, how many of their chunks are out, the free ones, and those that are to be cut.
+/// The pages of one class: how many there are, the chunks that are out, the free ones, and uncut
+/// runs.
 #[derive(Drop)]
 pub(crate) struct Stock {
     class: Class,
@@ -48,7 +49,7 @@ impl Model for Stock {
 }
 
 impl Stock {
-    /// The stock of a class that has no page.
+    /// Returns the stock of a class without pages.
     pub(crate) fn new(alloc: Global, class: Class) -> Stock
         ensures { result ≡ record { class = class; pages = 0; out = 0 } }
     {
@@ -63,7 +64,7 @@ impl Stock {
         }
     }
 
-    /// Its pages, and its chunks that are out.
+    /// Returns its pages, and the number of its chunks that are out.
     pub(crate) fn account(&self) -> Account
         ensures value { result ≡ record { pages = self.now.pages; out = self.now.out } }
         ensures within { result.out ≤ all_chunks self.now }
@@ -74,7 +75,8 @@ impl Stock {
         }
     }
 
-    /// Counts its chunks that aren't out: the free ones, and those that are to be cut.
+    /// Returns the number of its chunks that aren't out: the free ones and those that aren't cut
+    /// yet.
     pub(crate) fn unused_chunks(&self) -> u32
         ensures value { result ≡ all_chunks self.now - self.now.out }
         ensures all { self.now.out + result ≡ all_chunks self.now }
@@ -82,8 +84,9 @@ impl Stock {
         self.free.len() as u32 + self.uncut.count()
     }
 
-    /// How many pages are wanting to so many chunks, once so many more came back, where a page gives
-    /// one chunk, or one chunk is wanted.
+    /// Returns how many pages `count` chunks need once `back` chunks were given back.
+    ///
+    /// It is right if a page holds one chunk, or if `count` is 1.
     pub(crate) fn pages_wanted(&self, count: u32, back: u64) -> u32
         requires { back ≤ self.now.out }
         ensures value { result ≡ count - (all_chunks self.now - self.now.out + back) }
@@ -93,9 +96,10 @@ impl Stock {
         u64::from(count).saturating_sub(unused + back) as u32
     }
 
-    /// So many pages more: those that are brought, as far as they are wanted and of the class.
-    /// Refused, the stock is as it was: the memory of all is had whole, with room for their chunks
-    /// among the free ones, or none.
+    /// Adds `count` pages, and uses `pages` first if they are of the class.
+    ///
+    /// After an error the stock is unchanged: the memory is allocated first, then room for all
+    /// chunks in the list of free ones.
     #[inline(never)]
     pub(crate) fn add_pages(
         &mut self,
@@ -109,7 +113,7 @@ impl Stock {
     {
         let chunks = count * self.class.chunks_a_page();
         let runs = Runs::provide(alloc, self.class, chunks, pages)?;
-        // There is room for all: those that are out, free or to be cut, and those of the new pages.
+        // There is room for all: those that are out, free or uncut, and those of the new pages.
         let more = self.out + self.uncut.count() + chunks;
         self.free.reserve_exact(more as usize)?;
         self.uncut.join(runs)?;
@@ -117,7 +121,7 @@ impl Stock {
         Ok(())
     }
 
-    /// Takes so many chunks. It takes no memory.
+    /// Takes `count` chunks. It takes no memory.
     pub(crate) fn take(&mut self, count: u32) -> Chunks
         requires need { IsNeed (record { class = self.old.class; count = count }) }
         requires enough { self.old.out + count ≤ all_chunks self.old }
@@ -129,7 +133,7 @@ impl Stock {
         chunks
     }
 
-    /// Takes so many chunks back. It takes no memory.
+    /// Gives `count` chunks back. It takes no memory.
     pub(crate) fn give(&mut self, chunks: Chunks, count: u32)
         requires out { count ≤ self.old.out }
         requires class { AreChunksOf (record { class = self.old.class; count = count }) chunks }
@@ -140,7 +144,7 @@ impl Stock {
     }
 }
 
-/// Takes so many of the free chunks, linked, and cuts others if too few are.
+/// Takes `count` free chunks, linked, and cuts a run if too few are free.
 fn take_linked(free: &mut Vec<Chunks>, uncut: &mut Runs, count: u32) -> Chunks
     requires need { IsNeed (record { class = uncut.old.class; count = count }) }
     requires chunks { All (IsChunkOf uncut.old.class) free.old.items }
@@ -160,7 +164,7 @@ fn take_linked(free: &mut Vec<Chunks>, uncut: &mut Runs, count: u32) -> Chunks
     }
 }
 
-/// Takes so many chunks of the last class, linked.
+/// Takes `count` chunks of the last class, linked.
 #[inline(never)]
 fn take_pages(free: &mut Vec<Chunks>, uncut: &mut Runs, count: u32) -> Chunks
     requires class { uncut.old.class ≡ 40 }
@@ -183,7 +187,7 @@ fn take_pages(free: &mut Vec<Chunks>, uncut: &mut Runs, count: u32) -> Chunks
     Chunks::in_front(one, others)
 }
 
-/// Takes one of the free chunks. If none is, those of a run are cut first, for which there is room.
+/// Takes one free chunk. If none is free it first cuts a run, for which there is room.
 fn take_free(free: &mut Vec<Chunks>, uncut: &mut Runs) -> Chunks
     requires chunks { All (IsChunkOf uncut.old.class) free.old.items }
     requires some { 0 < vec_len free.old + uncut.old.count }
@@ -200,7 +204,7 @@ fn take_free(free: &mut Vec<Chunks>, uncut: &mut Runs) -> Chunks
     free.pop().unwrap()
 }
 
-/// Puts so many chunks among the free ones, one by one, for which there is room.
+/// Appends `count` linked chunks to the free ones, one by one. There is room for them.
 fn give_apart(free: &mut Vec<Chunks>, chunks: Chunks, count: u32)
     requires some { 1 ≤ count }
     requires room { vec_len free.old + count ≤ vec_capacity free.old }

@@ -7,7 +7,7 @@ use crate::class::PAGE;
 use std::alloc::{AllocError, Global};
 use std::marker::Model;
 
-/// How many bytes a sheet's chunk has: a page.
+/// Bytes of a sheet's chunk: a page.
 pub(crate) const WHOLE: usize = PAGE as usize;
 
 /// A chunk of a page's bytes. Contracts see its bytes.
@@ -27,7 +27,7 @@ impl Model for Whole {
 }
 
 impl Whole {
-    /// Makes one, of zeros. The one error is a refused allocation.
+    /// Allocates one, of zeros. The only error is a refused allocation.
     pub(crate) fn new(alloc: Global) -> Result<Whole, AllocError>
         ensures { IfOk result (λ whole. length whole ≡ 1048576) }
     {
@@ -36,7 +36,7 @@ impl Whole {
         Ok(Whole { bytes })
     }
 
-    /// Says that it has a page's bytes. It does nothing.
+    /// States that it has a page's bytes. It does nothing.
     pub(crate) fn is_whole(&self)
         ensures { length self.now ≡ 1048576 }
     {
@@ -51,7 +51,7 @@ impl Whole {
         self.bytes.as_slice()
     }
 
-    /// Copies a part to a place. All else stays.
+    /// Copies `part` to the place `at`. The other bytes are unchanged.
     pub(crate) fn write_at(&mut self, at: usize, part: &[u8])
         requires { at + length part.now ≤ 1048576 }
         ensures value { self.new ≡ with_part self.old at part.now }

@@ -1,23 +1,23 @@
-//! How the calls of links in memory go.
+//! How the calls of links in memory end.
 
 use std::marker::Model;
 
-/// How a call of a link goes.
+/// How a call of a link ends.
 #[derive(Clone, Copy, Debug, PartialEq, Eq)]
 pub enum Call {
     Fails,
-    /// The faults can't be counted any more.
+    /// The failures can't be counted any more.
     GivesNone,
-    /// No bytes come or go.
+    /// No bytes are passed.
     IsEmpty,
-    /// One byte comes or goes, if there is one.
+    /// One byte is passed, if there is one.
     GoesOn,
 }
 
-/// The calls of a link, each other one of which is empty. Contracts see how many failed.
+/// The calls of a link; every other one is empty. Contracts see how many failed.
 #[derive(Drop)]
 pub struct Calls {
-    /// In how many calls from now one fails; none does at 0.
+    /// In how many calls from now one fails; at 0 none does.
     until_fault: u64,
     faults: u64,
     was_empty: bool,
@@ -34,7 +34,7 @@ impl Model for Calls {
 impl Calls {
     ghost use Rattle.std.specs.Prelude.{◌≡◌, ◌+◌, ◌-◌, ◌^◌};
 
-    /// Makes calls of which this one fails: the first at 1, and none at 0.
+    /// Returns calls of which call number `call` fails, counted from 1; with 0 none does.
     pub fn failing_at(call: u64) -> Calls
         ensures { result ≡ 0 }
     {
@@ -45,14 +45,14 @@ impl Calls {
         }
     }
 
-    /// Counts how many failed.
+    /// Returns how many calls failed.
     pub fn faults(&self) -> u64
         ensures { result ≡ self.now }
     {
         self.faults
     }
 
-    /// Says how the next call goes.
+    /// Returns how the next call ends.
     pub fn next(&mut self) -> Call
         ensures full { self.old ≡ 2 ^ 64 - 1 → result ≡ Call.GivesNone }
         ensures fails { result ≡ Call.Fails → self.new ≡ self.old + 1 }

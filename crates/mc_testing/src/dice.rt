@@ -1,18 +1,18 @@
 ghost use Rattle.std.specs.Prelude.{◌≡◌, ◌≤◌, ◌<◌};
 
-/// Numbers that look like chance and are the same in each run.
+/// Numbers that look random and are the same in each run.
 #[derive(Clone, Copy, Debug)]
 pub struct Dice {
     state: u64,
 }
 
 impl Dice {
-    /// Makes dice whose rolls follow from the seed.
+    /// Returns dice whose rolls follow from the seed.
     pub fn new(seed: u64) -> Dice {
         Dice { state: seed }
     }
 
-    /// Rolls a number below `sides`, which is at least 1.
+    /// Returns a number below `sides`, which must be at least 1.
     pub fn roll(&mut self, sides: u64) -> u64
         requires { 1 ≤ sides }
         ensures { result < sides }

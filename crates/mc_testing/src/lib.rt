@@ -1,20 +1,20 @@
-//! What tests of several crates use: readers and writers that give and take little at a time and
-//! fail when told to, dice, texts of sessions, and marks to fill a hopscotch table or an index with.
-//! No program uses it.
+//! Readers, writers, dice, session texts and table entries that tests of several crates share.
 //!
-//! Contracts don't say that a call succeeds, what it costs, or what a device did, so tests do. What
-//! they share stands here, so that a test is a table of data.
+//! No program uses this crate. Contracts don't promise that a call succeeds, what it costs, or what
+//! a device did, so tests check these. What they share is here, so that a test is a table of data.
 //!
-//! [`Drip`] and [`Sip`] are a reader and a writer of a few bytes at a time, which fail at a call
-//! that is named: with them a test cuts a stream into bytes, and fails at each call in turn. [`Calls`]
-//! say the same of a link.
-//! [`Dice`] are a sequence of numbers that is the same in each run. [`SESSIONS`] are inputs with
-//! their outputs. A [`Mark`] is an entry of a hash and a key, for tables and indexes.
+//! [`Drip`] and [`Sip`] are a reader and a writer of a few bytes at a time, which fail at a given
+//! call. With them a test cuts a stream into bytes, and fails at each call in turn. [`Calls`] do
+//! the same for a link. [`Dice`] are a sequence of numbers that is the same in each run.
+//! [`SESSIONS`] are inputs with their outputs. A [`Mark`] is an entry with a hash and a key, for
+//! tables and indexes.
 //!
-//! It has next to no contracts, and is proved safe as all else is. It stands on mc_hop alone; rows of
+//! It has hardly any contracts, and is proved safe as all else is. It uses only mc_hop; rows of
 //! steps over a store are in `mc_rows`.
 //!
 //! Begin with `src/streams.rt` and `src/marks.rt`.
+//!
+//! Tests: mc_grow_tests, src/stream_tests.rt.
 #![tactic(auto)]
 
 mod calls;

@@ -1,4 +1,4 @@
-//! Entries that are told by their hash and key, and a hopscotch table of them.
+//! Entries identified by hash and key, and a hopscotch table of them.
 
 ghost use Rattle.std.specs.Prelude.{◌≡◌};
 
@@ -27,7 +27,7 @@ impl Keyed for Mark {
     }
 }
 
-/// Makes a table of 64 homes, asked for again if memory is refused.
+/// Returns an empty table of 64 homes. It allocates once more if memory is refused.
 pub fn marks_table(alloc: Global) -> Result<Hop<Mark>, AllocError> {
     match Hop::new(alloc, 6) {
         Err(_) => Hop::new(alloc, 6),
@@ -35,8 +35,9 @@ pub fn marks_table(alloc: Global) -> Result<Hop<Mark>, AllocError> {
     }
 }
 
-/// Puts the mark of a new hash and key into the first empty bucket of the 32 from its home on.
-/// Returns whether it did: not if one of that hash and key is there, or if the 32 are full.
+/// Puts a mark with a new hash and key into the first empty bucket of the 32 from its home on.
+///
+/// Returns whether it did: not if a mark with that hash and key is there, or if the 32 are full.
 pub fn add_mark(table: &mut Hop<Mark>, hash: u64, key: [u8; 2]) -> bool {
     if table.find(hash, &key).is_some() {
         return false;
@@ -56,8 +57,9 @@ pub fn add_mark(table: &mut Hop<Mark>, hash: u64, key: [u8; 2]) -> bool {
     }
 }
 
-/// Adds marks of so many hashes in a row, all under one key, until one isn't added. Returns whether
-/// all were. The hashes of 256 in a row, from a multiple of 256 on, have one home.
+/// Adds marks with `count` consecutive hashes, all with one key, until one can't be added.
+///
+/// Returns whether all were added. The 256 hashes from a multiple of 256 on have one home.
 pub fn fill_marks(table: &mut Hop<Mark>, hash: u64, count: u64) -> bool {
     for number in 0..count {
         if !add_mark(table, hash.wrapping_add(number), [0; 2]) {

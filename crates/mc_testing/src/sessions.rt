@@ -1,4 +1,4 @@
-/// What sessions of a new store read and what they write, at second 1000.
+/// The input and the output of sessions over a new store, at second 1000.
 pub const SESSIONS: [(&str, &str); 11] = [
     (
         "set a 5 0 3\r\nabc\r\nadd a 0 0 1\r\nx\r\nreplace a 7 0 1\r\nb\r\nappend a 0 0 1\r\nc\r\nprepend a 0 0 1\r\na\r\nget a\r\n",

@@ -1,20 +1,21 @@
 use std::alloc::{AllocError, Global};
 use std::io::{self, ErrorKind, Read, Write};
 
-/// Gives bytes in pieces of one size, and fails at one of its calls.
+/// A reader that returns bytes in pieces of one size, and can fail at one call.
 #[derive(Drop)]
 pub struct Drip<'a> {
     rest: &'a [u8],
-    /// How many bytes a call gives at most.
+    /// The most bytes that a call returns.
     piece: usize,
-    /// How many calls go well.
+    /// The number of calls that succeed.
     calls: usize,
     fault: ErrorKind,
 }
 
 impl<'a> Drip<'a> {
-    /// Makes a reader of these bytes that gives at most `piece` of them a call, and fails only after
-    /// more calls than any test makes.
+    /// Returns a reader of these bytes with at most `piece` bytes a call.
+    ///
+    /// It fails only after more calls than any test makes.
     pub fn new(bytes: &'a [u8], piece: usize) -> Drip<'a> {
         Drip {
             rest: bytes,
@@ -24,8 +25,7 @@ impl<'a> Drip<'a> {
         }
     }
 
-    /// Makes a reader of these bytes that gives one of them a call, and fails so once it was asked
-    /// that often.
+    /// Returns a reader of one byte a call, which fails with `fault` after `calls` calls.
     pub fn failing(bytes: &'a [u8], calls: usize, fault: ErrorKind) -> Drip<'a> {
         Drip {
             rest: bytes,
@@ -35,7 +35,7 @@ impl<'a> Drip<'a> {
         }
     }
 
-    /// Lends the bytes that it hasn't given.
+    /// Lends the bytes that weren't read.
     pub fn rest(&self) -> &[u8] {
         self.rest
     }
@@ -56,19 +56,19 @@ impl Read for Drip<'_> {
     }
 }
 
-/// Takes bytes in pieces of one size, keeps them, and fails at one of its calls.
+/// A writer that takes bytes in pieces of one size and keeps them, and can fail at one call.
 #[derive(Drop)]
 pub struct Sip {
     taken: Vec<u8>,
-    /// How many bytes a call takes at most.
+    /// The most bytes that a call takes.
     piece: usize,
-    /// How many calls go well.
+    /// The number of calls that succeed.
     calls: usize,
     fault: ErrorKind,
 }
 
 impl Sip {
-    /// Makes a writer that takes at most `piece` bytes a call, and never fails but for want of memory.
+    /// Returns a writer with at most `piece` bytes a call, which fails only if memory is refused.
     pub fn new(alloc: Global, piece: usize) -> Sip {
         Sip {
             taken: Vec::new(alloc),
@@ -78,8 +78,9 @@ impl Sip {
         }
     }
 
-    /// Makes a writer that takes one byte a call, and fails so once it was asked that often. It has
-    /// room for `room` bytes, and takes memory only past them.
+    /// Returns a writer with one byte a call, which fails with `fault` after `calls` calls.
+    ///
+    /// It has room for `room` bytes, and allocates only past them.
     pub fn failing(
         alloc: Global,
         room: usize,
@@ -94,12 +95,12 @@ impl Sip {
         })
     }
 
-    /// Lends the bytes that it took.
+    /// Lends the bytes that were written.
     pub fn taken_bytes(&self) -> &[u8] {
         self.taken.as_slice()
     }
 
-    /// Gives the bytes that it took.
+    /// Returns the bytes that were written.
     pub fn into_taken(self) -> Vec<u8> {
         self.taken
     }

@@ -1,19 +1,19 @@
 use crate::moment::Moment;
 use std::time::{self, Duration, SystemTime, UNIX_EPOCH};
 
-/// Gives the moment.
+/// A source of the present moment.
 pub trait Clock {
     ghost use Rattle.std.specs.Prelude.{ℕ};
 
-    /// The moments that the clock may give.
+    /// The moments that the clock may return.
     ghost may_give: { Self → ℕ → Type 0 };
 
-    /// Gives the moment that it is now: one of those that the clock may give.
+    /// Returns the present moment, one that `may_give` allows.
     fn now(&self) -> Moment
         ensures { may_give self.now result };
 }
 
-/// A clock that stands at its moment.
+/// A clock that always returns the same moment.
 #[derive(Clone, Copy)]
 pub struct Fixed(pub Moment);
 
@@ -27,15 +27,17 @@ impl Clock for Fixed {
     }
 }
 
-/// The system's clock in Unix seconds. It gives 0 before 1970 and if it can't be read, and the
-/// latest moment after that.
+/// The system's clock, in Unix seconds.
+///
+/// It returns 0 before 1970 and if the clock can't be read, and the latest moment (2^62) after
+/// that.
 #[derive(Drop)]
 pub struct SystemClock<R: time::Clock + Drop> {
     rt: R,
 }
 
 impl<R: time::Clock + Drop> SystemClock<R> {
-    /// Makes the clock of a runtime.
+    /// Returns the clock of a runtime.
     pub fn new(rt: R) -> SystemClock<R> {
         SystemClock { rt }
     }
@@ -44,7 +46,7 @@ impl<R: time::Clock + Drop> SystemClock<R> {
 impl<R: time::Clock + Drop> Clock for SystemClock<R> {
     ghost use Rattle.std.specs.Prelude.{◌≤◌, ◌^◌};
 
-    // What the system gives is known to nobody beforehand.
+    // Contracts promise nothing more of the system's time.
     ghost may_give = { λ clock now. now ≤ 2 ^ 62 };
 
     fn now(&self) -> Moment {

@@ -7,16 +7,17 @@ use crate::moment::Moment;
 #[derive(Clone, Copy, Debug, PartialEq, Eq)]
 pub enum Expiry {
     Never,
-    /// At that many seconds, and from then on.
+    /// From this second on.
     At(u64),
 }
 
-/// The number of seconds up to which an exptime counts from now: 30 days.
+/// The longest exptime, in seconds, that counts from now: 30 days.
 const LONGEST_RELATIVE: u64 = 2592000;
 
-/// Finds the expiry that an exptime names (protocol.txt, "Expiration times"): 0 is never, a
-/// negative one is over at every moment, one of up to 30 days counts from now, in seconds, and a
-/// greater one is a Unix time.
+/// Returns the expiry of an exptime (protocol.txt, "Expiration times").
+///
+/// 0 never expires; a negative exptime has expired at every moment; one of up to 30 days counts
+/// from now, in seconds; a greater one is a Unix time.
 pub fn expiry_of(exptime: i64, now: Moment) -> Expiry
     ensures { result ≡ expiry_of exptime now }
 {
@@ -29,8 +30,10 @@ pub fn expiry_of(exptime: i64, now: Moment) -> Expiry
     }
 }
 
-/// Finds the moment of a flush with that delay, which is read as an exptime is. There is none if
-/// the delay is 0.
+/// Returns the moment of a flush with this delay, or `None` if the delay is 0.
+///
+/// The delay is read like an exptime: up to 30 days it counts from now, above that it is a Unix
+/// time.
 pub fn cut_after(delay: u64, now: Moment) -> Option<u64>
     ensures { result ≡ (if delay == 0 then None else Some (moment_named delay now)) }
 {
@@ -41,8 +44,10 @@ pub fn cut_after(delay: u64, now: Moment) -> Option<u64>
     }
 }
 
-/// Returns whether an item is dead at `now`: its expiry has come, or a flush at `cut` has come and
-/// it was updated before that.
+/// Returns whether an item is dead at `now`.
+///
+/// It is dead if its expiry has come, or if a flush at `cut` has come and the item was updated
+/// before `cut`.
 pub fn is_dead(expiry: Expiry, updated: Moment, cut: Option<u64>, now: Moment) -> bool
     ensures { result ≡ is_dead expiry updated cut now }
 {
@@ -59,7 +64,7 @@ fn is_expired(expiry: Expiry, now: Moment) -> bool
     }
 }
 
-/// Returns whether a flush at `cut` has come that an item was updated before.
+/// Returns whether a flush at `cut` has come and the item was updated before it.
 fn is_flushed(updated: Moment, cut: Option<u64>, now: Moment) -> bool
     ensures { result ≡ is_flushed updated cut now }
 {
@@ -69,8 +74,8 @@ fn is_flushed(updated: Moment, cut: Option<u64>, now: Moment) -> bool
     }
 }
 
-/// Finds the seconds that a number above 0 names: up to 30 days it counts from now, and above that
-/// it is a Unix time.
+/// Returns the moment of a number above 0: up to 30 days it counts from now, above that it is a
+/// Unix time.
 fn moment_named(number: u64, now: Moment) -> u64
     ensures { result ≡ moment_named number now }
 {

@@ -1,26 +1,28 @@
 //! Moments, clocks, and when an item's time is over.
 //!
 //! A cache has to know when an item is dead, and that is one rule: its expiry has come, or a flush
-//! has, and it was updated before that. The rule, and how an exptime is read, are memcached's
-//! (doc/protocol.txt, "Expiration times" and `flush_all`). They stand in a crate below all others,
-//! so that the plain store, the shelves and the definitions of the protocol have one of them.
+//! has come and the item was updated before it. This rule, and how an exptime is read, are
+//! memcached's (doc/protocol.txt, "Expiration times" and `flush_all`). They are in a crate below
+//! all others, so that the plain store, the shelves and the definitions of the protocol share them.
 //!
-//! A [`Moment`] is a number of seconds from 0 to 2^62, so that one to which up to 30 days are added
-//! still fits 64 bits. An [`Expiry`] is when an item expires, if it does: [`expiry_of`] finds it of
-//! an exptime, [`cut_after`] the moment of a flush of its delay, and [`is_dead`] is the rule. A
-//! [`Clock`] gives moments. Steps are handed the moment at which they are taken, and what serves is
-//! handed its clock, so that a test, and a program with `--now`, have one that stands ([`Fixed`]);
-//! the system's is [`SystemClock`], in Unix seconds. What was dead would live again if the system's
-//! clock is set back, so the program has a [`SteadyClock`] round it: it goes on with the monotonic
-//! clock then, and takes a step forward as it is.
+//! A [`Moment`] is a number of seconds from 0 to 2^62, so that a moment plus 30 days still fits 64
+//! bits. An [`Expiry`] is when an item expires, if it does: [`expiry_of`] computes it from an
+//! exptime, [`cut_after`] computes the moment of a flush from its delay, and [`is_dead`] is the
+//! rule. A [`Clock`] returns moments. A step takes its moment as an argument, and a server takes
+//! its clock, so tests and `--now` can use a clock that stands still ([`Fixed`]). [`SystemClock`]
+//! is the system's, in Unix seconds. If it is set back, dead items would live again, so the program
+//! wraps it in a [`SteadyClock`]: that goes on with the monotonic clock meanwhile, and follows a
+//! step forward at once.
 //!
-//! Contracts see a moment as its number, and of a clock which moments it may give: of [`Fixed`] its
-//! own alone, of the system's any. What a [`SteadyClock`] keeps is a [`ClockState`], and the law
-//! [`clock_never_goes_back`] says of each list of readings that its moments don't fall. Between
-//! threads the state is in atomics, whose values no contract knows: each call returns at least the
-//! moment that it found there.
+//! Contracts see a moment as its number, and a clock as the set of moments that it may return: for
+//! [`Fixed`] its own alone, for the system's any. A [`ClockState`] is what a [`SteadyClock`] keeps,
+//! and the law [`clock_never_goes_back`] says of each list of readings that its moments don't fall.
+//! Threads share the state in atomics, whose values no contract knows: each call returns at least
+//! the moment that it found there.
 //!
 //! Begin with `src/expiry.rt` and `specs/Death.antt`, then `src/steady.rt`.
+//!
+//! Tests: mc_session_tests, src/rows_tests.rt; mc_time_tests, src/steady_tests.rt.
 #![tactic(auto)]
 
 mod clock;

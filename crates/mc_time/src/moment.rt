@@ -38,7 +38,7 @@ impl Moment {
     /// The latest moment, 2^62 seconds.
     pub const LATEST: u64 = 1 << 62;
 
-    /// Makes the moment of that many seconds, 0 to 2^62.
+    /// Returns the moment of this number of seconds, 0 to 2^62.
     pub fn from_seconds(seconds: u64) -> Moment
         requires { seconds ≤ 2 ^ 62 }
         ensures { result ≡ seconds }
@@ -46,7 +46,7 @@ impl Moment {
         Moment { seconds }
     }
 
-    /// Makes the moment of that many seconds, or the latest if there are more.
+    /// Returns the moment of this number of seconds, or the latest moment if there are more.
     pub fn from_seconds_at_most(seconds: u64) -> Moment
         ensures { result ≡ min seconds (2 ^ 62) }
     {
@@ -55,7 +55,7 @@ impl Moment {
         }
     }
 
-    /// Gives its seconds, 0 to 2^62.
+    /// Returns its seconds, 0 to 2^62.
     pub fn seconds(self) -> u64
         ensures value { result ≡ self }
         ensures latest { result ≤ 2 ^ 62 }

@@ -11,10 +11,10 @@ use mc_time::{Expiry, Moment};
 use std::alloc::{AllocError, Global};
 use std::marker::Model;
 
-/// What an item's chunks hold beside its key and its block, in bytes.
+/// Bytes that an item's chunks hold beside its key and its block.
 const CHUNK_HEAD: u64 = 48;
 
-/// How many bytes a page has.
+/// Bytes of a page.
 const PAGE: u64 = 1 << 20;
 
 /// What the plain store keeps under a key.
@@ -51,7 +51,7 @@ pub(crate) struct Written {
     pub(crate) block: Block,
 }
 
-/// A write before its block is made. The block is one slice and then the other.
+/// A write before its block is made. The block is `front` followed by `back`.
 #[derive(Drop)]
 pub(crate) struct LentWrite<'a> {
     flags: u32,
@@ -74,21 +74,21 @@ impl<'a> Model for LentWrite<'a> {
 }
 
 impl<'a> LentWrite<'a> {
-    /// Finds the length of its block in bytes.
+    /// Returns the length of its block in bytes.
     fn len(&self) -> u64
         ensures { result ≡ length self.now.block }
     {
         self.front.len() as u64 + self.back.len() as u64
     }
 
-    /// Finds its charge under that key in bytes, or 2^64 - 1 if it is above that.
+    /// Returns its charge under a key in bytes, at most 2^64 - 1.
     pub(crate) fn charge(&self, key: &[u8]) -> u64
         ensures { result ≡ min (charge key.now self.now.block) (2 ^ 64 - 1) }
     {
         charge_of(key, self.len())
     }
 
-    /// Finds what it needs under that key; none if eight pages don't hold it.
+    /// Returns its need under a key, or `None` if eight pages are too few.
     pub(crate) fn need(&self, key: &[u8]) -> Option<Need>
         ensures value { result ≡ need_of (charge key.now self.now.block) }
         ensures is_need { IfSome result IsNeed }
@@ -96,7 +96,7 @@ impl<'a> LentWrite<'a> {
         mc_slab::need_of(self.charge(key))
     }
 
-    /// Makes its block.
+    /// Copies its block.
     pub(crate) fn make_block(&self, alloc: Global) -> Result<Written, AllocError>
         ensures { IfOk result (λ written. written ≡ self.now) }
     {
@@ -111,8 +111,7 @@ impl<'a> LentWrite<'a> {
     }
 }
 
-/// Lends the write of a draft, by the block that the step brings, that of the item that stands, and
-/// the digits of the number that it is counted to.
+/// Returns the write of a draft, given the step's block, the item's block and a number's digits.
 pub(crate) fn lend_write<'a>(
     draft: Draft,
     block: &'a [u8],
@@ -129,7 +128,7 @@ pub(crate) fn lend_write<'a>(
     }
 }
 
-/// Lends the write of a draft, whose block is one slice and then the other.
+/// Returns the write of a draft whose block is one slice and then the other.
 fn lend_slices<'a>(draft: Draft, front: &'a [u8], back: &'a [u8]) -> LentWrite<'a>
     ensures { result ≡ record {
       flags = draft.flags;
@@ -146,7 +145,7 @@ fn lend_slices<'a>(draft: Draft, front: &'a [u8], back: &'a [u8]) -> LentWrite<'
 }
 
 impl Item {
-    /// Makes the item of a write that drew this unique number at this moment.
+    /// Returns the item of a write with this unique number and this moment.
     pub(crate) fn of(written: Written, unique: u64, updated: Moment) -> Item
         ensures { result ≡ record {
           flags = written.flags;
@@ -165,15 +164,14 @@ impl Item {
         }
     }
 
-    /// Returns whether it is dead at `now`, where `cut` is the moment of the flush that waits or
-    /// has come.
+    /// Returns whether it is dead at `now`. `cut` is the moment of a pending or past flush.
     pub(crate) fn is_dead(&self, cut: Option<u64>, now: Moment) -> bool
         ensures { result ≡ death.is_dead self.now.expiry self.now.updated cut now }
     {
         mc_time::is_dead(self.expiry, self.updated, cut, now)
     }
 
-    /// Finds what it needs under that key; none if eight pages don't hold it.
+    /// Returns its need under a key, or `None` if eight pages are too few.
     pub(crate) fn need(&self, key: &[u8]) -> Option<Need>
         ensures value { result ≡ need_of (charge key.now self.now.block) }
         ensures is_need { IfSome result IsNeed }
@@ -181,7 +179,7 @@ impl Item {
         mc_slab::need_of(charge_of(key, self.bytes().len() as u64))
     }
 
-    /// Counts its chunks of the class under that key.
+    /// Returns the number of its chunks of the class under a key.
     pub(crate) fn chunks_in(&self, key: &[u8], class: Class) -> u64
         requires { IsClass class }
         ensures value { result ≡ chunks_in (item_need key.now self.now) class }
@@ -197,14 +195,14 @@ impl Item {
         self.block.bytes()
     }
 
-    /// Gives it another expiry. What else it has stays.
+    /// Sets its expiry. Everything else is unchanged.
     pub(crate) fn set_expiry(&mut self, expiry: Expiry)
         ensures { self.new ≡ record self.old { expiry = expiry } }
     {
         self.expiry = expiry;
     }
 
-    /// Makes the reply of a retrieval that finds it.
+    /// Returns the reply of a retrieval that finds it.
     pub(crate) fn hit(&self, alloc: Global) -> Result<Reply, AllocError>
         ensures { IfOk result
             (λ reply. reply ≡ Reply.Hit self.now.flags self.now.unique self.now.block) }
@@ -237,8 +235,7 @@ impl Standing for Item {
     }
 }
 
-/// Finds the charge in bytes of an item of that key and a block so long, or 2^64 - 1 if it is
-/// above that.
+/// Returns the charge in bytes of a key and a block of a length, at most 2^64 - 1.
 fn charge_of(key: &[u8], block_len: u64) -> u64
     ensures { result ≡ min (chunk_head + length key.now + block_len) (2 ^ 64 - 1) }
 {
@@ -247,8 +244,9 @@ fn charge_of(key: &[u8], block_len: u64) -> u64
         .saturating_add(block_len)
 }
 
-/// Counts the chunks of the class that an item has whose key and block are so long together. It
-/// holds of each length, since nothing bounds it here.
+/// Returns how many chunks of the class an item has, given the length of key and block together.
+///
+/// It is right for every length, since nothing bounds it here.
 fn chunks_of(len: u64, class: Class) -> u64
     requires class { IsClass class }
     requires len { len < 2 ^ 64 - 1 }
@@ -262,7 +260,7 @@ fn chunks_of(len: u64, class: Class) -> u64
     }
 }
 
-/// Counts the pages that hold an item whose key and block are so long together.
+/// Returns how many pages hold an item, given the length of key and block together.
 fn pages_for(len: u64) -> u64
     ensures value { result ≡ (chunk_head + len + 1048575) / 1048576 }
     ensures range { result ≤ 2 ^ 45 }

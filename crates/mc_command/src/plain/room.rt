@@ -1,6 +1,7 @@
-//! What room the plain store has: the chunks that its items have of a class against those of its
-//! pages, and the pages that are left. It counts them each time, so the cost grows with the number
-//! of items.
+//! The room of the plain store: the chunks of its classes' pages, less those of its items, and the
+//! pages left.
+//!
+//! It is counted each time, so the cost grows with the number of items.
 
 ghost use Rattle.std.specs.Prelude.{◌≡◌, ◌+◌, ◌-◌, ◌*◌, ◌^◌, ◌<◌, ◌≤◌, sum};
 ghost use Rattle.mc_slab.specs.Classes.{IsClass};
@@ -16,12 +17,11 @@ use mc_slab::{Class, Need};
 use mc_time::Moment;
 use std::collections::BTreeMap;
 
-/// How many classes there are.
+/// The number of classes.
 pub(crate) const CLASSES: usize = 40;
 
 impl PlainStore {
-    /// Returns whether the chunks of a need can be had, once the key's item is dropped if it is
-    /// dead.
+    /// Returns whether the chunks of a need are free, if the key's dead item is dropped first.
     pub(super) fn has_room(&self, key: &[u8], need: Need, now: Moment) -> bool
         ensures { result ≡ has_room (found key.now self.now now) need }
     {
@@ -29,15 +29,14 @@ impl PlainStore {
         u64::from(need.count()) <= self.unused_chunks(key, need.class(), now) + left
     }
 
-    /// Counts the pages that its class wants for a need, once the key's item is dropped if it is
-    /// dead.
+    /// Returns how many pages a need wants, if the key's dead item is dropped first.
     pub(super) fn pages_wanted(&self, key: &[u8], need: Need, now: Moment) -> u32
         ensures { result ≡ need.count - unused (found key.now self.now now) need.class }
     {
         u64::from(need.count()).saturating_sub(self.unused_chunks(key, need.class(), now)) as u32
     }
 
-    /// Gives the class so many pages more.
+    /// Gives the class `more` pages.
     pub(super) fn add_pages(&mut self, more: u32, class: Class)
         requires { more ≤ self.old.limit - sum self.old.pages }
         ensures { self.new ≡ paged more self.old class }
@@ -46,7 +45,7 @@ impl PlainStore {
         self.pages_in_use += more;
     }
 
-    /// Counts the pages that no class has.
+    /// Returns how many pages no class has.
     fn pages_left(&self) -> u32
         ensures value { result ≡ self.now.limit - sum self.now.pages }
         ensures range { result ≤ 65536 }
@@ -54,7 +53,7 @@ impl PlainStore {
         self.limit - self.pages_in_use
     }
 
-    /// Counts the chunks of the class's pages.
+    /// Returns how many chunks the class's pages have.
     fn chunks(&self, class: Class) -> u64
         ensures value { result ≡ chunks_of self.now class }
         ensures range { result ≤ 65536 * 10922 }
@@ -63,8 +62,7 @@ impl PlainStore {
         u64::from(self.pages[place(class)]) * u64::from(class.chunks_a_page())
     }
 
-    /// Counts the chunks of the class's pages that no item has, once the key's item is dropped if
-    /// it is dead.
+    /// Returns how many chunks of the class have no item, if the key's dead item is dropped first.
     fn unused_chunks(&self, key: &[u8], class: Class, now: Moment) -> u64
         ensures value { result ≡ unused (found key.now self.now now) class }
         ensures range { result ≤ 2 ^ 50 }
@@ -73,7 +71,7 @@ impl PlainStore {
         chunks_but(chunks, &self.items, class)
     }
 
-    /// Counts the chunks of the class that the key's dead item has, if no item stands under it.
+    /// Returns how many chunks of the class the key's item has, if it is dead, else 0.
     fn dead_chunks(&self, key: &[u8], class: Class, now: Moment) -> u64
         requires { IsClass class }
         ensures value { result ≡ of_class key.now
@@ -90,7 +88,7 @@ impl PlainStore {
     }
 }
 
-/// Counts the chunks that are left of so many of the class, once the items have theirs.
+/// Returns how many of `chunks` chunks of the class the items leave.
 fn chunks_but(chunks: u64, items: &BTreeMap<Vec<u8>, Item>, class: Class) -> u64
     requires { IsClass class }
     ensures { result ≡ chunks - count_of (items_of items.now.entries) class }
@@ -102,7 +100,7 @@ fn chunks_but(chunks: u64, items: &BTreeMap<Vec<u8>, Item>, class: Class) -> u64
     left
 }
 
-/// Finds a class's place among the classes, from 0.
+/// Returns a class's index, from 0.
 fn place(class: Class) -> usize
     ensures value { result ≡ class - 1 }
     ensures is_class { IsClass class }

@@ -1,5 +1,5 @@
-//! How the plain store writes: it finds out first whether the write can be made, and copies the
-//! block only then.
+//! How the plain store writes: it checks first whether the write can be made, and copies the block
+//! only then.
 
 ghost use Rattle.std.specs.Prelude.{◌≡◌, ◌≢◌, ◌≤◌, ◌-◌, ◌^◌, ◌==◌, ℕ, List, length, nat_lt, true, if◌then◌else◌, Some, None, IfSome, IsTrue, OnOk, OnErr};
 ghost use Rattle.std.specs.FinMap.{get};
@@ -18,19 +18,19 @@ use mc_slab::Need;
 use mc_time::Moment;
 use std::alloc::{AllocError, Global};
 
-/// What comes of a write, once it is known whether it can be made.
+/// The outcome of a write that was checked.
 #[derive(Drop)]
 pub(crate) enum Next {
-    /// Nothing is written, and this is answered.
+    /// Nothing is written; this is the reply.
     Answer(Reply),
-    /// It goes into the chunks of the item that stands, and this is answered.
+    /// The block goes into the chunks of the present item; this is the reply.
     Rewrite(Reply, Written),
-    /// It takes the chunks of that need, and this is answered.
+    /// The block takes the chunks of this need; this is the reply.
     Place(Reply, Need, Written),
 }
 
 impl PlainStore {
-    /// Writes what a row drafts, of the block that the step brings and the item that stands.
+    /// Writes what a row drafts, from the step's block and the present item, and returns the reply.
     pub(super) fn write(
         &mut self,
         alloc: Global,
@@ -51,7 +51,7 @@ impl PlainStore {
         self.finish(alloc, key, next, now)
     }
 
-    /// Finds what a write needs; none if its charge is above the greatest.
+    /// Returns what a write needs, or `None` if its charge is above the greatest.
     fn need_for(&self, key: &[u8], write: &LentWrite<'_>) -> Option<Need>
         ensures value { result ≡ (if nat_lt self.now.greatest (charge key.now write.now.block)
             then None else Some (block_need key.now write.now.block)) }
@@ -70,9 +70,10 @@ impl PlainStore {
         self.next_unique == u64::MAX
     }
 
-    /// Finds out what comes of a write, and makes its block if it can be made: its charge is not
-    /// too large, a unique number is left, and it has chunks. A write that `stays` goes into those
-    /// of the item that stands.
+    /// Checks a write, and copies its block if it can be made.
+    ///
+    /// It can be made if its charge isn't too large, a unique number is left, and there are chunks.
+    /// A write that `stays` uses the chunks of the present item.
     pub(super) fn prepare(
         &self,
         alloc: Global,
@@ -102,7 +103,8 @@ impl PlainStore {
         Ok(Next::Place(reply, need, write.make_block(alloc)?))
     }
 
-    /// Does what comes of a write. If nothing is written, the key's dead item is dropped.
+    /// Commits a checked write and returns its reply. If nothing is written it drops the key's dead
+    /// item.
     pub(super) fn finish(
         &mut self,
         alloc: Global,
@@ -129,8 +131,9 @@ impl PlainStore {
         }
     }
 
-    /// Writes in chunks of that need, in place of the key's old item, dead or not. Refused, it
-    /// changes nothing.
+    /// Writes into chunks of this need, in place of the key's old item, dead or not.
+    ///
+    /// An error changes nothing.
     fn put(
         &mut self,
         alloc: Global,
@@ -153,7 +156,7 @@ impl PlainStore {
         Ok(())
     }
 
-    /// Puts an item under a key, whatever stands there. Refused, it changes nothing.
+    /// Puts an item under a key, whatever is there. An error changes nothing.
     fn insert(&mut self, key: Vec<u8>, written: Written, now: Moment) -> Result<(), AllocError>
         requires { self.old.next_unique ≢ 2 ^ 64 - 1 }
         ensures ok { OnOk result (self.new ≡ rewritten written key.items self.old now) }
@@ -165,8 +168,7 @@ impl PlainStore {
         Ok(())
     }
 
-    /// Writes in the chunks of the item that stands under the key, which needs the same. It takes
-    /// no memory.
+    /// Writes into the chunks of the key's item, which has the same need. It takes no memory.
     fn put_in_place(&mut self, key: &[u8], written: Written, now: Moment)
         requires need { IsTrue (needs_this key.now (get self.old.items key.now)
             (block_need key.now written.block)) }
@@ -179,7 +181,7 @@ impl PlainStore {
     }
 }
 
-/// Tells the number that a write counts its item to, and 0 if it counts none.
+/// Returns the number that a write stores, and 0 if it isn't a count.
 fn number_in(body: Body) -> u64
     ensures { result ≡ number_in body }
 {
@@ -189,7 +191,7 @@ fn number_in(body: Body) -> u64
     }
 }
 
-/// Lends the block of what stands, and no bytes if nothing does.
+/// Lends the block of an item, and an empty one if there is none.
 fn block_in<'a>(item: Option<&'a Item>) -> &'a [u8]
     ensures { result.now ≡ block_in (option_copied item.entry) }
 {
@@ -199,8 +201,9 @@ fn block_in<'a>(item: Option<&'a Item>) -> &'a [u8]
     }
 }
 
-/// Returns whether a write stays in the chunks of the item that stands: one that counts it to a
-/// number that needs the same does.
+/// Returns whether a write stays in the chunks of the present item.
+///
+/// It does if it stores a counted number and has the same need.
 fn stays(body: Body, key: &[u8], item: Option<&Item>, write: &LentWrite<'_>) -> bool
     requires { length key.now ≤ longest_key }
     ensures { (block : List ℕ) →
@@ -216,7 +219,7 @@ fn stays(body: Body, key: &[u8], item: Option<&Item>, write: &LentWrite<'_>) -> 
     }
 }
 
-/// Returns whether two needs are there and ask for the same.
+/// Returns whether there are two needs and they are the same.
 fn are_same(one: Option<Need>, other: Option<Need>) -> bool
     ensures { result ≡ same_needs one other }
 {
