@@ -131,7 +131,7 @@ impl Feed {
 
     /// Passes over the unit that the unread bytes begin with, which `peek` found to be spelled by `len` bytes. The bytes
     /// that a fault passes over are dropped as they come. It takes no memory.
-    pub fn skip_unit(&mut self, len: usize)
+    pub fn done(&mut self, len: usize)
         requires { HasUnit self.old len }
         ensures { ReadsUnit self.old len self.new }
     {
@@ -168,7 +168,7 @@ impl Feed {
     }
 
     /// Counts the bytes of the stream that are held: the unread ones. Those that are passed over never are.
-    pub fn held_bytes(&self) -> usize
+    pub fn held(&self) -> usize
         ensures unread { result ≡ length self.now.bytes }
         ensures settled { IsSettled self.now }
         ensures passing { 0 < self.now.passed → result ≡ 0 }

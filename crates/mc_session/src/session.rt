@@ -169,7 +169,7 @@ impl Session {
     fn has_nothing_unread(&self) -> bool
         ensures { IsTrue result → NoTurnDue self.now }
     {
-        self.feed.held_bytes() == 0
+        self.feed.held() == 0
     }
 
     /// Goes on with what comes after a turn.
@@ -263,7 +263,7 @@ impl Session {
     /// Drops the first `n` bytes of the output, which were written. What is left is moved only
     /// if it is no longer than what was written, so that each byte that is written pays for one
     /// that is moved.
-    pub fn drop_sent(&mut self, n: usize)
+    pub fn sent(&mut self, n: usize)
         requires { n ≤ length self.old.out }
         ensures { self.new ≡ sent self.old n }
     {
