@@ -56,7 +56,7 @@ fn take_output(world: &mut World<Fnv>, sessions: u16) -> u64 {
     for session in 0..sessions {
         let number = u32::from(session) + 1;
         let len = world.out(number).len();
-        world.drop_sent(number, len);
+        world.sent(number, len);
         bytes = bytes.saturating_add(len as u64);
     }
     bytes

@@ -67,13 +67,13 @@ impl PlainStore {
         requires greatest { greatest ≤ 8388608 }
         ensures { IfOk result (λ store. store ≡ opening pages greatest) }
     {
-        PlainStore::with_next_number(alloc, pages, greatest, 1)
+        PlainStore::starting(alloc, pages, greatest, 1)
     }
 
     /// Makes an empty store whose first write uses the unique number `next`, at least 1.
     ///
     /// At 2^64 - 1 the numbers are used up. Otherwise it is as `new`.
-    pub fn with_next_number(
+    pub fn starting(
         alloc: Global,
         pages: u32,
         greatest: u64,

@@ -116,7 +116,7 @@ impl<L: Link + Drop> Guest<L> {
     pub(crate) fn give_up(&mut self) {
         self.session.close();
         let waiting = self.session.out().len();
-        self.session.drop_sent(waiting);
+        self.session.sent(waiting);
     }
 
     /// Counts the bytes of the unit that is read now, if its line announces a block, whether or not
@@ -176,7 +176,7 @@ impl<L: Link + Drop> Guest<L> {
                 if taken == 0 {
                     return Visit::Later;
                 }
-                self.session.drop_sent(taken);
+                self.session.sent(taken);
                 Visit::Wrote
             }
             Ok(Took::Later) => Visit::Later,

@@ -344,7 +344,7 @@ impl Item {
     }
 
     /// Returns when its block was last written.
-    pub fn updated_at(&self) -> Moment
+    pub fn updated(&self) -> Moment
         ensures { result ≡ self.now.updated }
     {
         updated_in(front(&self.chunks))

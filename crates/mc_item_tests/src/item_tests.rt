@@ -253,7 +253,7 @@ fn has_head(rt: &impl Abort, item: &Item, key: &[u8], numbers: Numbers) {
     assert_eq!(rt; item.flags(), numbers.flags);
     assert!(rt; item.expiry() == numbers.expiry);
     assert_eq!(rt; item.unique(), numbers.unique);
-    assert_eq!(rt; item.updated_at().seconds(), numbers.updated);
+    assert_eq!(rt; item.updated().seconds(), numbers.updated);
 }
 
 #[test]

@@ -151,7 +151,7 @@ impl Feed {
     /// Skips the first unit, for which `peek` returned the length `len`.
     ///
     /// Bytes that a fault skips are dropped as they arrive. It takes no memory.
-    pub fn skip_unit(&mut self, len: usize)
+    pub fn done(&mut self, len: usize)
         requires { HasUnit self.old len }
         ensures { ReadsUnit self.old len self.new }
     {
@@ -189,7 +189,7 @@ impl Feed {
     }
 
     /// Returns the number of unread bytes. Skipped bytes are never held.
-    pub fn held_bytes(&self) -> usize
+    pub fn held(&self) -> usize
         ensures unread { result ≡ length self.now.bytes }
         ensures settled { IsSettled self.now }
         ensures passing { 0 < self.now.passed → result ≡ 0 }

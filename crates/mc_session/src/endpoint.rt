@@ -81,7 +81,7 @@ impl<S: Steps> Endpoint<S> for Session {
     }
 
     fn wrote(&mut self, _store: &mut S, n: usize) {
-        self.drop_sent(n);
+        self.sent(n);
     }
 
     fn take_turn(&mut self, alloc: Global, store: &mut S, now: Moment) -> Result<Turn, AllocError> {

@@ -176,7 +176,7 @@ impl Session {
     fn has_nothing_unread(&self) -> bool
         ensures { IsTrue result → NoTurnDue self.now }
     {
-        self.feed.held_bytes() == 0
+        self.feed.held() == 0
     }
 
     /// Updates the session for what comes after a turn.
@@ -272,7 +272,7 @@ impl Session {
     ///
     /// The rest is moved only if it is no longer than what was written, so that each written byte
     /// pays for one moved byte.
-    pub fn drop_sent(&mut self, n: usize)
+    pub fn sent(&mut self, n: usize)
         requires { n ≤ length self.old.out }
         ensures { self.new ≡ sent self.old n }
     {

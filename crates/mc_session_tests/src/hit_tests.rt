@@ -240,7 +240,7 @@ fn a_refused_hit_decides_nothing(rt: HostRuntime) -> Result<(), Fail> {
 /// memory for it is refused the output stays as it was, and the hit is told again.
 fn parts_are_one_text(rt: &impl Abort, alloc: Global) -> Result<(), TurnFault> {
     let mut store = Lending {
-        store: PlainStore::with_next_number(alloc, 64, 1_048_576, 7)?,
+        store: PlainStore::starting(alloc, 64, 1_048_576, 7)?,
         telling: Telling::Again,
     };
     let set = "set a 5 0 5\r\n12\r\n3\r\n";

@@ -85,18 +85,18 @@ fn len_of(peek: Peek<'_>) -> Option<usize>
 /// Passes over the unit that the unread bytes begin with, and says how many bytes spelled it.
 fn pass_unit(feed: &mut Feed) -> Option<usize> {
     let len = len_of(feed.peek())?;
-    feed.skip_unit(len);
+    feed.done(len);
     Some(len)
 }
 
 /// Pushes a piece. Returns whether the feed was as before if that was refused, and pushes it then.
 fn push_at_last(feed: &mut Feed, piece: &[u8]) -> Result<bool, AllocError> {
-    let held = feed.held_bytes();
+    let held = feed.held();
     let found = len_of(feed.peek());
     if feed.push(piece).is_ok() {
         return Ok(true);
     }
-    let is_same = feed.held_bytes() == held && len_of(feed.peek()) == found;
+    let is_same = feed.held() == held && len_of(feed.peek()) == found;
     feed.push(piece)?;
     Ok(is_same)
 }
@@ -104,12 +104,12 @@ fn push_at_last(feed: &mut Feed, piece: &[u8]) -> Result<bool, AllocError> {
 /// Pushes a piece. Returns whether a refusal left the feed as it was, and this is found behind it, and so many bytes are held.
 fn takes(feed: &mut Feed, piece: &[u8], seen: Seen, held: usize) -> Result<bool, AllocError> {
     let is_same = push_at_last(feed, piece)?;
-    Ok(is_same && shows(feed.peek(), seen) && feed.held_bytes() == held)
+    Ok(is_same && shows(feed.peek(), seen) && feed.held() == held)
 }
 
 /// Passes over the first unit. Returns whether so many bytes spelled it, and so many are held then.
 fn passes(feed: &mut Feed, len: usize, held: usize) -> bool {
-    pass_unit(feed) == Some(len) && feed.held_bytes() == held
+    pass_unit(feed) == Some(len) && feed.held() == held
 }
 
 /// A text of two bytes.
@@ -149,12 +149,12 @@ impl Source for Well {
 /// Takes a piece from a source. Returns whether the feed and the source were as before if that was refused, and takes it
 /// then.
 fn take_at_last(feed: &mut Feed, well: &mut Well, room: usize) -> Result<bool, AllocError> {
-    let held = feed.held_bytes();
+    let held = feed.held();
     let left = well.left;
     if feed.push_from(well, room).is_ok() {
         return Ok(true);
     }
-    let is_same = feed.held_bytes() == held && well.left == left;
+    let is_same = feed.held() == held && well.left == left;
     feed.push_from(well, room)?;
     Ok(is_same)
 }
@@ -382,7 +382,7 @@ fn a_block_that_is_passed_over(rt: HostRuntime) -> Result<(), AllocError> {
     assert!(rt; passes(&mut feed, 9, 2) && shows(feed.peek(), Seen::More));
     assert!(rt; takes(&mut feed, b"it\r\n", Seen::Lone(Lone::Quit, 6), 6)?);
     feed.clear();
-    assert_eq!(rt; feed.held_bytes(), 0);
+    assert_eq!(rt; feed.held(), 0);
     Ok(())
 }
 
@@ -411,7 +411,7 @@ fn what_is_passed_over_of_a_source_is_never_held(rt: HostRuntime) -> Result<(), 
     let mut well = Well { left: 2097154 };
     for _ in 0..129 {
         assert!(rt; take_at_last(&mut feed, &mut well, 16384)?);
-        assert!(rt; feed.held_bytes() == 0 && feed.filled_bytes() == 0);
+        assert!(rt; feed.held() == 0 && feed.filled_bytes() == 0);
     }
     assert!(rt; takes(&mut feed, b"version\r\n", VERSION, 9)?);
     Ok(())
@@ -499,7 +499,7 @@ fn a_stream_in_pieces_of_one_byte(rt: HostRuntime) -> Result<(), AllocError> {
         let is_whole = pass_unit(&mut feed).is_some();
         assert!(rt; is_whole == lasts.contains(&place), "at {place}");
     }
-    assert_eq!(rt; feed.held_bytes(), 0);
+    assert_eq!(rt; feed.held(), 0);
     Ok(())
 }
 
@@ -512,7 +512,7 @@ fn the_longest_line_in_pieces(rt: HostRuntime) -> Result<(), AllocError> {
         assert!(rt; shows(feed.peek(), Seen::More));
         assert!(rt; push_at_last(&mut feed, &spaces)?);
     }
-    assert!(rt; feed.held_bytes() == 65536 && shows(feed.peek(), Seen::More));
+    assert!(rt; feed.held() == 65536 && shows(feed.peek(), Seen::More));
     assert!(rt; takes(&mut feed, b"\n", Seen::Lone(Lone::Version, 65537), 65537)?);
     Ok(())
 }

@@ -33,7 +33,7 @@ fn asked(store: &mut PlainStore, alloc: Global, step: KeyStep<'_>) -> Result<Rep
 /// A store of the greatest charge 100 that holds a number under `n`, for which it drew the last
 /// unique number.
 fn spent(alloc: Global) -> Result<PlainStore, Fail> {
-    let mut store = PlainStore::with_next_number(alloc, 64, 100, u64::MAX - 1)?;
+    let mut store = PlainStore::starting(alloc, 64, 100, u64::MAX - 1)?;
     if asked(&mut store, alloc, storing(Verb::Set, b"9")).is_err() {
         let _ = asked(&mut store, alloc, storing(Verb::Set, b"9"))?;
     }

@@ -236,7 +236,7 @@ fn keys_take_turns(rt: &impl Abort, alloc: Global) -> Result<(), AllocError> {
     );
     assert!(rt; reading.is_idle());
     assert!(rt; writing.out().len() == 32);
-    writing.drop_sent(8);
+    writing.sent(8);
     assert_eq!(rt; writing.out(), b"STORED\r\nSTORED\r\nSTORED\r\n".as_slice());
     writing.close();
     assert!(rt; writing.is_closed());
@@ -263,14 +263,14 @@ fn rests(rt: &impl Abort, alloc: Global) -> Result<(), AllocError> {
     session.feed(&[b'x'; 9000])?;
     turns(rt, alloc, &mut session, &mut store, "\r\n", 1)?;
     assert_eq!(rt; session.out().len(), 8);
-    session.drop_sent(8);
+    session.sent(8);
     assert!(rt; session.announced_bytes() == 0 && session.capacity() >= 9000);
     session.feed(b"get a b\r\n")?;
     assert_eq!(rt; session.key(), Some(b"a".as_slice()));
     turns(rt, alloc, &mut session, &mut store, "", 2)?;
     assert_eq!(rt; session.out().len(), 9023);
     assert!(rt; session.rest() >= 9023);
-    session.drop_sent(9023);
+    session.sent(9023);
     assert!(rt; session.rest() <= 4096 && session.capacity() <= 4096);
     Ok(())
 }
@@ -346,7 +346,7 @@ fn step_is_taken(
     let holds = match session.turn(alloc, &mut store, Moment::from_seconds(1000)) {
         Ok(_) => {
             assert!(rt; session.is_idle() && session.out().starts_with(b"ERROR\r\n"));
-            session.drop_sent(7);
+            session.sent(7);
             assert_eq!(rt; session.out(), text.as_bytes(), "at {command}");
             after
         }

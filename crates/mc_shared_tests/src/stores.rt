@@ -54,8 +54,8 @@ fn filled_store(alloc: Global, settings: Settings) -> Result<Store<Fnv>, StepFau
 
 /// An empty store whose next unique number is the last.
 pub(crate) fn last_store(alloc: Global) -> Result<Store<Fnv>, AllocError> {
-    match Store::with_next_number(alloc, SOME, Fnv, 18446744073709551614) {
-        Err(_) => Store::with_next_number(alloc, SOME, Fnv, 18446744073709551614),
+    match Store::starting(alloc, SOME, Fnv, 18446744073709551614) {
+        Err(_) => Store::starting(alloc, SOME, Fnv, 18446744073709551614),
         made => made,
     }
 }

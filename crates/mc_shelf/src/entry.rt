@@ -160,7 +160,7 @@ impl Entry {
     pub fn updated_at(&self) -> Moment
         ensures { result ≡ self.now.item.updated }
     {
-        self.item.updated_at()
+        self.item.updated()
     }
 
     /// Finds what its chunks serve.

@@ -69,12 +69,12 @@ impl<K: KeyHash + Drop> Store<K> {
         ensures hasher { IfOk result (λ store. store.hasher ≡ hasher) }
         ensures left { IfOk result (λ store. store.left ≡ replicate settings.shelves 0) }
     {
-        Store::with_next_number(alloc, settings, hasher, 1)
+        Store::starting(alloc, settings, hasher, 1)
     }
 
     /// Makes the same, whose first write draws the unique number `next`, at least 1. At 2^64 - 1 the
     /// numbers are spent. The one error is a refused allocation.
-    pub fn with_next_number(
+    pub fn starting(
         alloc: Global,
         settings: Settings,
         hasher: K,

@@ -41,8 +41,8 @@ fn open_at_the_last(alloc: Global) -> Result<Store<Fnv>, AllocError> {
         greatest: 1048576,
         shelves: 64,
     };
-    match Store::with_next_number(alloc, settings, Fnv, u64::MAX - 1) {
-        Err(_) => Store::with_next_number(alloc, settings, Fnv, u64::MAX - 1),
+    match Store::starting(alloc, settings, Fnv, u64::MAX - 1) {
+        Err(_) => Store::starting(alloc, settings, Fnv, u64::MAX - 1),
         made => made,
     }
 }

@@ -21,5 +21,6 @@ mod tending;
 mod worker;
 
 pub use counting::Counting;
+pub use mc_guests::{Got, Guest, Link, LinkFault, Links, Next, Took, Visit, WorkEnd, round};
 pub use mc_shared::{Gate, NoGate};
 pub use worker::{Worker, work};

@@ -168,7 +168,7 @@ fn a_tally_hears_of_sets_that_store_nothing(rt: HostRuntime) -> Result<(), Fail>
 /// What is heard of a set if the unique numbers are spent.
 fn heard_of_none(alloc: Global, way: Way) -> Result<Hearing, AllocError> {
     let heard = Heard::nothing();
-    let store = Store::with_next_number(alloc, SETTINGS, Fnv, 18446744073709551615)?;
+    let store = Store::starting(alloc, SETTINGS, Fnv, 18446744073709551615)?;
     let mut counting = Counting::new(store, &heard);
     take(
         &mut counting,

@@ -39,7 +39,7 @@ impl<K: KeyHash + Drop> Endpoint<World<K>> for Seat {
     }
 
     fn wrote(&mut self, world: &mut World<K>, n: usize) {
-        world.drop_sent(self.number, n);
+        world.sent(self.number, n);
     }
 
     fn take_turn(

@@ -134,7 +134,7 @@ impl Sessions {
             return;
         }
         if let Some(session) = self.list.get_mut((number - 1) as usize) {
-            session.drop_sent(n);
+            session.sent(n);
         }
     }
 

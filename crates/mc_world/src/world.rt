@@ -55,12 +55,12 @@ impl<K: KeyHash + Drop> World<K> {
           sessions = [];
         }) }
     {
-        World::with_next_number(alloc, settings, hasher, now, 1)
+        World::starting(alloc, settings, hasher, now, 1)
     }
 
     /// Makes the same, whose first write draws the unique number `next`, at least 1. At 2^64 - 1 the
     /// numbers are spent. The one error is a refused allocation.
-    pub fn with_next_number(
+    pub fn starting(
         alloc: Global,
         settings: Settings,
         hasher: K,
@@ -76,7 +76,7 @@ impl<K: KeyHash + Drop> World<K> {
           sessions = [];
         }) }
     {
-        let store = Store::with_next_number(alloc, settings, hasher, next)?;
+        let store = Store::starting(alloc, settings, hasher, next)?;
         Ok(World {
             parts: Parts::new(alloc, store, now),
         })
@@ -182,7 +182,7 @@ impl<K: KeyHash + Drop> World<K> {
     }
 
     /// Drops the first `n` bytes of a session's output, which were written.
-    pub fn drop_sent(&mut self, session: u32, n: usize)
+    pub fn sent(&mut self, session: u32, n: usize)
         requires { n ≤ length (output_of (numbered session self.old.sessions)) }
         ensures { self.new ≡ record self.old {
           sessions =

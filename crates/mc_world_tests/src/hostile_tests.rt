@@ -20,7 +20,7 @@ fn world_of_one_number(alloc: Global) -> Result<World<Fnv>, AllocError> {
         shelves: 64,
     };
     let now = Moment::from_seconds(1000);
-    let mut world = World::with_next_number(alloc, settings, Fnv, now, 18446744073709551614)?;
+    let mut world = World::starting(alloc, settings, Fnv, now, 18446744073709551614)?;
     run(&mut world, alloc, &[Event::Open])?;
     Ok(world)
 }

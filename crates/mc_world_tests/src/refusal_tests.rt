@@ -78,7 +78,7 @@ impl<K: KeyHash + Drop> Asker<K> {
         let out = self.world.out(self.session);
         assert!(rt; out == text, "another text");
         let written = out.len();
-        self.world.drop_sent(self.session, written);
+        self.world.sent(self.session, written);
     }
 
     /// Its session was refused and is closed with no text. Another one asks from then on.

@@ -23,7 +23,7 @@ pub(crate) fn tells<K: KeyHash + Drop>(rt: &impl Abort, world: &mut World<K>, ou
     assert!(rt; world.is_idle(1));
     is_told(rt, world, 1, output.as_bytes());
     let written = world.out(1).len();
-    world.drop_sent(1, written);
+    world.sent(1, written);
     assert!(rt; world.out(1).is_empty());
 }
 

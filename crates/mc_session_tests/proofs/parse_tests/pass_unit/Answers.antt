@@ -12,5 +12,5 @@ found_len greatest passed bytes len (Some (unit, n)) h e =
     let same : n ≡ len = cc in
     (unit, subst (λ k. IsSpelled greatest (unit, k) bytes) same h.1, h.0)
 
-pub skip_unit-requires : goal.skip_unit-requires
-skip_unit-requires c = found_len c.args.feed.now.greatest c.args.feed.now.passed c.args.feed.now.bytes _ (unit_of c.peek.result) c.peek.ensures.found (sym c.in_ok-len.was ∙ c.len_of.ensures)
+pub done-requires : goal.done-requires
+done-requires c = found_len c.args.feed.now.greatest c.args.feed.now.passed c.args.feed.now.bytes _ (unit_of c.peek.result) c.peek.ensures.found (sym c.in_ok-len.was ∙ c.len_of.ensures)

@@ -12,5 +12,5 @@ returns-else-taken-eq0-clause-writes g c =
     let t = subst (λ f. IsWrite (g.L.Link.shown c.self.inside.tap.link) bytes (Ok f) (g.L.Link.shown c.try_write.new.self)) c.in-Ok-Bytes.field-0-is c.in-Ok-Bytes.ensures.takes in
     let some : 0 < n = omega arith in
     writes_front _ _ n bytes (c.out.ensures ∙ ap (λ (s : GuestState). s.session.out) c.self.view_is) some t.0
-    (c.drop_sent.ensures ∙ ap (λ (s : GuestState). sent s.session n) c.self.view_is)
+    (c.sent.ensures ∙ ap (λ (s : GuestState). sent s.session n) c.self.view_is)
     (t.1 ∙ ap (λ (s : GuestState). took (asked false s.link) (take n bytes)) c.self.view_is)

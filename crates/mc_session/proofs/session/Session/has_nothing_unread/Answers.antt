@@ -5,4 +5,4 @@ use Rattle.mc_session.proofs.session.Session.has_nothing_unread.Goals as goal
 
 pub returns : goal.returns
 returns c = λ nothing.
-    rw (← c.self.view_is) (none_spelled c.self.inside.feed (sym c.held_bytes.ensures.unread ∙ eqb-true _ _ nothing))
+    rw (← c.self.view_is) (none_spelled c.self.inside.feed (sym c.held.ensures.unread ∙ eqb-true _ _ nothing))

@@ -2,7 +2,7 @@ use Rattle.std.proofs.Common.{refl}
 use Rattle.mc_shelf.proofs.PartLemmas.{are_kept, plain_is}
 use Rattle.mc_shelf.proofs.RangeLemmas.{some_shelf, divides_numbers}
 use Rattle.mc_shelf.proofs.StoreLemmas.{new_parts}
-use Rattle.mc_shelf.proofs.store.Store.with_next_number.Goals as goal
+use Rattle.mc_shelf.proofs.store.Store.starting.Goals as goal
 
 pub invariant_of-result : goal.invariant_of-result
 invariant_of-result g c =

@@ -1,6 +1,6 @@
 use Rattle.mc_world.proofs.Words.{List, subst, sym, SessionState, CanStand, state_of}
 use Rattle.mc_world.proofs.WorldLemmas.{sent_stands}
-use Rattle.mc_world.proofs.world.World.drop_sent.Goals as goal
+use Rattle.mc_world.proofs.world.World.sent.Goals as goal
 
 pub invariant_of-self : goal.invariant_of-self
 invariant_of-self g c = let old = state_of c.self.inside.parts in
