@@ -7,8 +7,10 @@ why it is refused. The environment may name JOBS, how many checks run side by si
 last line is `N passed, N failed`; the status is 0 where something passed and nothing failed.
 """
 import argparse
+import glob
 import os
 import queue
+import shutil
 import sys
 import tempfile
 import threading
@@ -53,6 +55,8 @@ class Run:
 
     def __init__(self, copy, room, given):
         self.copy, self.room, self.given = copy, room, given
+        # how many processors a check may use where there are fewer checks than processors
+        self.each = 1
         self.results = Results(copy)
         self.tasks, self.turn, self.number = queue.PriorityQueue(), threading.Lock(), 0
         self.crates = []
@@ -89,7 +93,7 @@ class Run:
 
     def judge(self, crate, found, begin, keep):
         """Judges bodies by one check. What it can't say of each goes into further checks."""
-        status, output = self.copy.check(crate.name, crate.sources.planted(found), begin, keep)
+        status, output = self.copy.check(crate.name, crate.sources.planted(found), self.each, begin, keep)
         said = bodies.verdicts(output, crate.name)
         if status not in (0, 1, 3) or not said and len(found) == 1:
             with self.turn:
@@ -105,7 +109,10 @@ class Run:
         again = []
         for body in found:
             is_refused, why = bodies.reason(body, crate.name, output)
-            if is_refused:
+            if f"{crate.name}::{body.function}" not in said:
+                with self.turn:
+                    crate.failed[body.name] = why
+            elif is_refused:
                 self.results.keep(crate.name, body, why)
                 with self.turn:
                     crate.refused[body.name] = why
@@ -127,13 +134,15 @@ class Run:
         kept = f", {crate.kept} of them by an earlier run" if crate.kept else ""
         checks = f", in {crate.seconds:.0f} s ({crate.rounds} check{'s' * (crate.rounds != 1)})" if crate.rounds else ""
         print(f"{crate.name}: {len(crate.refused)} wrong bodies refused{kept}, {len(crate.failed)} failed{checks}", flush=True)
+        for folder in glob.glob(f"{glob.escape(self.room)}/{crate.name}-*"):
+            shutil.rmtree(folder, ignore_errors=True)
 
     def begin(self, names):
         """Reads the wrong bodies of these crates, and adds the checks of those that weren't judged."""
         wanted = []
         for name in names:
             crate = Crate(name, self.copy)
-            found = crate.read(f"{ROOT}/crates/{name}/wrong", self.given.only)
+            found = crate.read(f"{self.copy.root}/crates/{name}/wrong", self.given.only)
             for body in [] if self.given.anew or self.given.only else found:
                 why = self.results.find(name, body)
                 if why is not None:
@@ -147,6 +156,7 @@ class Run:
         for crate, found in wanted:
             for part in crate.sources.rounds(found):
                 self.add(crate, part, self.copy.work(crate.name))
+        self.each = max(self.given.jobs // max(self.tasks.qsize(), 1), 1)
         for crate in self.crates:
             if not crate.left:
                 self.tell(crate)
@@ -157,7 +167,7 @@ def halves(found):
     return [found[:middle], found[middle:]]
 
 
-def main(words):
+def main(words, root=ROOT):
     parser = argparse.ArgumentParser(prog="python3 -m tests.wrong", description=__doc__, formatter_class=argparse.RawDescriptionHelpFormatter)
     parser.add_argument("crates", nargs="*", metavar="CRATE")
     parser.add_argument("--only", metavar="NAME")
@@ -167,7 +177,7 @@ def main(words):
     with tempfile.TemporaryDirectory(prefix="mcserver-wrong-") as room:
         os.mkdir(f"{room}/repository")
         try:
-            copy = Copy(ROOT, f"{room}/repository")
+            copy = Copy(root, f"{room}/repository")
             lacking = [it for it in given.crates if it not in copy.crates]
             if lacking:
                 raise Stopped(f"{lacking[0]} is no crate of crates.txt")

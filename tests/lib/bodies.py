@@ -23,6 +23,8 @@ LINE = re.compile(r"(?:\./)?proofs/(\S+)/(?:Answers|Invariants|Proof)\.antt:(\d+
 UNREAD = re.compile(r"(?:\./)?((?:src|specs)/\S+?):(\d+):\d+: error(?:\[|: (?!`[^`]*`: ))")
 # What is said of a proof that names what is there no more.
 GONE = re.compile(r"has no field|is not in scope|has no `|was not admitted|is no name|operand is missing|expected the end|cannot continue")
+# A goal of a function's end, whose name no change of a body changes.
+AT_END = re.compile(r"\(`returns(-clause-[\w-]+)?`\)")
 FALSE = "allow values at which this goal is false"
 HEAD = re.compile(r"(\s*)(?:pub(?:\([a-z]+\))? )?(?:const )?(?:unsafe )?fn (\w+)")
 
@@ -210,8 +212,8 @@ def verdict(told, goals, lines, is_gone):
     if told.startswith("proved"):
         return True, []
     if is_gone:
-        # the answers don't fit the body any more, so that a goal may be left for want of its answer
-        goals = [it for it in goals if FALSE in it or "-clause-" in it or "(`returns`)" in it]
+        # its answers name what is gone, so a goal of one branch may be open for want of an answer under another name
+        goals = [it for it in goals if FALSE in it or AT_END.search(it)]
     return False, [*goals, *lines]
 
 

@@ -83,16 +83,15 @@ class Copy:
             if self.rt.rtlib.text_of(f"{crate.folder}/out/rlib/stamp") != crate.stamp():
                 raise Stopped(f"{crate.name} changed while it was built: run this again")
 
-    def check(self, name, texts, begin=None, keep=None):
-        """Checks a crate with these texts in place of its own, and gives the status and the output. What it proves is kept in a folder, which begins
-        with another's content."""
-        if keep and begin:
+    def check(self, name, texts, jobs, begin, keep):
+        """Checks a crate with these texts in place of its own, and gives the status and the output. What it proves is kept in the folder `keep`,
+        which begins with what the folder `begin` holds, if there is one."""
+        if begin:
             with contextlib.suppress(OSError, shutil.Error):
                 self.rt.linked(begin, keep)
-        if keep:
-            os.makedirs(keep, exist_ok=True)
+        os.makedirs(keep, exist_ok=True)
         for _time in range(2):
-            ran = self.rt.checked(self.crates[name], texts, ["--jobs", "1"], keep)
+            ran = self.rt.checked(self.crates[name], texts, ["--jobs", str(jobs)], keep)
             # most likely for memory
             if ran.returncode != -signal.SIGKILL:
                 break
