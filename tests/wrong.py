@@ -1,10 +1,11 @@
 """Judges the wrong bodies of the crates: `python3 -m tests.wrong [CRATE..] [--only NAME] [--anew]`
 
 Each crate's wrong bodies (`crates/NAME/wrong/`) are planted at once in a copy of its sources, and one check must refuse each one's function for
-a reason of its own (lib/bodies.py). Bodies that change the same function, or more than bodies of functions, have a further check. What
-was refused is kept beside the toolchain, by the sums of all that it rests on; --anew judges all again. --only judges one alone, and says
-why it is refused. The environment may name JOBS, how many checks run side by side: as many as there are processors, where it doesn't. The
-last line is `N passed, N failed`; the status is 0 where something passed and nothing failed.
+a reason of its own (lib/bodies.py). Bodies that change the same function have a further check, and one that changes more than bodies of
+functions has one of its own. Each begins with the work of the one before. What was refused is kept beside the toolchain by the sums of all
+that it rests on, and is not judged again; --anew judges all. --only judges one alone. With a crate's name each reason is printed. The
+environment may name JOBS, how many checks run side by side: as many as there are processors, where it doesn't. The last line is
+`N passed, N failed`; the status is 0 where something passed and nothing failed.
 """
 import argparse
 import glob
@@ -29,8 +30,9 @@ class Crate:
         self.name, self.sources = name, bodies.Sources(copy.crates[name].folder)
         # the bodies that were refused, and why; those that weren't, and what is wrong
         self.refused, self.failed = {}, {}
-        self.kept, self.seconds, self.rounds = 0, 0.0, 0
-        self.left = 0
+        self.kept, self.seconds, self.checks = 0, 0.0, 0
+        # how many checks are to come, and the bodies of those that wait for the work of another
+        self.left, self.later = 0, []
 
     def read(self, folder, only):
         """The wrong bodies of a folder that can be planted."""
@@ -60,7 +62,6 @@ class Run:
         self.results = Results(copy)
         self.tasks, self.turn, self.number = queue.PriorityQueue(), threading.Lock(), 0
         self.crates = []
-        self.running = 0
 
     def add(self, crate, found, begin):
         """Adds a check of bodies, which begins with what a folder holds. Checks of long crates come first."""
@@ -78,23 +79,30 @@ class Run:
                     if not any(it.left for it in self.crates):
                         return
                 continue
-            began = time.monotonic()
+            began, keep = time.monotonic(), f"{self.room}/{crate.name}-{number}"
             try:
-                self.judge(crate, found, begin, f"{self.room}/{crate.name}-{number}")
+                self.judge(crate, found, begin, keep)
             except Exception as error:  # a fault of this program fails what it judges
                 with self.turn:
                     crate.failed.update({it.name: f"it couldn't be judged: {error!r}" for it in found})
+            if crate.later:
+                self.add(crate, crate.later.pop(0), keep if os.path.isdir(keep) else begin)
             with self.turn:
                 crate.left -= 1
-                crate.rounds += 1
+                crate.checks += 1
                 crate.seconds += time.monotonic() - began
                 if not crate.left:
                     self.tell(crate)
 
     def judge(self, crate, found, begin, keep):
         """Judges bodies by one check. What it can't say of each goes into further checks."""
-        status, output = self.copy.check(crate.name, crate.sources.planted(found), self.each, begin, keep)
+        only = [] if len(found) > 1 else ["--only", f"{crate.name}::{found[0].function}"]
+        status, output = self.copy.check(crate.name, crate.sources.planted(found), [*only, "--jobs", str(self.each)], begin, keep)
         said = bodies.verdicts(output, crate.name)
+        if status not in (0, 1, 3) and begin:
+            # what was kept may have changed while it was copied
+            self.add(crate, found, None)
+            return
         if status not in (0, 1, 3) or not said and len(found) == 1:
             with self.turn:
                 crate.failed.update({it.name: f"the check ended with status {status}: {bodies.complaint(output)}" for it in found})
@@ -132,7 +140,7 @@ class Run:
         for name, why in sorted(crate.failed.items()):
             print(f"{crate.name}/{name}: FAILED: {why}", flush=True)
         kept = f", {crate.kept} of them by an earlier run" if crate.kept else ""
-        checks = f", in {crate.seconds:.0f} s ({crate.rounds} check{'s' * (crate.rounds != 1)})" if crate.rounds else ""
+        checks = f", in {crate.seconds:.0f} s ({crate.checks} check{'s' * (crate.checks != 1)})" if crate.checks else ""
         print(f"{crate.name}: {len(crate.refused)} wrong bodies refused{kept}, {len(crate.failed)} failed{checks}", flush=True)
         for folder in glob.glob(f"{glob.escape(self.room)}/{crate.name}-*"):
             shutil.rmtree(folder, ignore_errors=True)
@@ -154,8 +162,9 @@ class Run:
             wanted.append((crate, found))
         self.copy.bring_libraries([crate.name for crate, found in wanted if found], self.given.jobs)
         for crate, found in wanted:
-            for part in crate.sources.rounds(found):
-                self.add(crate, part, self.copy.work(crate.name))
+            first, *crate.later = crate.sources.rounds(found) or [None]
+            if first:
+                self.add(crate, first, self.copy.work(crate.name))
         self.each = max(self.given.jobs // max(self.tasks.qsize(), 1), 1)
         for crate in self.crates:
             if not crate.left:
@@ -186,7 +195,7 @@ def main(words, root=ROOT):
         except Stopped as error:
             print(f"wrong bodies: {error}\n0 passed, 1 failed", flush=True)
             return 1
-        threads = [threading.Thread(target=run.work) for _ in range(given.jobs)]
+        threads = [threading.Thread(target=run.work, daemon=True) for _ in range(given.jobs)]
         for it in threads:
             it.start()
         for it in threads:

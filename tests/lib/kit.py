@@ -83,7 +83,7 @@ class Copy:
             if self.rt.rtlib.text_of(f"{crate.folder}/out/rlib/stamp") != crate.stamp():
                 raise Stopped(f"{crate.name} changed while it was built: run this again")
 
-    def check(self, name, texts, jobs, begin, keep):
+    def check(self, name, texts, flags, begin, keep):
         """Checks a crate with these texts in place of its own, and gives the status and the output. What it proves is kept in the folder `keep`,
         which begins with what the folder `begin` holds, if there is one."""
         if begin:
@@ -91,7 +91,7 @@ class Copy:
                 self.rt.linked(begin, keep)
         os.makedirs(keep, exist_ok=True)
         for _time in range(2):
-            ran = self.rt.checked(self.crates[name], texts, ["--jobs", str(jobs)], keep)
+            ran = self.rt.checked(self.crates[name], texts, flags, keep)
             # most likely for memory
             if ran.returncode != -signal.SIGKILL:
                 break
