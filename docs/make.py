@@ -94,7 +94,7 @@ def calls(crate):
 
 def edits(crate, functions):
     """The wrong bodies that a crate must refuse, each with the function that it changes."""
-    for path in sorted((ROOT / f"crates/{crate}/must-fail").glob("*.edit")):
+    for path in sorted((ROOT / f"crates/{crate}").glob("*/*.edit")):
         text = path.read_text(encoding="utf-8")
         file, old = (re.search(rf"^{word}: ?(.*)$", text, re.M).group(1) for word in ("file", "old"))
         lines = read(f"crates/{crate}/{file.strip()}").splitlines()
@@ -243,6 +243,10 @@ def lost(path, words):
     for span in re.findall(r"`([^`\n]+)`", text):
         if re.fullmatch(r"[\w.-]+(/[\w.-]+)+/?", span) and re.search(r"\.\w+$|/$", span) and not re.search(r"[XA-Z]{4}|\bX|out/", span):
             if not any((place / span).exists() for place in PLACES):
+                yield f"{path}: there is no {span}"
+        elif found := re.fullmatch(r"(mc_\w+_tests|mc_sockets)/(\w+)(?:: (\w+))?", span):
+            test = ROOT / f"crates/{found[1]}/src/{found[2]}.rt"
+            if not test.exists() or (found[3] and found[3] not in test.read_text(encoding="utf-8")):
                 yield f"{path}: there is no {span}"
         elif path in INSIDE and re.fullmatch(r"[A-Za-z_][\w:]*(\(\))?", span):
             yield from (f"{path}: nothing is named {word}" for word in re.findall(r"\w+", span) if word not in words | OTHERS)
