@@ -163,7 +163,7 @@ def made_libraries():
 def made_tcp(short=""):
     """The table of the stored run: all of it, or the workloads that README.md shows."""
     it = json.loads(read(RUN))
-    text = f"Run of {it['date']}, commit `{it['commit']}`, {it['machine']}, {it['memcached']}: `{it['command']}`.\n\n"
+    text = f"Run of {it['date']}, commit `{it['commit']}`, {it['machine']}, {it['memcached']}:\n`{it['command']}`.\n\n"
     text += "| Workload | Requests/s, memcached | mcserver | Ratio | CPU us a request, memcached | mcserver | Ratio | p99 ratio |\n"
     text += "|---|--:|--:|--:|--:|--:|--:|--:|\n"
     for row in (row for row in it["rows"] if not short or row["title"] in SHOWN):
