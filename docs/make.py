@@ -37,7 +37,7 @@ LIBRARIES = {
 # Of these documents the names in code spans are looked up, too; the others name what clients and systems have.
 INSIDE = ("README.md", "CONTRIBUTING.md", *(f"docs/{name}.md" for name in "ARCHITECTURE DECISIONS FIRST-CHANGE GAPS PROVING THEOREM".split()))
 # Words in code spans that no source of this repository has: those of the system, of other programs, and of examples.
-OTHERS = set("""mn MN mc_x mc_y touchif mapped""".split())
+OTHERS = set("""mn MN NM mc_x mc_y touchif mapped""".split())
 # Where a path in a code span may begin.
 PLACES = [ROOT, ROOT / "docs", ROOT / "tests", ROOT / "crates", *sorted((ROOT / "crates").iterdir())]
 # What a cell of a table can't have.
