@@ -44,7 +44,7 @@ PLACES = [ROOT, ROOT / "docs", ROOT / "tests", ROOT / "crates", *sorted((ROOT / 
 CELL = str.maketrans({"|": "\\|", "<": "&lt;"})
 FUNCTION = re.compile(r"^( *)(pub(?:\([\w ]+\))? )?(?:const |unsafe )*fn (\w+)")
 OWNER = re.compile(r"^(?:pub(?:\([\w ]+\))? )?(?:unsafe )?(?:impl(?:<[^{]*?>)? (?:([\w:]+)(?:<.*>)? for )?(\w+)|trait (\w+))")
-DEFINITION = re.compile(r"^ *(?:abbrev |unfoldable |pub )*(?:data |record )?([^\s:{(]+)(?= .*:|$)")
+DEFINITION = re.compile(r"^ *(?:pub )?(?:abbrev|unfoldable|data|record) (?:pub )?([^\s:{(]+)")
 
 
 def read(path):
@@ -134,8 +134,7 @@ def list_definitions():
         for path in sorted((ROOT / f"crates/{crate}/specs").glob("*.antt")):
             lines = path.read_text(encoding="utf-8").splitlines()
             rows = [f"- `{found[1]}` (line {at + 1}) {comment_above(lines, at, '--')}\n" for at, line in enumerate(lines)
-                    for found in [DEFINITION.match(line)] if found and re.match(r" *(abbrev|unfoldable|pub |data|record)", line)
-                    and not re.match(r" *pub (mod|use) | {4}pub ", line)]
+                    for found in [DEFINITION.match(line)] if found and not re.match(r" *pub (mod|use) ", line)]
             text += f"\n## {crate}/specs/{path.name}\n\n{''.join(rows)}" if rows else ""
     return text
 
