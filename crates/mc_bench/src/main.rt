@@ -25,6 +25,8 @@
 //!   hits one at a time, none begun before the one before has ended, and `misses`, of keys that have none. WITHIN is `index`, which is
 //!   the shelves' indexes by themselves, or `store`, which is whole gets. What is printed is a line for each window: its kind, how many
 //!   keys were found, and the processor's nanoseconds.
+//!
+//! Tests: none.
 #![tactic(auto)]
 
 mod asked;

@@ -214,8 +214,8 @@ impl Desk {
 
     /// Gives a need's class the pages that it wants once `back` chunks were given back.
     ///
-    /// There must be room for the need then, else it fails. `pages` are used if they are enough and
-    /// of the class. An error leaves the desk unchanged.
+    /// There must be room for the need. `pages` are used if they are enough and of the class. An
+    /// error leaves the desk unchanged.
     pub(crate) fn ready(
         &mut self,
         alloc: Global,
