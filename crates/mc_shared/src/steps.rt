@@ -66,7 +66,7 @@ pub(crate) fn word_in(shelves: usize, number: usize) -> usize
     (shelves + 1) * APART + number % shelves * (NUMBERS / shelves + APART) + number / shelves
 }
 
-/// Takes a bay as `take` does, for a store that began as `B` says.
+/// Takes a bay as `take` does, for a store that began as `B` has it.
 fn take_as<B: Takes, K: KeyHash + Drop>(
     board: &Board<K>,
     seat: &mut Seat,
