@@ -62,7 +62,7 @@ def main():
     os.chdir(settings.ROOT)
     for name in settings.NAMES:
         os.environ.pop(name, None)
-    # else `rt ci` lets large checks wait for memory that they don't use (docs/GATE.md)
+    # else `rt ci` lets large checks wait for memory that they don't use (CONTRIBUTING.md)
     os.environ.setdefault("RT_JOBS", str(len(os.sched_getaffinity(0))))
     before = {program: written(program) for _, program, _ in STAGES}
     counts = [command("gate", ["rt", "ci"])]
