@@ -1,18 +1,21 @@
-"""The clients that are installed here, each in a script that uses it as its documentation does.
+"""The clients that are installed here, each in a script that uses it as its documentation does, against the program and against
+memcached, if that is installed.
 
 Nothing is installed: what lacks a package is named and not run. Each script (in clients/) gets a server of its own and three
 ports of 127.0.0.1: the server's; one whose connections are taken and never answered; and one where a line `restart`
-kills the server and starts it anew on its port, which `done` answers. It prints what it ran, its last line is
+kills the server and starts it anew on its port, which `done` answers. The environment's SERVER is `memcached` or `mcserver`: where
+docs/CLIENTS.md says that a client sees something else here, the script expects what it says. It prints what it ran, its last line is
 `N passed, M failed`, and its status is 0 where something passed and nothing failed.
 """
 import os
+import shutil
 import signal
 import socket
 import subprocess
 import threading
 
 from tests.lib.case import ProgramCase
-from tests.lib.server import HOST, Server
+from tests.lib.server import HOST, Server, is_memcached
 from tests.lib.server import SECONDS as START_SECONDS
 
 HERE = f"{os.path.dirname(os.path.realpath(__file__))}/clients"
@@ -20,13 +23,15 @@ HERE = f"{os.path.dirname(os.path.realpath(__file__))}/clients"
 SECONDS = 120
 # Debian's modules belong to its own python3, whichever comes first on the path.
 PYTHON = "/usr/bin/python3"
+MEMCACHED = shutil.which("memcached")
+GO_SOURCES, SPYMEMCACHED = "/usr/share/gocode", "/usr/share/java/spymemcached.jar"
 
 
 class Bench:
     """A server that can be restarted, a port that never answers, and the port that restarts it."""
 
-    def __init__(self):
-        self.server = Server()
+    def __init__(self, program):
+        self.program, self.server = program, Server(program)
         self.silent = socket.create_server((HOST, 0))
         self.control = socket.create_server((HOST, 0))
         self.ports = [str(port) for port in (self.server.port, self.silent.getsockname()[1], self.control.getsockname()[1])]
@@ -44,7 +49,7 @@ class Bench:
                 if asking.recv(64).strip() == b"restart":
                     self.server.kill()
                     self.server.close()
-                    self.server = Server(port=self.server.port)
+                    self.server = Server(self.program, port=self.server.port)
                     asking.sendall(b"done\n")
 
     def __enter__(self):
@@ -59,19 +64,30 @@ class Bench:
 class Clients(ProgramCase):
     """Each test names the packages, a command that prints the client's version where it is there, and its script."""
 
-    def uses(self, packages, version, words):
+    def uses(self, packages, version, words, **environment):
         told = self.version_of(version)
         if told is None:
             self.skipTest(f"it wants {packages}")
         print(f"    {packages}: {told}", flush=True)
-        with Bench() as bench:
+        for program in self.programs():
+            with self.subTest(program=program):
+                self.runs_with(program, words, environment)
+
+    def programs(self):
+        """The program, and memcached, if it is installed and isn't the program."""
+        return [self.program, *([MEMCACHED] if MEMCACHED and not is_memcached(self.program) else [])]
+
+    def runs_with(self, program, words, environment):
+        """Runs a script against a server of its own."""
+        name = "memcached" if is_memcached(program) else "mcserver"
+        with Bench(program) as bench:
             script = subprocess.Popen(
                 [*words, *bench.ports], cwd=HERE, stdin=subprocess.DEVNULL, stdout=subprocess.PIPE,
-                stderr=subprocess.STDOUT, text=True, start_new_session=True,
+                stderr=subprocess.STDOUT, text=True, start_new_session=True, env={**os.environ, **environment, "SERVER": name},
             )
             wrote = self.written(script, bench)
             self.assertTrue(bench.server.runs(), f"the server had ended\n{wrote}")
-        print("".join(f"    {line}\n" for line in wrote.splitlines()), end="", flush=True)
+        print(f"    with {name}\n", *(f"        {line}\n" for line in wrote.splitlines()), sep="", end="", flush=True)
         self.assertEqual(0, script.returncode, f"the script's status; it had {SECONDS} seconds\n{wrote}")
         self.assertRegex(wrote, r"(^|\n)[1-9]\d* passed, 0 failed\n$")
 
@@ -104,9 +120,13 @@ class Clients(ProgramCase):
     def uses_perl(self, package, module, script):
         self.uses(package, ["perl", f"-M{module}", "-e", f"print ${module}::VERSION"], ["perl", script])
 
-    def uses_php(self, package, extension, script):
+    def uses_php(self, package, extension, script, *words):
         version = f'extension_loaded("{extension}") || exit(1); echo phpversion("{extension}");'
-        self.uses(f"php-cli {package}", ["php", "-r", version], ["php", script])
+        self.uses(f"php-cli {package}", ["php", "-r", version], ["php", script, *words])
+
+    def uses_django(self, package, module, backend):
+        version = f"import django, {module}; print(django.__version__, {module}.__version__)"
+        self.uses(f"python3-django {package}", [PYTHON, "-c", version], [PYTHON, "use_django.py", backend])
 
     def test_pymemcache(self):
         self.uses_python("python3-pymemcache", "pymemcache", "use_pymemcache.py")
@@ -132,3 +152,36 @@ class Clients(ProgramCase):
 
     def test_php_memcache(self):
         self.uses_php("php-memcache", "memcache", "use_memcache.php")
+
+    def test_php_sessions_by_memcached(self):
+        self.uses_php("php-memcached", "memcached", "use_sessions.php", "memcached")
+
+    def test_php_sessions_by_memcache(self):
+        self.uses_php("php-memcache", "memcache", "use_sessions.php", "memcache")
+
+    def test_django_pymemcache(self):
+        self.uses_django("python3-pymemcache", "pymemcache", "PyMemcacheCache")
+
+    def test_django_pylibmc(self):
+        self.uses_django("python3-pylibmc", "pylibmc", "PyLibMCCache")
+
+    def test_django_python_memcached(self):
+        self.uses_django("python3-memcache", "memcache", "MemcachedCache")
+
+    def test_flask_caching(self):
+        version = "import flask_caching, pylibmc; print(flask_caching.__version__)"
+        self.uses("python3-flask-caching python3-pylibmc", [PYTHON, "-c", version], [PYTHON, "use_flask_caching.py"])
+
+    def test_nginx(self):
+        version = "PATH=$PATH:/usr/sbin nginx -v 2>&1 | sed -n 's|.*nginx/||p' | grep ."
+        self.uses("nginx-light", ["sh", "-c", version], [PYTHON, "use_nginx.py"])
+
+    def test_gomemcache(self):
+        version = f"test -d {GO_SOURCES}/src/github.com/bradfitz/gomemcache && go version | cut -d' ' -f3"
+        words = ["go", "run", "use_gomemcache.go"]
+        self.uses("golang-go golang-github-bradfitz-gomemcache-dev", ["sh", "-c", version], words, GO111MODULE="off", GOPATH=GO_SOURCES)
+
+    def test_spymemcached(self):
+        version = f"test -e {SPYMEMCACHED} && javac -version"
+        words = ["java", "-cp", SPYMEMCACHED, "UseSpymemcached.java"]
+        self.uses("default-jdk-headless libspymemcached-java", ["sh", "-c", version], words)

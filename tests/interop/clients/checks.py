@@ -1,9 +1,12 @@
 """What the clients' scripts in Python share: calls that are made as they are written, and what each is to give."""
+import os
 import socket
 import sys
 
 HOST = "127.0.0.1"
 SECONDS = 10
+# Whether the server is memcached, and not the program.
+IS_MEMCACHED = os.environ.get("SERVER") == "memcached"
 
 
 class Checks:
