@@ -24,6 +24,8 @@ SECONDS = 120
 # Debian's modules belong to its own python3, whichever comes first on the path.
 PYTHON = "/usr/bin/python3"
 MEMCACHED = shutil.which("memcached")
+# Prints the version of a package of Debian, if it is installed.
+INSTALLED = "dpkg-query -W -f '${{db:Status-Status}} ${{Version}}' {0} | sed -n 's/^installed //p' | grep ."
 GO_SOURCES, SPYMEMCACHED = "/usr/share/gocode", "/usr/share/java/spymemcached.jar"
 
 
@@ -177,11 +179,11 @@ class Clients(ProgramCase):
         self.uses("nginx-light", ["sh", "-c", version], [PYTHON, "use_nginx.py"])
 
     def test_gomemcache(self):
-        version = f"test -d {GO_SOURCES}/src/github.com/bradfitz/gomemcache && go version | cut -d' ' -f3"
+        version = "go version > /dev/null && " + INSTALLED.format("golang-github-bradfitz-gomemcache-dev")
         words = ["go", "run", "use_gomemcache.go"]
         self.uses("golang-go golang-github-bradfitz-gomemcache-dev", ["sh", "-c", version], words, GO111MODULE="off", GOPATH=GO_SOURCES)
 
     def test_spymemcached(self):
-        version = f"test -e {SPYMEMCACHED} && javac -version"
+        version = "javac -version > /dev/null && " + INSTALLED.format("libspymemcached-java")
         words = ["java", "-cp", SPYMEMCACHED, "UseSpymemcached.java"]
         self.uses("default-jdk-headless libspymemcached-java", ["sh", "-c", version], words)

@@ -108,6 +108,7 @@ public class UseSpymemcached {
         Logger.getLogger("net.spy").setLevel(Level.OFF);
         System.setProperty("net.spy.log.LoggerImpl", "net.spy.memcached.compat.log.SunLogger");
         int port = Integer.parseInt(words[0]), silent = Integer.parseInt(words[1]), control = Integer.parseInt(words[2]);
+        boolean isMemcached = "memcached".equals(System.getenv("SERVER"));
         MemcachedClient c = clientOf(port, 5000);
         Map<String, Object> many = new HashMap<>();
         for (int i = 0; i < 500; i++) {
@@ -192,6 +193,11 @@ public class UseSpymemcached {
         gives("getVersions()", () -> c.getVersions().values().iterator().next().startsWith("1.6."), true);
         gives("flush()", () -> c.flush().get(), true);
         gives("get(kept)", () -> c.get("kept"), null);
+
+        about("getStats, after which it connects again where there are no stats");
+        gives("set(kept)", () -> c.set("kept", 0, "y").get(), true);
+        gives("getStats()", () -> c.getStats().values().iterator().next().isEmpty(), !isMemcached);
+        gives("get(kept)", () -> comes(() -> c.get("kept"), "y"), true);
 
         about("after the server was killed and started anew");
         gives("restart()", () -> restart(control), "done");

@@ -39,6 +39,7 @@ $many = [];
 for ($i = 0; $i < 1000; $i++) {
     $many["many:$i"] = "value $i " . str_repeat('x', $i % 200);
 }
+$isMemcached = getenv('SERVER') === 'memcached';
 $check = new Checks(compact('memcache', 'port', 'silent', 'control', 'many'));
 
 $check->about('set, get, delete, add, replace, append, prepend');
@@ -89,6 +90,17 @@ $check->about('expiry');
 $check->gives('$memcache->set("brief", "x", 0, 1) && $memcache->set("kept", "y", 0, 100)', true);
 $check->gives('usleep(2200000) || $memcache->get("brief")', false);
 $check->gives('$memcache->get("kept")', 'y');
+
+// It sends -1 as 4294967295, a moment of 2106, which memcached takes for one that is past. 2592001 is one of January 1970 to both.
+$check->about('expiries that are past');
+$check->gives('$memcache->set("past", "x", 0, -1) ? $memcache->get("past") : null', $isMemcached ? false : 'x');
+$check->gives('$memcache->set("past", "x", 0, 2592001) ? $memcache->get("past") : null', false);
+
+$check->about('getStats, after which it asks a server that has no stats for nothing more for 15 seconds');
+$check->names['asking'] = clientOf($port);
+$check->gives('is_array(@$asking->getStats())', $isMemcached);
+$check->gives('@$asking->get("kept")', $isMemcached ? 'y' : false);
+$check->gives('clientOf($port)->get("kept")', 'y');
 
 $check->about('flush');
 $check->gives('$memcache->flush()', true);

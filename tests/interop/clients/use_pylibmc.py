@@ -116,6 +116,12 @@ check.gives("mc.touch('none', 100)", False)
 check.gives("time.sleep(2.2) or mc.get('brief')", None)
 check.gives("mc.get('kept')", "y")
 
+# It sends -1 as 4294967295, a moment of 2106, which memcached takes for one that is past. 2592001 is one of January 1970 to both.
+check.about("expiries that are past")
+check.gives("mc.set('past', 'x', time=-1) and mc.get('past')", None if checks.IS_MEMCACHED else "x")
+check.gives("mc.set('past', 'x', time=2592001) and mc.get('past')", None)
+check.gives("mc.set('past', 'x', time=100) and mc.touch('past', -1) and mc.get('past')", None)
+
 check.about("requests that don't block, and noreply")
 check.names["unblocked"] = client_of(no_block=True)
 check.is_true("all(unblocked.set(f'b{i}', i) for i in range(500))")
