@@ -11,9 +11,12 @@ DOC = $(DESTDIR)$(PREFIX)/share/doc/mcserver
 UNITS = $(DESTDIR)$(PREFIX)/lib/systemd/system
 USER_UNITS = $(DESTDIR)$(PREFIX)/share/systemd/user
 DEFAULTS = $(DESTDIR)/etc/default
-DOCS = LICENSE CHANGELOG.md docs/OPERATING.md docs/PROTOCOL.md docs/CLIENTS.md docs/SCALING.md
+DOCS = CHANGELOG.md docs/OPERATING.md docs/PROTOCOL.md docs/CLIENTS.md docs/SCALING.md docs/CONTAINERS.md
+SHIPPED = LICENSE packaging/prometheus/alerts.yml packaging/prometheus/dashboard.json
 # Where the prefix is below a home, nothing of the system's is touched: of units there is at most the user's own.
 IN_HOME = $(filter $(HOME)/% /home/% /root/%,$(PREFIX)/)
+# Where the package of Debian goes.
+PACKAGES ?= out
 # The program's own version, as --version prints it.
 VERSION = $(shell sed -n 's/^const VERSION: .*"\([0-9.]*\) .*/\1/p' crates/mc_options/src/options.rt)
 ARGS ?=
@@ -21,7 +24,7 @@ JOBS ?= $(shell nproc)
 MINUTES ?= 30
 
 .PHONY: build try bench-build run test check crate rows history fmt bench bench-tcp bench-waiting clean
-.PHONY: docs docs-check where test-clients test-scaling test-metrics soak man install uninstall deb is-built thin
+.PHONY: docs docs-check where test-clients test-scaling test-metrics test-package test-containers soak man install uninstall deb is-built thin
 
 # Proves the program and what is below it, and builds it (build.py tells how far it is). It is run once, for --help, which ends it at once. What is
 # said goes to standard error, so that `make run` writes what the program writes alone. Beside the program it notes what it was built of.
@@ -105,9 +108,18 @@ test-clients: $(SERVED)
 test-scaling: $(SERVED)
 	@PROGRAM=$(PROGRAM) /usr/bin/python3 -m tests interop -p test_scaling.py
 
-# What --metrics tells, by promtool and a Prometheus that scrapes it, where Debian's package prometheus is installed.
+# What --metrics tells, and the rules and the dashboard that are shipped, by promtool and a Prometheus that scrapes it, where Debian's
+# package prometheus is installed.
 test-metrics: $(SERVED)
 	@PROGRAM=$(PROGRAM) /usr/bin/python3 -m tests interop -p test_prometheus.py
+
+# The package: two builds make the same bytes, lintian has nothing to say, and a purge leaves nothing. It wants debhelper, lintian and root.
+test-package: $(SERVED)
+	@PROGRAM=$(PROGRAM) /usr/bin/python3 -m tests interop -p test_package.py
+
+# The image of packaging/Dockerfile, by its steps: it ends within a second of TERM, and answers its probes. It wants tini and unshare.
+test-containers: $(SERVED)
+	@PROGRAM=$(PROGRAM) /usr/bin/python3 -m tests interop -p test_containers.py
 
 # Mixed load, whose answers are all checked, while memory and descriptors are watched: make soak MINUTES=30
 soak: $(SERVED)
@@ -126,11 +138,12 @@ install: is-built
 	install -d $(BIN) $(MAN) $(DOC)
 	install -m 755 $(PROGRAM) $(BIN)/mcserver
 	install -m 644 man/mcserver.1 $(MAN)/mcserver.1
-	install -m 644 $(DOCS) $(DOC)
+	for it in $(DOCS); do sed -f packaging/installed.sed $$it > $(DOC)/$${it##*/} && chmod 644 $(DOC)/$${it##*/} || exit 1; done
+	install -m 644 $(SHIPPED) $(DOC)
 	test ! -f $(dir $(PROGRAM))BUILD || install -m 644 $(dir $(PROGRAM))BUILD $(DOC)/BUILD
 ifeq ($(IN_HOME),)
 	install -d $(UNITS) $(DEFAULTS)
-	sed 's|/usr/local/bin/|$(PREFIX)/bin/|' mcserver.service > $(UNITS)/mcserver.service
+	sed 's|/usr/local/bin/|$(PREFIX)/bin/|g' mcserver.service > $(UNITS)/mcserver.service
 	sed -f packaging/instance.sed $(UNITS)/mcserver.service > $(UNITS)/mcserver@.service
 	chmod 644 $(UNITS)/mcserver.service $(UNITS)/mcserver@.service
 	test -e $(DEFAULTS)/mcserver || install -m 644 packaging/mcserver.default $(DEFAULTS)/mcserver
@@ -155,9 +168,9 @@ endif
 thin:
 	@rm -rf crates/*/out/incremental
 
-# A package of Debian: out/mcserver_VERSION_amd64.deb
+# A package of Debian, by debhelper: out/mcserver_VERSION_amd64.deb
 deb: is-built
-	@sh packaging/deb.sh $(VERSION)-1 out
+	@sh packaging/deb.sh $(VERSION)-1 $(PACKAGES)
 
 clean:
 	rm -rf crates/*/out

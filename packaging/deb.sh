@@ -1,59 +1,35 @@
 #!/bin/sh
-# Makes a package of Debian of what `make install` installs: packaging/deb.sh VERSION [FOLDER]. It needs dpkg-deb, gzip and strip.
+# Makes a package of Debian by debhelper, of what `make install` installs: packaging/deb.sh VERSION [FOLDER]. It needs the package debhelper.
+# Two runs over one build make the same bytes: all moments are SOURCE_DATE_EPOCH, or that of the last commit.
 set -eu
 version=$1
-folder=${2:-out}
-here=$(dirname "$0")
-root=$(mktemp -d)
-trap 'rm -rf "$root"' EXIT
-chmod 755 "$root"
-make -s -C "$here/.." install DESTDIR="$root" PREFIX=/usr
+SOURCE=$(cd "$(dirname "$0")/.." && pwd)
+mkdir -p "${2:-out}"
+folder=$(cd "${2:-out}" && pwd)
+command -v dh > /dev/null || { echo "dh isn't there: apt-get install debhelper" >&2; exit 1; }
+: "${SOURCE_DATE_EPOCH:=$(git -C "$SOURCE" log -1 --format=%ct 2> /dev/null || stat -c %Y "$SOURCE/CHANGELOG.md")}"
+export SOURCE SOURCE_DATE_EPOCH
 
-# What Debian wants otherwise: stripped, compressed, and with its own names for these files.
-strip --strip-unneeded --remove-section=.comment --remove-section=.note "$root/usr/bin/mcserver"
-gzip -9n "$root/usr/share/man/man1/mcserver.1"
-doc="$root/usr/share/doc/mcserver"
-gzip -9n "$doc/CHANGELOG.md"
-mv "$doc/CHANGELOG.md.gz" "$doc/changelog.gz"
-moment=$(git -C "$here" log -1 --format=%cD 2>/dev/null || date -R)
-maintainer="mcserver's maintainers <maintainers@mcserver.invalid>"
-printf "mcserver (%s) unstable; urgency=medium\n\n  * See changelog.gz.\n\n -- %s  %s\n" "$version" "$maintainer" "$moment" |
-    gzip -9n > "$doc/changelog.Debian.gz"
+work=$(mktemp -d)
+trap 'rm -rf "$work"' EXIT
+mkdir "$work/mcserver"
+cp -r "$SOURCE/packaging/debian" "$work/mcserver/debian"
+cd "$work/mcserver"
+cat > debian/changelog <<END
+mcserver ($version) unstable; urgency=medium
+
+  * See changelog.gz.
+
+ -- mcserver's maintainers <maintainers@mcserver.invalid>  $(LC_ALL=C date -u -R -d "@$SOURCE_DATE_EPOCH")
+END
 {
     echo "Format: https://www.debian.org/doc/packaging-manuals/copyright-format/1.0/"
     echo
     echo "Files: *"
     echo "Copyright: 2026 the mcserver authors, and those of the crates that are named below"
     echo "License: Expat"
-    sed 's/^$/./; s/^/ /' "$doc/LICENSE"
-} > "$doc/copyright"
-rm "$doc/LICENSE"
-
-libc=$(grep -ao 'GLIBC_2[.][0-9.]*' "$root/usr/bin/mcserver" | sort -uV | tail -1 | cut -d_ -f2)
-mkdir -p "$root/DEBIAN" "$folder"
-cp "$here/postinst" "$here/prerm" "$here/postrm" "$root/DEBIAN/"
-chmod 755 "$root/DEBIAN/postinst" "$root/DEBIAN/prerm" "$root/DEBIAN/postrm"
-echo /etc/default/mcserver > "$root/DEBIAN/conffiles"
-(cd "$root" && find etc usr lib -type f 2>/dev/null -exec md5sum {} + | grep -v ' etc/' > DEBIAN/md5sums)
-cat > "$root/DEBIAN/control" <<END
-Package: mcserver
-Version: $version
-Architecture: amd64
-Maintainer: $maintainer
-Installed-Size: $(du -sk "$root" | cut -f1)
-Depends: libc6 (>= ${libc:-2.34})
-Suggests: libmemcached-tools
-Section: database
-Priority: optional
-Description: cache server that speaks memcached's text protocol
- mcserver keeps items under keys in memory and answers the classic text
- protocol of memcached 1.6. Nothing is evicted: a full store refuses what
- needs more room. Its answers are proved to be those of the protocol's plain
- key-value machine.
- .
- Installing it starts nothing: systemctl enable --now mcserver does.
-END
-chmod -R u=rwX,go=rX "$root"
-made="$folder/mcserver_${version}_amd64.deb"
-dpkg-deb --root-owner-group -Zxz --build "$root" "$made" > /dev/null
-echo "$made"
+    sed 's/^$/./; s/^/ /' "$SOURCE/LICENSE"
+} > debian/copyright
+debian/rules binary > "$work/log" 2>&1 || { cat "$work/log" >&2; exit 1; }
+cp "$work/mcserver_${version}_amd64.deb" "$folder/"
+echo "$folder/mcserver_${version}_amd64.deb"
