@@ -1,8 +1,11 @@
-"""What --metrics tells, as Prometheus reads it: promtool finds nothing to say of the page, and a Prometheus that scrapes it has the
-same numbers as were caused. What isn't installed is named and not run (Debian's package prometheus has both).
+"""What --metrics answers, as Prometheus reads it: promtool finds nothing to say of the page, a Prometheus that scrapes it has the same
+numbers as were caused, each query of the dashboard has data, and the rules fire when they should, and only then. What isn't installed
+is named and not run (Debian's package prometheus has promtool and prometheus).
 """
 import contextlib
 import json
+import math
+import re
 import shutil
 import subprocess
 import tempfile
@@ -13,20 +16,28 @@ import urllib.request
 from tests.lib.case import ProgramCase
 from tests.lib.peer import Peer
 from tests.lib.scrape import GET, MetricsServer, sent, told
-from tests.lib.server import HOST, Started, free_port
+from tests.lib.server import HOST, Server, Started, free_port
+from tests.lib.settings import ROOT
 from tests.lib.wait import until
 
 PROMTOOL, PROMETHEUS = shutil.which("promtool"), shutil.which("prometheus")
 # So soon a Prometheus has scraped it, which does so each second.
 SECONDS = 30
 CONFIGURATION = """
-global: {{scrape_interval: 1s}}
+global: {{scrape_interval: 1s, evaluation_interval: 1s}}
+rule_files: [rules.yml]
 scrape_configs:
   - job_name: mcserver
     static_configs: [{{targets: ["{host}:{port}"]}}]
 """
 SETS, HITS, MISSES = 300, 200, 100
 BLOCK = b"b" * 100
+LARGE = b"l" * 1000000
+SHIPPED = f"{ROOT}/packaging/prometheus"
+# For so many seconds nothing fires while all is well.
+QUIET = 8
+# What Grafana puts in the place of its variables.
+VARIABLES = {"$__rate_interval": "30s", "$job": ".*", "$instance": ".*"}
 # What is asked of Prometheus, and what it is to answer.
 QUERIES = [
     ('up{job="mcserver"}', 1),
@@ -52,7 +63,39 @@ def load(server):
             peer.asks(b"get none:%d\r\n" % at, b"END\r\n")
 
 
+def rules():
+    """The rules that are shipped, which wait for a second in place of minutes: the text."""
+    with open(f"{SHIPPED}/alerts.yml", encoding="utf-8") as text:
+        return re.sub(r"(?m)^( *for:) .*$", r"\1 1s", text.read())
+
+
+def compared():
+    """Of each rule what it compares with a limit, by the rule's name."""
+    found = {}
+    for name, expression in re.findall(r"- alert: (\w+)\n +expr: (?:>-\n)?((?:.*\n)+?) +(?:for|labels):", rules()):
+        for part in re.split(r"\bor\b", " ".join(expression.split())):
+            found.setdefault(name, []).append(re.split(r" (?:>=?|==) ", part)[0])
+    return found
+
+
+def queries():
+    """The queries of the dashboard, as Grafana asks them."""
+    with open(f"{SHIPPED}/dashboard.json", encoding="utf-8") as text:
+        panels = json.load(text)["panels"]
+    for panel in panels:
+        for target in panel["targets"]:
+            query = target["expr"]
+            for name, value in VARIABLES.items():
+                query = query.replace(name, value)
+            yield panel["title"], query
+
+
 class Page(ProgramCase):
+    @unittest.skipUnless(PROMTOOL, "it wants promtool, of the package prometheus")
+    def test_promtool_takes_the_rules(self):
+        ran = subprocess.run([PROMTOOL, "check", "rules", f"{SHIPPED}/alerts.yml"], capture_output=True, text=True, timeout=SECONDS)
+        self.assertEqual((0, ""), (ran.returncode, ran.stderr))
+
     @unittest.skipUnless(PROMTOOL, "it wants promtool, of the package prometheus")
     def test_promtool_says_nothing_of_it(self):
         """Of the page of a server that has done nothing, and of one that was used."""
@@ -66,38 +109,98 @@ class Page(ProgramCase):
                 self.assertEqual((0, ""), (ran.returncode, ran.stdout.decode()))
 
 
+def value(answers, query):
+    """The one value that a query has, or None."""
+    found = answers(query)
+    return found[0][1] if len(found) == 1 else None
+
+
+def has_data(answers, query):
+    """Whether a query has values, and each is a number."""
+    return all(math.isfinite(number) for _, number in answers(query) or [(None, math.nan)])
+
+
+def firing(answers):
+    """The names of the alerts that fire."""
+    return {name for name, _ in answers('ALERTS{alertstate="firing"}')}
+
+
 @unittest.skipUnless(PROMETHEUS, "it wants prometheus")
 class Scraped(ProgramCase):
     @contextlib.contextmanager
     def prometheus(self, server):
-        """A Prometheus that scrapes the server; gives what answers a query of it, or None where it has no answer yet."""
+        """A Prometheus that scrapes the server; gives what answers a query: the values that it has, by the name of the alert if there is one."""
         port = free_port()
         with tempfile.TemporaryDirectory() as folder:
             with open(f"{folder}/prometheus.yml", "w", encoding="utf-8") as it:
                 it.write(CONFIGURATION.format(host=HOST, port=server.metrics))
+            with open(f"{folder}/rules.yml", "w", encoding="utf-8") as it:
+                it.write(rules())
             words = [PROMETHEUS, f"--config.file={folder}/prometheus.yml", f"--storage.tsdb.path={folder}/data"]
             with Started([*words, f"--web.listen-address={HOST}:{port}"], port):
 
-                def answer(query):
+                def answers(query):
                     asked = urllib.parse.urlencode({"query": query})
                     with contextlib.suppress(OSError, ValueError):
                         with urllib.request.urlopen(f"http://{HOST}:{port}/api/v1/query?{asked}", timeout=SECONDS) as told_so:
                             found = json.load(told_so)["data"]["result"]
-                        return float(found[0]["value"][1]) if len(found) == 1 else None
-                    return None
+                        return [(it["metric"].get("alertname"), float(it["value"][1])) for it in found]
+                    return []
 
-                yield answer
+                self.assertTrue(until(lambda: value(answers, "up") == 1, SECONDS, 0.2), "it never was up")
+                yield answers
+
+    def fires(self, answers, name):
+        """The alert fires, and gives which others do."""
+        self.assertTrue(until(lambda: name in firing(answers), SECONDS, 0.2), f"{name} doesn't fire; {firing(answers)} do")
+        return firing(answers) - {name}
 
     def test_it_has_what_was_done(self):
         with MetricsServer() as server:
             load(server)
-            with self.prometheus(server) as answer:
+            with self.prometheus(server) as answers:
                 for query, wanted in QUERIES:
                     with self.subTest(query):
-                        self.assertTrue(until(lambda: answer(query) == wanted, SECONDS, 0.2), f"{answer(query)}, wanted {wanted}")
+                        self.assertTrue(until(lambda: value(answers, query) == wanted, SECONDS, 0.2), f"{answers(query)}, wanted {wanted}")
 
-    def test_it_sees_that_the_server_has_gone(self):
-        with MetricsServer() as server, self.prometheus(server) as answer:
-            self.assertTrue(until(lambda: answer("up") == 1, SECONDS, 0.2), "it never was up")
+    def test_each_query_and_rule_has_data(self):
+        """Of a server that is used; and nothing fires, as all is well."""
+        asked = [*queries(), *((name, part) for name, parts in compared().items() for part in parts)]
+        self.assertGreater(len(asked), 30)
+        with MetricsServer() as server, self.prometheus(server) as answers:
+            for name, query in asked:
+                with self.subTest(name, query=query):
+                    self.assertTrue(until(lambda: load(server) or has_data(answers, query), SECONDS, 0.2), f"{answers(query)}")
+
+    def test_nothing_fires_while_all_is_well(self):
+        with MetricsServer() as server, self.prometheus(server) as answers:
+            seen = until(lambda: load(server) or {name for name, _ in answers("ALERTS")}, QUIET, 0.2)
+            self.assertEqual(set(), seen)
+            self.assertGreater(value(answers, "count_over_time(up[1m])"), QUIET / 2)
+
+    def test_a_full_store_fires(self):
+        with MetricsServer(pages=2) as server, self.prometheus(server) as answers, Peer(server.port) as peer:
+            for key, answer in ((b"a", b"STORED"), (b"b", b"STORED"), (b"c", b"SERVER_ERROR out of memory storing object")):
+                peer.asks(b"set %s 0 0 %d\r\n%s\r\n" % (key, len(LARGE), LARGE), answer + b"\r\n")
+            self.assertLessEqual(self.fires(answers, "McserverFull"), {"McserverPagesAllInUse"})
+
+    def test_an_item_too_large_fires(self):
+        with MetricsServer() as server, self.prometheus(server) as answers, Peer(server.port) as peer:
+            peer.asks(b"set a 0 0 1048576\r\n%s\r\n" % (b"x" * 1048576), b"SERVER_ERROR object too large for cache\r\n")
+            self.assertEqual(set(), self.fires(answers, "McserverItemsTooLarge"))
+
+    def test_connections_turned_away_fire(self):
+        with MetricsServer("-c", "2") as server, self.prometheus(server) as answers, contextlib.ExitStack() as open_ones:
+            for _ in range(2):
+                open_ones.enter_context(Peer(server.port)).asks(b"version\r\n", b"VERSION 1.6.0\r\n")
+            with Peer(server.port) as one_more:
+                one_more.is_told(b"ERROR Too many open connections\r\n")
+            self.assertLessEqual(self.fires(answers, "McserverTurnedAway"), {"McserverConnectionsNearLimit"})
+
+    def test_a_server_that_has_gone_fires_and_one_that_was_restarted_too(self):
+        with MetricsServer() as server, self.prometheus(server) as answers:
             server.kill()
-            self.assertTrue(until(lambda: answer("up") == 0, SECONDS, 0.2), "it is up still")
+            self.assertEqual(set(), self.fires(answers, "McserverDown"))
+            with Server(port=server.port, args=["--metrics", str(server.metrics)]):
+                self.assertLessEqual(self.fires(answers, "McserverRestarted"), {"McserverDown"})
+                self.assertTrue(until(lambda: "McserverDown" not in firing(answers), SECONDS, 0.2), "it is down still")
