@@ -168,9 +168,13 @@ class Scraped(ProgramCase):
         asked = [*queries(), *((name, part) for name, parts in compared().items() for part in parts)]
         self.assertGreater(len(asked), 30)
         with MetricsServer() as server, self.prometheus(server) as answers:
-            for name, query in asked:
-                with self.subTest(name, query=query):
-                    self.assertTrue(until(lambda: load(server) or has_data(answers, query), SECONDS, 0.2), f"{answers(query)}")
+
+            def without_data():
+                load(server)
+                return [it for it in asked if not has_data(answers, it[1])]
+
+            until(lambda: not without_data(), SECONDS, 0.5)
+            self.assertEqual([], without_data())
 
     def test_nothing_fires_while_all_is_well(self):
         with MetricsServer() as server, self.prometheus(server) as answers:
