@@ -98,16 +98,18 @@ class Package(ProgramCase):
         self.assertEqual((0, ""), (said.returncode, said.stdout))
 
     def test_documents_name_what_is_there(self):
-        """Each path that an installed document names lies beside it."""
+        """Each path that an installed document names lies beside it, or in a folder that the document says is in the source."""
         folder = f"{self.unpacked()}/usr/share/doc/mcserver"
         ran(["sh", "-c", f"gunzip {folder}/*.gz"])
         there, seen = os.listdir(folder), 0
-        self.assertTrue({"OPERATING.md", "CONTAINERS.md", "CLIENTS.md", "PROTOCOL.md", "SCALING.md", "alerts.yml", "dashboard.json", "BUILD"} <= {*there}, there)
+        self.assertTrue({"OPERATING.md", "CONTAINERS.md", "CLIENTS.md", "PROTOCOL.md", "SCALING.md", "alerts.yml", "dashboard.json"} <= {*there}, there)
         for name in there:
             with self.subTest(name), open(f"{folder}/{name}", encoding="utf-8") as text:
-                named = {*NAMED.findall(text.read())} if name.endswith(".md") or name == "changelog" else set()
+                page = text.read() if name.endswith(".md") or name == "changelog" else ""
+                named = {*NAMED.findall(page)}
                 seen += len(named)
-                self.assertEqual([], sorted(named - {*there}))
+                in_source = {it for it in named if f"`{it.split('/')[0]}/` is in the source." in page and os.path.exists(f"{ROOT}/{it}")}
+                self.assertEqual([], sorted(named - {*there} - in_source))
         self.assertGreater(seen, 5)
 
     @unittest.skipUnless(may_copy(), "it wants root")
