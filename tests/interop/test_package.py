@@ -32,6 +32,7 @@ mcserver --version
 test ! -e /etc/systemd/system/multi-user.target.wants/mcserver.service
 echo OPTIONS=-p 11311 > /etc/default/mcserver-one
 systemctl enable mcserver mcserver@one
+test -z "$(systemd-analyze verify --man=no mcserver.service mcserver@one.service 2>&1)"
 ls /etc/systemd/system/multi-user.target.wants
 """
 PURGED = """
@@ -53,7 +54,7 @@ def sum_of(path):
 
 def may_copy():
     """Whether this user may make a copy of the system that is gone with the process."""
-    return shutil.which("unshare") and not ran(["unshare", "--mount", "true"]).returncode and os.geteuid() == 0
+    return shutil.which("unshare") and shutil.which("systemctl") and not ran(["unshare", "--mount", "true"]).returncode and os.geteuid() == 0
 
 
 @unittest.skipUnless(shutil.which("dh"), "it wants debhelper")
@@ -112,13 +113,13 @@ class Package(ProgramCase):
                 self.assertEqual([], sorted(named - {*there} - in_source))
         self.assertGreater(seen, 5)
 
-    @unittest.skipUnless(may_copy(), "it wants root")
+    @unittest.skipUnless(may_copy(), "it wants root, unshare and systemd")
     def test_a_purge_leaves_nothing(self):
-        """The service and one of its instances were enabled."""
+        """The service and one of its instances were enabled, and systemd has nothing to say of either."""
         with tempfile.TemporaryDirectory() as folder:
             script = f"{ENABLED}\necho and then\n{PURGED}"
             done = ran(["unshare", "--mount", "sh", "-c", IN_A_COPY, "sh", folder, self.made, script])
         self.assertEqual(0, done.returncode, done.stdout)
         enabled, purged = done.stdout.split("and then\n")
-        self.assertIn("mcserver.service\nmcserver@one.service\n", enabled)
+        self.assertRegex(enabled, r"(?:Created symlink .*\n){2}(?:.*\n)*mcserver\.service\nmcserver@one\.service\n")
         self.assertEqual("", purged.split("what is left:\n")[1])

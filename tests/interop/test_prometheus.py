@@ -90,6 +90,12 @@ def queries():
             yield panel["title"], query
 
 
+def formulas():
+    """What docs/OPERATING.md says to ask."""
+    with open(f"{ROOT}/docs/OPERATING.md", encoding="utf-8") as text:
+        return [("OPERATING.md", it) for it in re.findall(r"```promql\n(.*?)\n```", text.read(), re.DOTALL)]
+
+
 class Page(ProgramCase):
     @unittest.skipUnless(PROMTOOL, "it wants promtool, of the package prometheus")
     def test_promtool_takes_the_rules(self):
@@ -165,8 +171,8 @@ class Scraped(ProgramCase):
 
     def test_each_query_and_rule_has_data(self):
         """Of a server that is used; and nothing fires, as all is well."""
-        asked = [*queries(), *((name, part) for name, parts in compared().items() for part in parts)]
-        self.assertGreater(len(asked), 30)
+        asked = [*queries(), *formulas(), *((name, part) for name, parts in compared().items() for part in parts)]
+        self.assertEqual((24, 2, 12), (len([*queries()]), len(formulas()), sum(map(len, compared().values()))))
         with MetricsServer() as server, self.prometheus(server) as answers:
 
             def without_data():
