@@ -143,7 +143,7 @@ install: is-built
 	test ! -f $(dir $(PROGRAM))BUILD || install -m 644 $(dir $(PROGRAM))BUILD $(DOC)/BUILD
 ifeq ($(IN_HOME),)
 	install -d $(UNITS) $(DEFAULTS)
-	sed 's|/usr/local/bin/|$(PREFIX)/bin/|g' mcserver.service > $(UNITS)/mcserver.service
+	sed 's|/usr/local/bin/|$(PREFIX)/bin/|' mcserver.service > $(UNITS)/mcserver.service
 	sed -f packaging/instance.sed $(UNITS)/mcserver.service > $(UNITS)/mcserver@.service
 	chmod 644 $(UNITS)/mcserver.service $(UNITS)/mcserver@.service
 	test -e $(DEFAULTS)/mcserver || install -m 644 packaging/mcserver.default $(DEFAULTS)/mcserver

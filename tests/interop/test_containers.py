@@ -16,7 +16,7 @@ import unittest
 from tests.lib.case import ProgramCase
 from tests.lib.peer import Peer
 from tests.lib.scrape import sent, told
-from tests.lib.server import HOST, SECONDS, die_with_parent, free_port
+from tests.lib.server import SECONDS, die_with_parent, free_port
 from tests.lib.settings import ROOT
 from tests.lib.wait import until
 
@@ -188,11 +188,13 @@ class InANamespace(ProgramCase):
             self.assertEqual(0, subprocess.run(in_image(self.image.folder, words), timeout=SECONDS).returncode)
         self.assertNotEqual(0, subprocess.run(in_image(self.image.folder, words), timeout=SECONDS, stderr=subprocess.DEVNULL).returncode)
 
-    def test_quit_of_the_hook_ends_it_in_order(self):
-        """By the program's own --quit, as docs/CONTAINERS.md has it: what was sent is answered before it ends."""
+    def test_the_hook_ends_it_in_order(self):
+        """It is what docs/CONTAINERS.md has as preStop: what was sent is answered, and it ends by itself."""
+        with open(f"{ROOT}/docs/CONTAINERS.md", encoding="utf-8") as text:
+            words = re.search(r"command:\n +- (/bin/bash)\n +- (-c)\n +- (.*)\n", text.read()).groups()
         with Running(self.image, self.entry(), self.port) as it, Peer(self.port) as peer:
             peer.asks(b"set a 0 0 1\r\nx\r\n", b"STORED\r\n")
-            words = ["/usr/local/bin/mcserver", "--quit", f"{HOST}:{self.metrics}"]
-            self.assertEqual(0, subprocess.run(in_image(self.image.folder, words), timeout=SECONDS).returncode)
+            hook = subprocess.Popen(in_image(self.image.folder, [word.replace("/9150", f"/{self.metrics}") for word in words]))
+            self.assertTrue(until(lambda: not answers(self.port), SECONDS), "it listens still")
             peer.asks(b"get a\r\n", b"VALUE a 0 1\r\nx\r\nEND\r\n")
-            self.assertEqual(0, it.process.wait(SECONDS))
+            self.assertEqual((0, 0), (hook.wait(SECONDS), it.process.wait(SECONDS)))

@@ -52,6 +52,14 @@ QUERIES = [
 ]
 
 
+class TickingServer(Server):
+    """A running server whose clock goes, with this port of metrics."""
+
+    def __init__(self, metrics, **options):
+        self.metrics = metrics
+        super().__init__(args=["--metrics", str(metrics)], **options)
+
+
 def load(server):
     """Sets items, and gets some that are there and some that aren't."""
     with Peer(server.port) as peer:
@@ -172,7 +180,7 @@ class Scraped(ProgramCase):
     def test_each_query_and_rule_has_data(self):
         """Of a server that is used; and nothing fires, as all is well."""
         asked = [*queries(), *formulas(), *((name, part) for name, parts in compared().items() for part in parts)]
-        self.assertEqual((24, 2, 12), (len([*queries()]), len(formulas()), sum(map(len, compared().values()))))
+        self.assertEqual((17, 2, 8), (len([*queries()]), len(formulas()), sum(map(len, compared().values()))))
         with MetricsServer() as server, self.prometheus(server) as answers:
 
             def without_data():
@@ -194,11 +202,6 @@ class Scraped(ProgramCase):
                 peer.asks(b"set %s 0 0 %d\r\n%s\r\n" % (key, len(LARGE), LARGE), answer + b"\r\n")
             self.assertLessEqual(self.fires(answers, "McserverFull"), {"McserverPagesAllInUse"})
 
-    def test_an_item_too_large_fires(self):
-        with MetricsServer() as server, self.prometheus(server) as answers, Peer(server.port) as peer:
-            peer.asks(b"set a 0 0 1048576\r\n%s\r\n" % (b"x" * 1048576), b"SERVER_ERROR object too large for cache\r\n")
-            self.assertEqual(set(), self.fires(answers, "McserverItemsTooLarge"))
-
     def test_connections_turned_away_fire(self):
         with MetricsServer("-c", "2") as server, self.prometheus(server) as answers, contextlib.ExitStack() as open_ones:
             for _ in range(2):
@@ -208,9 +211,10 @@ class Scraped(ProgramCase):
             self.assertLessEqual(self.fires(answers, "McserverTurnedAway"), {"McserverConnectionsNearLimit"})
 
     def test_a_server_that_has_gone_fires_and_one_that_was_restarted_too(self):
-        with MetricsServer() as server, self.prometheus(server) as answers:
+        with TickingServer(free_port()) as server, self.prometheus(server) as answers:
+            self.assertTrue(until(lambda: (value(answers, "memcached_uptime_seconds") or 0) > 3, SECONDS, 0.2), "its time doesn't go by")
             server.kill()
             self.assertEqual(set(), self.fires(answers, "McserverDown"))
-            with Server(port=server.port, args=["--metrics", str(server.metrics)]):
+            with TickingServer(server.metrics, port=server.port):
                 self.assertLessEqual(self.fires(answers, "McserverRestarted"), {"McserverDown"})
                 self.assertTrue(until(lambda: "McserverDown" not in firing(answers), SECONDS, 0.2), "it is down still")
