@@ -131,7 +131,7 @@ class Running:
 
 
 def answers(port):
-    with contextlib.suppress(OSError):
+    with contextlib.suppress(OSError, AssertionError):
         with Peer(port, 1) as peer:
             peer.asks(b"version\r\n", b"VERSION 1.6.0\r\n")
         return True
@@ -192,9 +192,10 @@ class InANamespace(ProgramCase):
         """It is what docs/CONTAINERS.md has as preStop: what was sent is answered, and it ends by itself."""
         with open(f"{ROOT}/docs/CONTAINERS.md", encoding="utf-8") as text:
             words = re.search(r"command:\n +- (/bin/bash)\n +- (-c)\n +- (.*)\n", text.read()).groups()
+        words = in_image(self.image.folder, [word.replace("/9150", f"/{self.metrics}") for word in words])
         with Running(self.image, self.entry(), self.port) as it, Peer(self.port) as peer:
             peer.asks(b"set a 0 0 1\r\nx\r\n", b"STORED\r\n")
-            hook = subprocess.Popen(in_image(self.image.folder, [word.replace("/9150", f"/{self.metrics}") for word in words]))
-            self.assertTrue(until(lambda: not answers(self.port), SECONDS), "it listens still")
-            peer.asks(b"get a\r\n", b"VALUE a 0 1\r\nx\r\nEND\r\n")
-            self.assertEqual((0, 0), (hook.wait(SECONDS), it.process.wait(SECONDS)))
+            with subprocess.Popen(words) as hook:
+                self.assertTrue(until(lambda: not answers(self.port), SECONDS), "it listens still")
+                peer.asks(b"get a\r\n", b"VALUE a 0 1\r\nx\r\nEND\r\n")
+                self.assertEqual((0, 0), (hook.wait(SECONDS), it.process.wait(SECONDS)))
