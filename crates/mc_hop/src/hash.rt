@@ -1,3 +1,5 @@
+//! Entries with hashes and keys, and hash functions.
+
 /// An entry of a table, which knows its hash and its key.
 pub trait Keyed {
     ghost use Rattle.std.specs.Prelude.{◌≡◌, ℕ, List};

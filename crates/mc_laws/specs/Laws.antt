@@ -1,4 +1,4 @@
--- What the laws of a shared store speak of.
+-- Definitions for the laws of a shared store.
 use Rattle.std.specs.Prelude.{◌≡◌, ℕ, ◌*◌, ◌<◌, ◌≤◌, ◌⊎◌, true, List, [], ◌∷◌, ◌++◌, Option, Some, None}
 use Rattle.std.specs.FinMap.{get}
 use Rattle.mc_time.specs.Death.{expiry_of}
@@ -16,12 +16,12 @@ use Rattle.mc_shared.specs.Store.{with_call}
 
 -- ---- where entries stand
 
--- an entry stands in a history
+-- an entry is in a history
 abbrev pub StandsInLog : List HistoryEntry → HistoryEntry → Type 0
 StandsInLog log e =
     (before : List HistoryEntry) × (rest : List HistoryEntry) × (log ≡ before ++ e ∷ rest)
 
--- an entry stands in a history before another
+-- an entry is before another in a history
 pub record StandsBefore (log : List HistoryEntry) (first second : HistoryEntry) : Type 0 where
   pub before : List HistoryEntry
   pub between : List HistoryEntry
@@ -38,7 +38,7 @@ Has (call p d) e = (d ≡ e) ⊎ Has p e
 Has (made p d) e = Has p e
 Has (both p q) e = Has p e ⊎ Has q e
 
--- a past is within another: it is that one, or one that went into it, held or seen
+-- a past is within another: it is that one, or went into it, held or seen
 abbrev pub PastIsWithin : Past → Past → Type 0
 PastIsWithin p spent = p ≡ spent
 PastIsWithin p (start c seen) = (p ≡ start c seen) ⊎ PastIsWithin p seen
@@ -46,12 +46,12 @@ PastIsWithin p (call q e) = (p ≡ call q e) ⊎ PastIsWithin p q
 PastIsWithin p (made q d) = (p ≡ made q d) ⊎ PastIsWithin p q
 PastIsWithin p (both q o) = (p ≡ both q o) ⊎ (PastIsWithin p q ⊎ PastIsWithin p o)
 
--- The caller of a call knew of another when it made it: that was its own, or one that its maker had
--- before it made it, or one of a caller that was joined into it.
+-- The caller of a call knew another call when it made it: its own, one of its maker before it was
+-- made, or one of a caller that was joined into it.
 abbrev pub CallerKnew : Past → (later known : HistoryEntry) → Type 0
 CallerKnew p later known = (before : Past) × PastIsWithin (call before later) p × Has before known
 
--- a caller had the past, and went on to the other
+-- a caller had the past, and later has the other
 abbrev pub WentOn : Past → Past → Type 0
 WentOn p spent = p ≡ spent
 WentOn p (start c seen) = p ≡ start c seen
@@ -67,18 +67,18 @@ IsAlone (call p e) = IsAlone p
 IsAlone (made p d) = ⊥
 IsAlone (both p q) = ⊥
 
--- a step at a moment, and what it was answered
+-- a step at a moment, and its reply
 pub record Call : Type 0 where
   pub step : KeyStep
   pub now : ℕ
   pub reply : Reply
 
--- a past with these calls more, one after another
+-- a past with these further calls, in order
 abbrev pub with_calls : Past → List Call → Past
 with_calls p [] = p
 with_calls p (c ∷ cs) = with_calls (with_call p c.step c.now c.reply) cs
 
--- the plain machine takes these steps one after another, and gives these replies
+-- the plain machine takes these steps in order, and gives these replies
 abbrev pub PlainAnswers : Plain → List Call → Type 0
 PlainAnswers old [] = Unit {0}
 PlainAnswers old (c ∷ cs) =
@@ -90,7 +90,7 @@ PlainAnswers old (c ∷ cs) =
 abbrev pub item_after : Beginning → List HistoryEntry → List ℕ → Option Item
 item_after began log key = get (after began began.plain log).items key
 
--- a decision may change the item under a key: a flush, a step on that key unless it is a read that
+-- an operation may change the item under a key: a flush, a step on that key except a read that
 -- hits, and a purge of its shelf
 abbrev pub MayChange : Beginning → List ℕ → Operation → Type 0
 MayChange began key (Stepped (Flush delay) now reply) = Unit {0}
@@ -98,12 +98,13 @@ MayChange began key (Stepped (Read other) now (Hit flags unique block)) = ⊥
 MayChange began key (Stepped step now reply) = key_of step ≡ key
 MayChange began key (Purged shelf now) = shelf_in began key ≡ shelf
 
--- the reply of a read behind some entries, if this item is under its key: a hit of it, or a miss
--- where there is none or it is dead at the read's moment
+-- the reply of a read after some entries, if this item is under its key: a hit of it, or a miss if
+-- there is none or it is dead at the read's moment
 abbrev pub read_of : Beginning → List HistoryEntry → (now : ℕ) → Option Item → Reply
 read_of began log now item = hit_of (alive (after began began.plain log).cut now item)
 
--- A read of a key is told what an entry left: the last before it that may change the key's item.
+-- A read of a key returns the result of one entry: the last before it that may change the key's
+-- item.
 pub record IsTold (began : Beginning) (log : List HistoryEntry) (key : List ℕ) (now : ℕ) (reply : Reply)
     (last read : HistoryEntry) : Type 0 where
   pub places : StandsBefore log last read
@@ -112,8 +113,8 @@ pub record IsTold (began : Beginning) (log : List HistoryEntry) (key : List ℕ)
   pub told : reply ≡ read_of began (places.before ++ last ∷ places.between) now
       (item_after began (places.before ++ last ∷ []) key)
 
--- The same of a caller's read: what it is told was left by an entry that is no earlier than any
--- that the caller's past has and that may change the key's item.
+-- The same for a caller's read. The entry isn't before any entry of the caller's past that may
+-- change the key's item.
 pub record ReadsLatest (began : Beginning) (log : List HistoryEntry) (p : Past) (key : List ℕ) (now : ℕ)
     (reply : Reply) (read : HistoryEntry) : Type 0 where
   pub last : HistoryEntry
@@ -121,7 +122,7 @@ pub record ReadsLatest (began : Beginning) (log : List HistoryEntry) (p : Past) 
   pub latest : (e : HistoryEntry) → Has p e → MayChange began key e.what
       → (e ≡ last) ⊎ StandsInLog is_told.places.before e
 
--- the item that a step stores as it was given, at a moment and under a unique number
+-- the item that a step stores as it was given, at a moment and with a unique number
 abbrev pub item_given : KeyStep → (now unique : ℕ) → Option Item
 item_given (Store Append key flags exptime block) now unique = None
 item_given (Store Prepend key flags exptime block) now unique = None
@@ -141,9 +142,8 @@ item_given (Cas key flags exptime block known) now unique = Some (record {
 })
 item_given step now unique = None
 
--- A write stands before a read of its key, and the read is told the item that it left, which is the
--- one that the step gave, or a miss once that is dead; or an entry between the two may have changed
--- it.
+-- A write is before a read of its key, and the read returns the item that the write stored as it
+-- was given, or a miss once that is dead; or another entry between the two may have changed it.
 pub record ReadsWrite (began : Beginning) (log : List HistoryEntry) (now : ℕ) (reply : Reply)
     (step : KeyStep) (then : ℕ) (write read : HistoryEntry) : Type 0 where
   pub places : StandsBefore log write read
@@ -155,13 +155,12 @@ pub record ReadsWrite (began : Beginning) (log : List HistoryEntry) (now : ℕ) 
       ⊎ ((other : HistoryEntry) × StandsInLog places.between other
       × MayChange began (key_of step) other.what)
 
--- a step that, if it is answered Stored, stores an item as it was given: a set, an add, a replace
--- or a cas
+-- a step that stores an item as it was given if it is answered Stored: a set, an add, a replace or
+-- a cas
 abbrev pub StoresAsGiven : KeyStep → (now : ℕ) → Type 0
 StoresAsGiven step now = (unique : ℕ) → (item : Item) × (item_given step now unique ≡ Some item)
 
--- in a legal history that keeps the past, behind a write stands an entry that may change the key's
--- item
+-- in a legal history that keeps the past, an entry after a write may change the key's item
 pub record IsTakenAway (began : Beginning) (p : Past) (key : List ℕ) (write : HistoryEntry) : Type 0
   where
     pub log : List HistoryEntry
@@ -183,24 +182,24 @@ Wrote key (Stepped step now Stored) = key_of step ≡ key
 Wrote key (Stepped step now (Number number)) = key_of step ≡ key
 Wrote key what = ⊥
 
--- what a hit tells of an item
+-- the fields of a hit
 pub record Found : Type 0 where
   pub flags : ℕ
   pub unique : ℕ
   pub block : List ℕ
 
--- the reply that tells it
+-- the reply of a hit with these fields
 abbrev pub hit : Found → Reply
 hit found = Hit found.flags found.unique found.block
 
--- a read of a key, a get or a gat, that hit and was told this
+-- a read of a key, a get or a gat, with this hit
 abbrev pub IsHit : List ℕ → Found → Operation → Type 0
 IsHit key found (Stepped (Read other) now reply) = (other ≡ key) × (reply ≡ hit found)
 IsHit key found (Stepped (ReadTouch other exptime) now reply) = (other ≡ key) × (reply ≡ hit found)
 IsHit key found what = ⊥
 
--- what is found is no older than what was: its unique number is no smaller, and if that is the
--- same, so are the flags and the block
+-- a hit is no older than another: its unique number is not smaller, and if that is equal, so are
+-- the flags and the block
 abbrev pub IsNoOlder : (was is : Found) → Type 0
 IsNoOlder was is = (was.unique ≤ is.unique) × (is.unique ≡ was.unique → is ≡ was)
 
@@ -209,7 +208,7 @@ abbrev pub HasDrawnNumbers : Plain → Type 0
 HasDrawnNumbers m =
     (key : List ℕ) (item : Item) → get m.items key ≡ Some item → item.unique < m.next_unique
 
--- one of some entries wrote a key, drew this unique number, and left this content under it
+-- one of some entries wrote a key, with this unique number, and left this content under it
 pub record IsWrittenIn (began : Beginning) (log : List HistoryEntry) (key : List ℕ) (flags unique : ℕ)
     (block : List ℕ) : Type 0 where
   pub before : List HistoryEntry
@@ -225,16 +224,16 @@ abbrev pub IsNumber : Plain → List ℕ → ℕ → Type 0
 IsNumber m key number =
     (item : Item) × (get m.items key ≡ Some item) × (number_of item.block ≡ Some number)
 
--- an incr of a key that was told a number
+-- an incr of a key that was answered with a number
 abbrev pub IsCount : List ℕ → Operation → Type 0
 IsCount key (Stepped (Count other true by) now (Number number)) = other ≡ key
 IsCount key what = ⊥
 
--- by how much a decision counts a key's number up
+-- how much an operation adds to a key's number
 abbrev pub counts_by : List ℕ → Operation → ℕ
 counts_by key (Stepped (Count other true by) now (Number number)) = same other key * by
 counts_by key what = 0
 
--- by how much an entry does
+-- how much an entry adds
 abbrev pub counts_up : List ℕ → HistoryEntry → ℕ
 counts_up key e = counts_by key e.what

@@ -1,4 +1,4 @@
--- One order of all callers' calls, which one plain machine answers.
+-- One order of all callers' calls, with the replies of one plain machine.
 use Rattle.std.specs.Prelude.{◌≡◌, ◌≤◌, ◌⊎◌, ◌==◌, List, [], ◌∷◌}
 use Rattle.std.specs.List.Sorted.{IsPermutation}
 use Rattle.mc_protocol.specs.Plain.{Plain, Answered, plain}
@@ -7,24 +7,23 @@ use Rattle.mc_shared.specs.History.{Beginning, Operation, Stepped, Purged, Histo
 use Rattle.mc_shared.specs.Past.{Past, spent, start, made, both, held, callers, times, Whole}
 use Rattle.mc_laws.specs.Laws.{StandsInLog, StandsBefore, Has, CallerKnew, Call, with_calls}
 
--- the plain machine, asked for a step, gives that reply and leaves that state; a purge, which has no
+-- the plain machine takes a step with this reply, and leaves this state; a purge, which has no
 -- reply, drops the dead items of its shelf
 abbrev pub AnswersOne : Beginning → (old : Plain) → Operation → (new : Plain) → Type 0
 AnswersOne began old (Stepped step now reply) new = plain old step now ≡ Answered reply new
 AnswersOne began old (Purged shelf now) new =
     new ≡ purged (λ key. shelf_in began key == shelf) now old
 
--- asked one after another, it gives each of them its reply, and leaves the last state
+-- it takes each of these in order with its reply, and leaves the last state
 abbrev pub AnswersEach : Beginning → (old : Plain) → List HistoryEntry → (left : Plain) → Type 0
 AnswersEach began old [] left = left ≡ old
 AnswersEach began old (e ∷ es) left =
     (new : Plain) × AnswersOne began old e.what new × AnswersEach began new es left
 
--- One list of all calls that a past has, and perhaps of calls by others, but no more by the callers
--- that the past holds: each stands in it once, behind all that its caller knew when it made it;
--- where all callers are joined it has exactly their calls. And the plain machine, asked them one
--- after another from what the store began with, answers each as its caller was answered, and leaves
--- this state.
+-- One list of all calls of a past, and perhaps of calls by others, but with no other call of the
+-- callers that the past holds. Each is in it once, after all that its caller knew when it made it;
+-- if all callers are joined, it has exactly their calls. And the plain machine, from what the store
+-- began with, takes them in order with the replies that their callers got, and leaves this state.
 pub record AreAnswered (began : Beginning) (p : Past) (calls : List HistoryEntry) (left : Plain) : Type
     0 where
   pub all : (e : HistoryEntry) → Has p e → StandsInLog calls e
@@ -42,7 +41,7 @@ two_callers first second =
     both (with_calls (made (start [] spent) (0 ∷ [])) first)
     (with_calls (start (0 ∷ []) (start [] spent)) second)
 
--- the calls of two lists in one, those of each in their order
+-- the calls of two lists in one, each list in its order
 abbrev pub IsMixOf : (first second mix : List Call) → Type 0
 IsMixOf first second [] = (first ≡ []) × (second ≡ [])
 IsMixOf first second (c ∷ mix) =

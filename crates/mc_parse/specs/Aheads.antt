@@ -5,7 +5,7 @@ use Rattle.mc_parse.specs.Notes.{IsNoted}
 use Rattle.mc_parse.specs.declared.ahead.Ahead.{Ahead}
 use Rattle.mc_parse.specs.declared.ahead.Ahead.TheVariants.{Searched, Line}
 
--- none of the first bytes, so many of them, is a line feed
+-- the first n bytes have no line feed
 abbrev pub HasNoFeed : ℕ → List ℕ → Type 0
 HasNoFeed n bytes = AllByRecursion (λ b. b ≢ 10) (take n bytes)
 
@@ -14,7 +14,7 @@ abbrev pub Knew : (greatest : ℕ) → Ahead → List ℕ → Type 0
 Knew greatest (Searched n) bytes = HasNoFeed n bytes
 Knew greatest (Line note) bytes = IsNoted greatest note bytes
 
--- all is known that the bytes tell: no line ends, or the first one was read
+-- everything is known that the bytes show: no line ends, or the first one was parsed
 abbrev pub Knows : (greatest : ℕ) → Ahead → List ℕ → Type 0
 Knows greatest (Searched n) bytes = HasNoFeed 65537 bytes × (n ≤ length bytes) × (n ≤ 65537)
 Knows greatest (Line note) bytes = IsNoted greatest note bytes

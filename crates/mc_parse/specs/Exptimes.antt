@@ -3,7 +3,7 @@ use Rattle.std.specs.Prelude.{ℕ, ◌-◌, ◌^◌, ◌==◌, List, [], ◌∷�
 use Rattle.std.specs.Option.{option_map, option_and_then}
 use Rattle.mc_protocol.specs.Numbers.{number_up_to}
 
--- an exptime: a number of at most 2 ^ 63 - 1, which a minus may precede
+-- an exptime: a number of at most 2 ^ 63 - 1, perhaps with a minus before it
 abbrev pub exptime_of : List ℕ → Option ℤ
 exptime_of [] = None
 exptime_of (b ∷ word) =

@@ -1,4 +1,4 @@
--- What the words of a line say, or the first fault of the line; and what its words and keys are.
+-- The meaning of a line's words, or the first fault of the line; and its words and keys.
 use Rattle.std.specs.Prelude.{◌≢◌, ◌<◌, ◌≤◌, ℕ, ◌+◌, ◌-◌, ◌^◌, ◌&&◌, Bool, true, false, List, [], ◌∷◌, length, All, Result, Ok, Err, Option, Some, None, nat_le, if◌then◌else◌, codes}
 use Rattle.std.specs.Str.{bytes_eq}
 use Rattle.std.specs.List.{list_all}
@@ -17,11 +17,11 @@ use Rattle.mc_parse.specs.declared.name.Name.TheVariants.{Store as StoreName, Ca
 use Rattle.mc_parse.specs.declared.name.TheConstants.{NAMES}
 use Rattle.mc_parse.specs.Exptimes.{exptime_of, delay_of}
 
--- what a line says: a command whose block, of so many bytes, is still to come
+-- the meaning of a line: a command whose block, of a given length, is still to come
 abbrev pub Line : Type 0
 Line = CommandOf (List ℕ) (List (List ℕ)) ℕ
 
--- what the first row with this word names
+-- the command of the first row with this word
 abbrev pub named : {R : Type 0} → (bytes_of : R → List ℕ) → List (R × Name) → List ℕ → Option Name
 named bytes_of [] word = None
 named bytes_of (row ∷ rows) word = if bytes_eq (bytes_of row.0) word then Some row.1 else named bytes_of rows word
@@ -55,7 +55,8 @@ ending [] = Ok false
 ending (word ∷ []) = if bytes_eq word (codes "noreply") then Ok true else Err Unknown
 ending (word ∷ more ∷ rest) = Err Unknown
 
--- the length of a block; a line whose item is too large is passed over with its block and the two bytes behind it
+-- the length of a block; if the item is too large, the line is skipped with its block and the two
+-- bytes behind it
 abbrev pub fitting : ℕ → List ℕ → ℕ → Result ℕ LineFault
 fitting greatest key len = if nat_le (48 + length key + len) greatest then Ok len else Err (TooLarge (len + 2))
 
@@ -134,7 +135,7 @@ count_line up (key ∷ value ∷ rest) = do
   Ok (Count k up by quiet)
 count_line up args = Err Unknown
 
--- flush_all with the delay that a word writes, which is malformed if it writes none
+-- flush_all with the delay of a word, which is malformed if it isn't a delay
 abbrev pub delayed : List ℕ → Bool → Result Line LineFault
 delayed word quiet = do
   delay ← formed BadFormat (delay_of word)
@@ -148,12 +149,12 @@ flush_line (delay ∷ word ∷ rest) = do
   quiet ← ending (word ∷ rest)
   delayed delay quiet
 
--- a command that is its name alone
+-- a command that is only a name
 abbrev pub lone_line : Lone → List (List ℕ) → Result Line LineFault
 lone_line lone [] = Ok (LoneCommand lone)
 lone_line lone (word ∷ args) = Err Unknown
 
--- what a line of this name says
+-- the meaning of a line with this name
 abbrev pub named_line : ℕ → Name → List (List ℕ) → Result Line LineFault
 named_line greatest (StoreName verb) args = store_line greatest verb args
 named_line greatest CasName args = cas_line greatest args
@@ -165,7 +166,7 @@ named_line greatest (CountName up) args = count_line up args
 named_line greatest FlushName args = flush_line args
 named_line greatest (LoneName lone) args = lone_line lone args
 
--- what the words of a line say, where a charge may be at most greatest
+-- the meaning of a line's words; a charge is at most greatest
 abbrev pub meaning : ℕ → List (List ℕ) → Result Line LineFault
 meaning greatest [] = Err Unknown
 meaning greatest (word ∷ args) = do
@@ -180,15 +181,15 @@ IsWord word = (0 < length word) × All (λ b. (b ≢ 32) × (b ≢ 10)) word
 abbrev pub IsKey : List ℕ → Type 0
 IsKey key = IsWord key × (length key ≤ 250)
 
--- this holds of the key of a step that is seen so
+-- this holds for the key of a step with this view
 abbrev pub IsKeyedSeen : (List ℕ → Type 0) → View → Type 0
 IsKeyedSeen P (OnKey key block) = P key
 IsKeyedSeen P (OnAll delay) = Unit {0}
 
--- this holds of the step's key; a flush has none
+-- this holds for the step's key; a flush has none
 abbrev pub IsKeyed : (List ℕ → Type 0) → KeyStep → Type 0
 IsKeyed P step = IsKeyedSeen P (view step)
 
--- this holds of each key of the command
+-- this holds for each key of the command
 abbrev pub HasKeys : (List ℕ → Type 0) → Command → Type 0
 HasKeys P command = All (IsKeyed P) (steps command)

@@ -1,4 +1,4 @@
--- What is noted of a line that was read.
+-- A parsed line, as it is kept.
 use Rattle.std.specs.Prelude.{◌≡◌, ◌≤◌, ◌<◌, ◌+◌, ℕ, List, length, take, drop, Result, Ok, Err, Option, IfSome}
 use Rattle.std.specs.Result.{IfOk}
 use Rattle.std.specs.Str.Lines.{strip_carriage_return}
@@ -12,7 +12,7 @@ use Rattle.mc_parse.specs.declared.note.Note.{Note}
 use Rattle.mc_parse.specs.Lines.{Line, meaning}
 use Rattle.mc_parse.specs.Units.{IsLine}
 
--- a command as it is noted of a line's text
+-- a command parsed from a line's text
 abbrev pub Noted : Type 0
 Noted = CommandOf Span KeySpan ℕ
 
@@ -24,7 +24,7 @@ at text span = take span.len (drop span.from text)
 abbrev pub keys_at : (text : List ℕ) → KeySpan → List (List ℕ)
 keys_at text keys = words (drop keys.from text)
 
--- what was noted of a text
+-- the command that was parsed from a text
 abbrev pub read : (text : List ℕ) → Noted → Line
 read text noted = mapped (at text) (keys_at text) (λ len. len) noted
 
@@ -33,7 +33,7 @@ abbrev pub said : (text : List ℕ) → Result Noted LineFault → Result Line L
 said text (Ok noted) = Ok (read text noted)
 said text (Err fault) = Err fault
 
--- keys lie in the text, and are counted
+-- keys are in the text, and are counted right
 abbrev pub FitIn : KeySpan → (text : List ℕ) → Type 0
 FitIn keys text = (keys.from ≤ length text) × (keys.count ≡ length (keys_at text keys))
 
@@ -41,11 +41,11 @@ FitIn keys text = (keys.from ≤ length text) × (keys.count ≡ length (keys_at
 abbrev pub Fits : Noted → (text : List ℕ) → Type 0
 Fits noted text = IfSome (retrieval_in noted) (λ asked. FitIn asked.1 text)
 
--- the line whose line feed is at this place says this
+-- the line whose line feed is at this place has this meaning
 abbrev pub Says : (greatest : ℕ) → (bytes : List ℕ) → (end : ℕ) → Result Line LineFault → Type 0
 Says greatest bytes end line = meaning greatest (words (strip_carriage_return (take end bytes))) ≡ line
 
--- the first line of the bytes is noted
+-- the first line of the bytes is parsed
 pub record IsNoted (greatest : ℕ) (note : Note) (bytes : List ℕ) : Type 0 where
   pub inside : note.end < length bytes
   pub within : note.to ≤ note.end

@@ -1,20 +1,20 @@
--- How a queue keeps its bytes.
+-- How a queue stores its bytes.
 use Rattle.std.specs.Prelude.{◌≡◌, ◌≤◌, ◌+◌, ℕ, List, length}
 
--- the bytes of a buffer, and for how many there is memory
+-- the bytes of a buffer, and its reserved memory
 pub record BufferState : Type 0 where
   pub items : List ℕ
   pub capacity : ℕ
 
--- no more bytes were taken than are left, and a buffer of no bytes reserves at most `kept`
+-- no more bytes were consumed than are left, and an empty buffer reserves at most `kept`
 pub record IsHalfFull (kept taken : ℕ) (buffer : List ℕ) (capacity : ℕ) : Type 0 where
   pub half : taken + taken ≤ length buffer
   pub small : length buffer ≡ 0 → capacity ≤ kept
 
--- how many bytes of memory what is empty keeps where nothing is to come soon
+-- the memory that an idle empty queue keeps, in bytes
 abbrev pub first_piece : ℕ
 first_piece = 2048
 
--- how many bytes of memory the unread bytes of a feed keep if there are none
+-- the memory that an empty feed keeps, in bytes
 abbrev pub kept_in_feed : ℕ
 kept_in_feed = 65536

@@ -25,7 +25,7 @@ is_last (Request command) = is_quit command
 is_last (Fault fault) = false
 is_last LongLine = true
 
--- how many bytes a fault passes over behind its line
+-- how many bytes a fault skips behind its line
 abbrev pub fault_passes : LineFault → ℕ
 fault_passes (TooLarge passed) = passed
 fault_passes Unknown = 0
@@ -33,15 +33,15 @@ fault_passes BadFormat = 0
 fault_passes BadDelta = 0
 fault_passes BadChunk = 0
 
--- how many bytes are passed over after a unit
+-- how many bytes are skipped after a unit
 abbrev pub passed_after : ProtocolUnit → ℕ
 passed_after (Request command) = 0
 passed_after (Fault fault) = fault_passes fault
 passed_after LongLine = 0
 
--- These are the units of a stream of which so many bytes are still to be passed over: a front of
--- the rest spells the first, and what comes after it has the others; after the last unit nothing is
--- read. There are none if no front spells anything.
+-- These are the units of a stream with `passed` bytes still to be skipped. A front of the rest
+-- spells the first unit, and what follows it has the others; after the last unit nothing is read.
+-- There are none if no front spells anything.
 abbrev pub AreUnits : (greatest passed : ℕ) → List ℕ → List ProtocolUnit → Type 0
 AreUnits greatest passed bytes [] = BeginsWithNone greatest (drop passed bytes)
 AreUnits greatest passed bytes (unit ∷ units) =

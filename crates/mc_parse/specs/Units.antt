@@ -1,4 +1,4 @@
--- What a front of the stream spells.
+-- The units that a front of the stream spells.
 use Rattle.std.specs.Prelude.{◌≡◌, ◌≢◌, ℕ, ◌+◌, ◌≤◌, ◌<◌, List, take, [], ◌∷◌, ◌++◌, length, Result, Ok, Err, Option, Some, None, if◌then◌else◌}
 use Rattle.std.specs.List.{AllByRecursion}
 use Rattle.std.specs.Str.{bytes_eq}
@@ -25,7 +25,7 @@ pub record IsLine (line text : List ℕ) : Type 0 where
 abbrev pub HasLine : (end : ℕ) → List ℕ → Type 0
 HasLine end bytes = (end < length bytes) × IsLine (take (end + 1) bytes) (take end bytes)
 
--- the command that a line and its block make, if one follows it
+-- the command of a line and its block, if it has one
 abbrev pub with_block : Line → List ℕ → Command
 with_block line block = mapped (λ key. key) (λ keys. keys) (λ _. block) line
 
@@ -33,7 +33,8 @@ with_block line block = mapped (λ key. key) (λ keys. keys) (λ _. block) line
 abbrev pub stored : Line → (block end : List ℕ) → ProtocolUnit
 stored line block end = if bytes_eq end (13 ∷ 10 ∷ []) then Request (with_block line block) else Fault BadChunk
 
--- the bytes that follow a line whose block has so many bytes, if it has one, and the unit that they complete
+-- the bytes that follow a line with a block of this length, or without one, and the unit that they
+-- complete
 abbrev pub CompletesBy : Option ℕ → Line → List ℕ → ProtocolUnit → Type 0
 CompletesBy None line rest unit = (rest ≡ []) × (unit ≡ Request (with_block line []))
 CompletesBy (Some len) line rest unit =
@@ -44,7 +45,7 @@ abbrev pub Completes : Result Line LineFault → List ℕ → ProtocolUnit → T
 Completes (Err fault) rest unit = (rest ≡ []) × (unit ≡ Fault fault)
 Completes (Ok line) rest unit = CompletesBy (block_in line) line rest unit
 
--- a line, and what follows it; the carriage return before the line feed says nothing
+-- a line, and what follows it; the carriage return before the line feed is ignored
 pub record SpellsLine (greatest : ℕ) (unit : ProtocolUnit) (front : List ℕ) : Type 0 where
   pub line : List ℕ
   pub text : List ℕ
@@ -53,7 +54,7 @@ pub record SpellsLine (greatest : ℕ) (unit : ProtocolUnit) (front : List ℕ) 
   pub is_line : IsLine line text
   pub completes : Completes (meaning greatest (words (strip_carriage_return text))) rest unit
 
--- the unit is spelled by these bytes, where a charge may be at most greatest
+-- the unit is spelled by these bytes; a charge is at most greatest
 abbrev pub Spells : ℕ → ProtocolUnit → List ℕ → Type 0
 Spells greatest LongLine front = (length front ≡ 65537) × AllByRecursion (λ b. b ≢ 10) front
 Spells greatest (Request command) front = SpellsLine greatest (Request command) front

@@ -1,3 +1,5 @@
+//! Texts that append themselves to a buffer.
+
 use std::alloc::AllocError;
 
 /// A text that can append itself to a buffer.

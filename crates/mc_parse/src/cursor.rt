@@ -1,3 +1,5 @@
+//! The position in a retrieval whose keys take a turn each.
+
 ghost use Rattle.std.specs.Prelude.{◌≡◌, ◌≤◌, ◌<◌, ◌+◌, ◌-◌, ◌^◌, ℕ, IfSome, length, None};
 ghost use Rattle.mc_parse.specs.Units.{Request};
 ghost use Rattle.mc_parse.specs.Peeks.{unit_of};

@@ -1,3 +1,5 @@
+//! Exptimes and delays as words.
+
 ghost use Rattle.std.specs.Prelude.{◌≡◌};
 ghost use Rattle.mc_parse.specs.Exptimes.{exptime_of, delay_of};
 

@@ -1,3 +1,5 @@
+//! The grammar of lines: one function for each command.
+
 ghost use Rattle.std.specs.Prelude.{◌≡◌, ◌-◌, ◌^◌, ℕ, List, [], ◌∷◌, Ok, Err};
 ghost use Rattle.std.specs.Result.{IfOk, MatchResult};
 ghost use Rattle.mc_protocol.specs.Words.{words, EndsIn};

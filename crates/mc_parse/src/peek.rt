@@ -1,3 +1,5 @@
+//! What bytes begin with: a command, a fault, or nothing complete yet.
+
 ghost use Rattle.std.specs.Prelude.{◌≡◌, ◌≢◌, ◌+◌, ◌-◌, ◌^◌, ◌<◌, ℕ, length, take, IfSome, Some, None, Ok};
 ghost use Rattle.std.specs.List.{AllByRecursion};
 ghost use Rattle.std.specs.Str.Lines.{strip_carriage_return};

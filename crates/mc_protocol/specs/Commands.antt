@@ -31,7 +31,7 @@ block_in (Store verb key flags exptime block quiet) = Some block
 block_in (Cas key flags exptime block unique quiet) = Some block
 block_in command = None
 
--- what a retrieval asks: the exptime that it may set, its keys, and whether the unique number is told
+-- a retrieval's exptime, if it may set one, its keys, and whether it returns the unique number
 abbrev pub retrieval_in : {K L B : Type 0} → CommandOf K L B → Option (Option ℤ × L × Bool)
 retrieval_in (Get keys with_unique) = Some (None, keys, with_unique)
 retrieval_in (GetTouch exptime keys with_unique) = Some (Some exptime, keys, with_unique)
@@ -47,8 +47,8 @@ abbrev pub retrieval : Option ℤ → (keys : List (List ℕ)) → (with_unique 
 retrieval None keys with_unique = Get keys with_unique
 retrieval (Some exptime) keys with_unique = GetTouch exptime keys with_unique
 
--- What a command asks for: one step, with a block behind its line or without, of which a quiet one's
--- reply isn't told; a step of each key of a retrieval; or no step.
+-- The shape of a command: one step, with a block behind its line or without, quiet (without a
+-- reply) or not; a step for each key of a retrieval; or no step.
 pub data Shape : Type 0 where
   Single : KeyStep → (has_block quiet : Bool) → Shape
   Retrieval : (exptime : Option ℤ) → (keys : List (List ℕ)) → (with_unique : Bool) → Shape
@@ -161,7 +161,7 @@ view (DeleteStep key) = OnKey key []
 view (CountStep key up by) = OnKey key []
 view (FlushStep delay) = OnAll delay
 
--- the key of a step that is seen so; a flush has none, said as the empty list
+-- the key of a step with this view; a flush has the empty list
 abbrev pub key_seen : View → List ℕ
 key_seen (OnKey key block) = key
 key_seen (OnAll delay) = []

@@ -1,4 +1,4 @@
--- What the laws of the plain machine speak of.
+-- Definitions for the laws of the plain machine.
 use Rattle.std.specs.Prelude.{◌≡◌, ◌≢◌, ℕ, ◌-◌, ◌^◌, ◌≤◌, false, List, Option, Some, None, if◌then◌else◌}
 use Rattle.std.specs.FinMap.{get}
 use Rattle.mc_slab.specs.Needs.{NeedState, need_for}

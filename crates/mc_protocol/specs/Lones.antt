@@ -1,4 +1,4 @@
--- What a command does that is its name alone.
+-- What a command does that is only a name.
 use Rattle.std.specs.Prelude.{Bool, true, false}
 use Rattle.mc_protocol.specs.declared.lone.Lone.{Lone}
 use Rattle.mc_protocol.specs.declared.lone.Lone.TheVariants.{Version, Quit}

@@ -189,8 +189,8 @@ abbrev pub count_row : Bool → ℕ → Option Entry → Row
 count_row up by None = Refuses refusal.NotFound
 count_row up by (Some old) = number_row old up by (number_of old.block)
 
--- The protocol's table: the row of a step on a key, by the item that stands under it. A flush is on
--- no key, which is said as one under which nothing stands.
+-- The protocol's table: the row of a step on a key, given the item under it. A flush has no key,
+-- and its row is that of a missing item.
 abbrev pub row_of : KeyStep → ℕ → Option Entry → Row
 row_of (Store verb key flags exptime block) now item =
     store_row verb flags (expiry_of exptime now) item
@@ -282,9 +282,9 @@ written old key flags expiry block now = record old {
   next_unique = old.next_unique + 1;
 }
 
--- A write, of an item that stays in the old one's chunks or takes those that it needs. It is asked
+-- A write, of an item that stays in the old one's chunks or takes those that it needs. It checks
 -- first whether the charge is at most the greatest, then whether a unique number is left, and then,
--- of one that takes chunks, whether they can be had.
+-- for an item that takes chunks, whether they can be had.
 abbrev pub wrote
     : (stays : Bool) → Reply → List ℕ → (flags : ℕ) → Expiry → (block : List ℕ) → Plain → ℕ
     → Outcome

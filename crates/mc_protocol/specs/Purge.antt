@@ -3,7 +3,7 @@ use Rattle.std.specs.Prelude.{ℕ, ◌||◌, Bool, List, is_some, not}
 use Rattle.std.specs.FinMap.{get, retain_keys}
 use Rattle.mc_protocol.specs.Plain.{Plain, alive}
 
--- the state without the items that are dead at the moment and whose keys are meant
+-- the state without the items that are dead at the moment and whose keys are selected
 abbrev pub purged : (List ℕ → Bool) → ℕ → Plain → Plain
 purged meant now old = record old {
   items = retain_keys old.items

@@ -1,3 +1,5 @@
+//! Faults of lines.
+
 /// What is wrong with a line, or with the block behind it. If several apply, the first one here is
 /// reported.
 #[derive(Clone, Copy, Debug, PartialEq, Eq)]

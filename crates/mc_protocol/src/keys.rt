@@ -1,3 +1,5 @@
+//! The keys of a retrieval.
+
 use crate::words::Words;
 use std::marker::Model;
 

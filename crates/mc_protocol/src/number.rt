@@ -1,3 +1,5 @@
+//! Decimal numbers, and counting them up and down.
+
 ghost use Rattle.std.specs.Prelude.{◌≡◌, length};
 ghost use Rattle.std.specs.List.{take_while, list_all};
 ghost use Rattle.std.specs.Char.{is_ascii_digit};

@@ -1,3 +1,5 @@
+//! Replies to steps.
+
 use crate::block::Block;
 
 /// The reply to a step.

@@ -1,3 +1,5 @@
+//! The words of a line.
+
 ghost use Rattle.std.specs.Prelude.{◌≡◌, ◌≤◌, ℕ, List, [], ◌∷◌, MatchOption, take, drop, length, not};
 ghost use Rattle.std.specs.List.{take_while};
 ghost use Rattle.std.specs.Iterator.{YieldsFirstBy, item_count};

@@ -1,4 +1,4 @@
--- The texts that turns are answered with.
+-- The texts of replies.
 use Rattle.std.specs.Prelude.{ℕ, ◌+◌, ◌<◌, ◌==◌, Bool, true, false, List, [], ◌++◌, length, vec_capacity, codes, decimal, if◌then◌else◌, Option, Some, None, slice_get}
 use Rattle.std.specs.declared.vec.Vec.{Vec}
 use Rattle.std.specs.declared.alloc.Global.{Global}
@@ -15,7 +15,7 @@ use Rattle.mc_protocol.specs.declared.fault.LineFault.TheVariants.{Unknown, BadF
 abbrev pub HasNoRoom : Vec ℕ Global → List ℕ → Type 0
 HasNoRoom vector bytes = vec_capacity vector < length vector.items + length bytes
 
--- what is said of a reply that isn't a retrieval's
+-- the text of a reply that isn't a retrieval's
 abbrev pub said : Reply → List ℕ
 said Stored = codes "STORED\r\n"
 said NotStored = codes "NOT_STORED\r\n"
@@ -48,7 +48,7 @@ abbrev pub hit_parts : (key numbers block rest : List ℕ) → List ℕ
 hit_parts key numbers block rest =
     codes "VALUE " ++ key ++ numbers ++ block ++ codes "\r\n" ++ rest
 
--- what a retrieval tells of a key: nothing of one that isn't found
+-- a retrieval's text for a key; a miss has none
 abbrev pub key_text : List ℕ → Bool → Reply → List ℕ
 key_text key with_unique (Hit flags unique block) = hit_text key with_unique flags unique block
 key_text key with_unique Stored = []
@@ -64,7 +64,7 @@ key_text key with_unique TooLarge = []
 key_text key with_unique NoChunk = []
 key_text key with_unique Flushed = []
 
--- the same of the key at a place, if there is one
+-- the same for the key at a place, if there is one
 abbrev pub asked_text : Option (List ℕ) → Bool → Reply → List ℕ
 asked_text None with_unique reply = []
 asked_text (Some key) with_unique reply = key_text key with_unique reply
@@ -78,7 +78,7 @@ abbrev pub retrieval_text : List (List ℕ) → Bool → ℕ → Reply → List 
 retrieval_text keys with_unique at reply = asked_text (slice_get keys at) with_unique reply
     ++ end_text (length keys) at
 
--- a quiet command is answered nothing
+-- a quiet command has no text
 abbrev pub unless_quiet : Bool → List ℕ → List ℕ
 unless_quiet true text = []
 unless_quiet false text = text
@@ -94,7 +94,7 @@ reply_text_by (Alone lone) at reply = []
 abbrev pub reply_text : Command → ℕ → Reply → List ℕ
 reply_text command at reply = reply_text_by (shape command) at reply
 
--- what a command is answered that is its name alone
+-- the text of a command that is only a name
 abbrev pub lone_text : Lone → List ℕ
 lone_text Version = codes "VERSION 1.6.0\r\n"
 lone_text Quit = []
@@ -121,7 +121,7 @@ fault_text BadChunk = codes "CLIENT_ERROR bad data chunk\r\n"
 abbrev pub long_text : List ℕ
 long_text = codes "CLIENT_ERROR line too long\r\n"
 
--- the text of a step whose unique numbers are spent
+-- the text of a step whose unique numbers are used up
 abbrev pub spent_text : Command → List ℕ
 spent_text command = unless_quiet (is_quiet command)
     (codes "SERVER_ERROR out of unique numbers\r\n")

@@ -1,3 +1,5 @@
+//! Line ends with numbers.
+
 use std::marker::Model;
 
 /// Bytes of the longest text: three numbers of up to 20 digits with a space before each, and CR LF.

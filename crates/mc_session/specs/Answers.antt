@@ -1,4 +1,4 @@
--- What one turn of the unit that was found does.
+-- One turn of the unit that was found.
 use Rattle.std.specs.Prelude.{◌≡◌, ℕ, ◌+◌, ◌^◌, ◌<◌, ◌≤◌, ◌==◌, List, ◌++◌, length, Option, Some, if◌then◌else◌, slice_get}
 use Rattle.std.specs.List.{concat}
 use Rattle.mc_protocol.specs.Commands.{steps}
@@ -27,7 +27,7 @@ bytes_of (Plain command) = plain_text command.now
 bytes_of (Flaw fault) = fault_text fault
 bytes_of TooLong = long_text
 
--- the command that a reply is to takes a step
+-- the command of a reply takes a step
 abbrev pub IsText : Text → Type 0
 IsText (First command reply) = 0 < length (steps command.now)
 IsText (Hit command flags unique parts) = 0 < length (steps command.now)
@@ -36,14 +36,14 @@ IsText (Plain command) = Unit {0}
 IsText (Flaw fault) = Unit {0}
 IsText TooLong = Unit {0}
 
--- what comes after turn `at` of a unit of so many bytes
+-- what comes after turn `at` of a unit of `len` bytes
 abbrev pub next_of : ProtocolUnit → (at len : ℕ) → AfterTurn
 next_of unit at len =
     if is_last unit then Close
     else if at + 1 == turn_count unit then Read len (passed_after unit)
     else Step
 
--- the session goes on with what comes next
+-- the session after that
 abbrev pub gone_on : AfterTurn → SessionState → SessionState
 gone_on Step s = record s { taken = s.taken + 1 }
 gone_on (Read len passed) s = record s { unread = read s.unread len passed; taken = 0 }
@@ -66,7 +66,7 @@ pub record TakesFirst {S : Type 0} (relations : Relations S) (now : ℕ) (comman
   pub is_step : slice_get (steps command) 0 ≡ Some step
   pub took_it : relations.took before step now reply after
 
--- what was found is a command, and its first step does
+-- what was found is a command, and its first step takes the store from before to after
 pub record DecidesFound {S : Type 0} (relations : Relations S) (now : ℕ)
     (found : Option (ProtocolUnit × ℕ)) (before after : S) : Type 0 where
   pub command : Command
@@ -74,7 +74,7 @@ pub record DecidesFound {S : Type 0} (relations : Relations S) (now : ℕ)
   pub is_found : found ≡ Some (Request command, len)
   pub takes : TakesFirst relations now command before after
 
--- the turn is answered, its text is told, and what comes next
+-- the turn is answered: its text is appended, and this comes next
 pub record Tells {S : Type 0} (relations : Relations S) (now : ℕ)
     (found : Option (ProtocolUnit × ℕ)) (next : AfterTurn) (before after : S)
     (old new : List ℕ) : Type 0 where
@@ -83,15 +83,15 @@ pub record Tells {S : Type 0} (relations : Relations S) (now : ℕ)
   pub few : turn_count answered.unit < 2 ^ 64
   pub told : new ≡ old ++ answered.text
 
--- so many turns of the first unit were taken, and more are due; how many they are can be counted
+-- some turns of the first unit were taken, and more are due; their number fits a counter
 pub data IsWithinUnit : Unread → ℕ → Type 0 where
   at_start : {unread : Unread} → IsWithinUnit unread 0
   inside : {unread : Unread} {taken : ℕ} (unit : ProtocolUnit) (front rest : List ℕ)
       → to_read unread ≡ front ++ rest → Spells unread.greatest unit front → taken < turn_count unit
       → turn_count unit < 2 ^ 64 → IsWithinUnit unread taken
 
--- the session may go on so: there are that many bytes and none is to be passed over, or more turns
--- of its first unit are due
+-- the session may go on so: there are that many bytes and none is to be skipped, or more turns of
+-- its first unit are due
 abbrev pub MayGoOn : AfterTurn → SessionState → Type 0
 MayGoOn Step s = IsWithinUnit s.unread (s.taken + 1)
 MayGoOn (Read len passed) s = (len ≤ length s.unread.bytes) × (s.unread.passed ≡ 0)

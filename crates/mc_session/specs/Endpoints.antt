@@ -10,7 +10,7 @@ module _ {S : Type 0} (relations : StepRelations S) where
   GivesTurn now old before new after = TakesTurn relations now old new before after
       ⊎ ((IsFalse old.is_open ⊎ NoTurnDue old) × (new ≡ old) × (after ≡ before))
 
-  -- a turn was due, and its step was not taken, or it was and its text wasn't told
+  -- a turn was due, and its step wasn't taken, or it was and its text is missing
   abbrev pub LosesTurn : ℕ → SessionState → S → SessionState → S → Type 0
   LosesTurn now old before new after = TurnIsDue old
       × (relations.same before after ⊎ DecidesStep relations now old before after)

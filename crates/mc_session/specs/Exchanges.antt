@@ -1,10 +1,10 @@
--- What is done with one end of a connection over a reader and a writer.
+-- What happens at one end of a connection over a reader and a writer.
 use Rattle.std.specs.Prelude.{◌≡◌, ◌⊎◌, ℕ, ◌+◌, ◌^◌, ◌<◌, ◌≤◌, List, [], ◌++◌, length, take, Option}
 use Rattle.std.specs.Io.KnownBytes.{Appends, Consumes, IsAtEnd}
 use Rattle.mc_session.specs.declared.endpoint.Endpoint.{Ghosts as Relations}
 use Rattle.mc_session.specs.declared.rounds.TheConstants.{WRITE_AT}
 
--- an endpoint, the store it stands in, what is left to be read, and what was written
+-- an endpoint, its store, what is left to be read, and what was written
 pub record Scene (E S : Type 0) : Type 0 where
   pub endpoint : E
   pub store : S
@@ -17,7 +17,7 @@ scene endpoint store reader writer =
     record { endpoint = endpoint; store = store; reader = reader; writer = writer }
 
 module _ {E S : Type 0} (relations : Relations E S) where
-  -- these bytes of the output were written, a front of it after another
+  -- these bytes of the output were written, front by front
   pub data Writes (first : E) (before : S) : List ℕ → E → S → Type 0 where
     nothing : Writes first before [] first before
     front : {written : List ℕ} {mid last : E} {between after : S} (n : ℕ)
@@ -31,15 +31,15 @@ module _ {E S : Type 0} (relations : Relations E S) where
     pub writes : Writes old before written new after
     pub appends : Appends writer_old writer_new written
 
-  -- nothing more is to come: it isn't open, or it is idle and the reader is at its end
+  -- nothing more is to come: it is closed, or it is idle and the reader is at its end
   abbrev pub HasEnded : E → S → (reader : Option (List ℕ)) → Type 0
   HasEnded endpoint store reader = relations.is_closed endpoint store
       ⊎ (relations.is_idle endpoint store × IsAtEnd reader)
 
 module _ {E S : Type 0} (relations : Relations E S) (may_give : ℕ → Type 0) where
-  -- What was done with an endpoint: how many turns were given, what was read and what was written.
-  -- Each turn was given at a moment that the clock may give, while less than 64 KiB of output were
-  -- waiting. Pieces came only while no turn was due and no output was waiting.
+  -- What was done with an endpoint: the number of turns given, what was read and what was written.
+  -- Each turn was given at a moment that the clock may give, with less than 64 KiB of output.
+  -- Pieces came only while no turn was due and no output was left.
   pub data Exchange (first : E) (before : S) : (turns : ℕ) → (read written : List ℕ) → E → S
       → Type 0 where
     begins : Exchange first before 0 [] [] first before
@@ -58,8 +58,8 @@ module _ {E S : Type 0} (relations : Relations E S) (may_give : ℕ → Type 0) 
         → Writes relations mid between bytes last after
         → Exchange first before turns read (written ++ bytes) last after
 
-  -- With so many turns at most: what was read came of the reader, and what was written went to the
-  -- writer.
+  -- With at most this many turns: what was read came from the reader, and what was written went to
+  -- the writer.
   pub record Exchanges (most : ℕ) (old new : Scene E S) : Type 0 where
     pub turns : ℕ
     pub few : turns ≤ most
@@ -70,8 +70,8 @@ module _ {E S : Type 0} (relations : Relations E S) (may_give : ℕ → Type 0) 
     pub consumes : Consumes old.reader new.reader read
     pub appends : Appends old.writer new.writer written
 
-  -- What memory was refused for after so many turns, and what was read and is lost by it; no more
-  -- than 2^40 turns are given with the one that was refused.
+  -- What memory was refused for after this many turns, and the bytes that were read and are lost by
+  -- it; at most 2^40 turns are given, with the refused one.
   pub data Refusal (turns : ℕ) (old : E) (before : S) (new : E) (after : S) : (lost : List ℕ)
       → Type 0 where
     no_turn : (now : ℕ) → turns < 2 ^ 40 → length (relations.waits old before) < WRITE_AT
@@ -81,7 +81,7 @@ module _ {E S : Type 0} (relations : Relations E S) (may_give : ℕ → Type 0) 
         → relations.loses_piece bytes old before new after
         → Refusal turns old before new after bytes
 
-  -- memory ran out: what was done until then, and what memory was refused for
+  -- memory was refused: what was done until then, and what it was refused for
   pub record FallsShort (old new : Scene E S) : Type 0 where
     pub last : E
     pub between : S

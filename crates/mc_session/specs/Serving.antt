@@ -6,7 +6,7 @@ use Rattle.mc_parse.specs.Units.{ProtocolUnit}
 use Rattle.mc_session.specs.declared.rounds.TheConstants.{WRITE_AT}
 use Rattle.mc_session.specs.Turns.{SessionState, opened, fed, TakesTurn, DecidesStep, NoTurnDue}
 
--- the session with what was written of its output still in front
+-- the session with the output that was written still in front
 abbrev pub with_written : List ℕ → SessionState → SessionState
 with_written written session = record session { out = written ++ session.out }
 
@@ -15,8 +15,8 @@ abbrev pub with_out : List ℕ → SessionState → SessionState
 with_out out session = record session { out = out }
 
 module _ {S : Type 0} (relations : Relations S) (may_give : ℕ → Type 0) where
-  -- turns one after another, each at a moment that the clock may give: of which unit each is, and
-  -- which of its turns
+  -- turns in order, each at a moment that the clock may give: the unit of each, and which of its
+  -- turns it is
   pub data Run : SessionState → S → List (ProtocolUnit × ℕ) → SessionState → S → Type 0 where
     nothing : {session : SessionState} {store : S} → Run session store [] session store
     turn : {first mid last : SessionState} {before between after : S}
@@ -25,9 +25,9 @@ module _ {S : Type 0} (relations : Relations S) (may_give : ℕ → Type 0) wher
         → (takes : TakesTurn relations now mid last between after)
         → Run first before (taken ++ (takes.unit, mid.taken) ∷ []) last after
 
-  -- What was done with a session since it was opened: how many calls of its turn were made, what
-  -- was read and written, and the turns that were taken. Each call was made while less than 64 KiB
-  -- of output were waiting, and pieces came only while no turn was due.
+  -- What was done with a session since it was opened: the number of calls of its turn, what was
+  -- read and written, and the turns that were taken. Each call was made with less than 64 KiB of
+  -- output, and pieces came only while no turn was due.
   pub data Course (greatest : ℕ) (before : S) : (calls : ℕ) → (read written : List ℕ)
       → List (ProtocolUnit × ℕ) → SessionState → S → Type 0 where
     begins : Course greatest before 0 [] [] [] (opened greatest) before
@@ -58,8 +58,8 @@ module _ {S : Type 0} (relations : Relations S) (may_give : ℕ → Type 0) wher
         → Course greatest before calls read written taken session store → session.out ≡ part ++ rest
         → Course greatest before calls read (written ++ part) taken (with_out rest session) store
 
-  -- After so many calls this was done: what was read came of the reader, and what was written went
-  -- to the writer.
+  -- After this many calls this was done: what was read came from the reader, and what was written
+  -- went to the writer.
   pub record HasServed (greatest calls : ℕ) (before after : S)
       (reader_old reader_new writer_old writer_new : Option (List ℕ))
       (last : SessionState) : Type 0 where
@@ -79,15 +79,15 @@ module _ {S : Type 0} (relations : Relations S) (may_give : ℕ → Type 0) wher
         HasServed greatest calls before after reader_old reader_new writer_old writer_new last
     pub few : calls ≤ 2 ^ 40
 
-  -- all of it: every text was written, and the session closed or its stream is at its end
+  -- the whole run: every text was written, and the session closed or its stream is at its end
   pub record ServesAll (greatest : ℕ) (before after : S)
       (reader_old reader_new writer_old writer_new : Option (List ℕ)) : Type 0 where
     pub serves : Serves greatest before after reader_old reader_new writer_old writer_new
     pub written : serves.last.out ≡ []
     pub ended : IsFalse serves.last.is_open ⊎ (IsAtEnd reader_new × NoTurnDue serves.last)
 
-  -- What memory was refused for, after so many calls, and what was read and is lost by it; no more
-  -- than 2^40 calls are made with the one that was refused.
+  -- What memory was refused for after this many calls, and the bytes that were read and are lost by
+  -- it; at most 2^40 calls are made, with the refused one.
   pub data Refused : (calls : ℕ) → SessionState → List ℕ → (before after : S) → Type 0 where
     -- the buffer for pieces, at the start
     no_buffer : {session : SessionState} {store : S} → Refused 0 session [] store store
@@ -95,7 +95,7 @@ module _ {S : Type 0} (relations : Relations S) (may_give : ℕ → Type 0) wher
     no_piece : {calls : ℕ} {session : SessionState} {store : S} (bytes : List ℕ) → calls ≤ 2 ^ 40
         → 0 < length bytes
         → IsTrue session.is_open → NoTurnDue session → Refused calls session bytes store store
-    -- a turn that was due, whose step was not taken
+    -- a turn that was due, whose step wasn't taken
     no_turn : {calls : ℕ} {session : SessionState} {before after : S} → calls < 2 ^ 40
         → length session.out < WRITE_AT
         → IsTrue session.is_open → (NoTurnDue session → ⊥) → relations.same before after
@@ -106,7 +106,7 @@ module _ {S : Type 0} (relations : Relations S) (may_give : ℕ → Type 0) wher
         → may_give now → DecidesStep relations now session before after
         → Refused calls session [] before after
 
-  -- memory ran out: a beginning of a run, and then what memory was refused for
+  -- memory was refused: a beginning of a run, and then what it was refused for
   pub record ServesUntilRefused (greatest : ℕ) (before after : S)
       (reader_old reader_new writer_old writer_new : Option (List ℕ)) : Type 0 where
     pub calls : ℕ

@@ -11,15 +11,15 @@ use Rattle.mc_parse.specs.Streams.{AreUnits, is_last, passed_after}
 use Rattle.mc_parse.specs.Feeds.{Unread, pushed, settled}
 use Rattle.mc_reply.specs.Texts.{reply_text, plain_text, fault_text, long_text, spent_text}
 
--- what contracts see of a session: the unread part of its stream, how many turns of its first unit
--- were taken, its output, and whether it is open
+-- what contracts see of a session: the unread part of its stream, the number of turns taken of its
+-- first unit, its output, and whether it is open
 pub record SessionState : Type 0 where
   pub unread : Unread
   pub taken : ℕ
   pub out : List ℕ
   pub is_open : Bool
 
--- what is to be read: the unread bytes without those that are to be passed over
+-- what is to be read: the unread bytes without those to be skipped
 abbrev pub to_read : Unread → List ℕ
 to_read unread = drop unread.passed unread.bytes
 
@@ -27,24 +27,24 @@ to_read unread = drop unread.passed unread.bytes
 abbrev pub HasUnits : Unread → List ProtocolUnit → Type 0
 HasUnits unread units = AreUnits unread.greatest unread.passed unread.bytes units
 
--- how many turns a unit has: one for each step of a command, and at least one
+-- the number of turns of a unit: one for each step of a command, and at least one
 abbrev pub turn_count : ProtocolUnit → ℕ
 turn_count (Request command) = max 1 (length (steps command))
 turn_count (Fault fault) = 1
 turn_count LongLine = 1
 
--- so many turns of a unit, from turn `at` on
+-- `count` turns of a unit, from turn `at` on
 abbrev pub turns_from : ProtocolUnit → (at count : ℕ) → List (ProtocolUnit × ℕ)
 turns_from unit at zero = []
 turns_from unit at (suc count) = (unit, at) ∷ turns_from unit (at + 1) count
 
--- the turns of units: of each unit its turns, one after another
+-- the turns of units: each unit's turns, in order
 abbrev pub turns : List ProtocolUnit → List (ProtocolUnit × ℕ)
 turns [] = []
 turns (unit ∷ units) = turns_from unit 0 (turn_count unit) ++ turns units
 
 module _ {S : Type 0} (relations : Relations S) where
-  -- a step is answered with the text of its reply, or its unique numbers are spent
+  -- a step has the text of its reply, or its unique numbers are used up
   abbrev pub AnswersStep : Command → ℕ → KeyStep → ℕ → S → S → List ℕ → Type 0
   AnswersStep command at step now before after text =
       ((reply : Reply) × relations.took before step now reply after
@@ -64,23 +64,23 @@ module _ {S : Type 0} (relations : Relations S) where
 abbrev pub nothing_unread : ℕ → Unread
 nothing_unread greatest = record { greatest = greatest; passed = 0; bytes = [] }
 
--- a session that was fed nothing
+-- a session without bytes
 abbrev pub opened : ℕ → SessionState
 opened greatest = record { unread = nothing_unread greatest; taken = 0; out = []; is_open = true }
 
--- a session that is closed keeps its output alone
+-- a closed session keeps only its output
 abbrev pub closed : SessionState → SessionState
 closed s = record (opened s.unread.greatest) { out = s.out; is_open = false }
 
--- a session that is open takes a piece of its stream
+-- an open session takes a piece of its stream
 abbrev pub fed : SessionState → List ℕ → SessionState
 fed s piece = if s.is_open then record s { unread = pushed s.unread piece } else s
 
--- the session was fed a piece, and is as it was if the piece has no bytes
+-- the session was fed a piece; an empty piece changes nothing
 abbrev pub FedPiece : (old new : SessionState) → List ℕ → Type 0
 FedPiece old new piece = (new ≡ fed old piece) × (piece ≡ [] → new ≡ old)
 
--- so many bytes of the output were sent
+-- this many bytes of the output were written
 abbrev pub sent : SessionState → ℕ → SessionState
 sent s n = record s { out = drop n s.out }
 
@@ -89,9 +89,9 @@ abbrev pub unread_behind : (greatest : ℕ) → ProtocolUnit → (rest : List �
 unread_behind greatest unit rest =
     settled (record { greatest = greatest; passed = passed_after unit; bytes = rest })
 
--- The session after a turn of a unit: its text is told. With the last turn of the unit the unit is
--- read, and the bytes that it passes over are dropped as they come; with the last unit of the
--- stream the session is closed.
+-- The session after a turn of a unit: its text is appended. With the last turn of the unit the unit
+-- is read, and the bytes that it skips are dropped as they come; with the last unit of the stream
+-- the session is closed.
 abbrev pub moved : SessionState → ProtocolUnit → List ℕ → List ℕ → SessionState
 moved s unit rest text =
     if is_last unit then closed (record s { out = s.out ++ text })
@@ -114,7 +114,7 @@ pub record TakesTurn {S : Type 0} (relations : Relations S) (now : ℕ) (old new
   pub moves : new ≡ moved old unit rest text
 
 -- The next turn of the session's stream is a command's, and its step was taken at a moment, with a
--- store; the text of the reply was not told.
+-- store; the text of the reply is missing.
 pub record DecidesStep {S : Type 0} (relations : Relations S) (now : ℕ) (old : SessionState)
     (before after : S) : Type 0 where
   pub command : Command

@@ -1,3 +1,5 @@
+//! What comes after a turn.
+
 /// What comes after a turn.
 #[derive(Clone, Copy)]
 pub enum AfterTurn {

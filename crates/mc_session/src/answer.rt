@@ -1,3 +1,5 @@
+//! The first turn of each kind of unit.
+
 ghost use Rattle.std.specs.Prelude.{◌≡◌, ◌++◌, ◌^◌, ◌<◌, ℕ, List, IfOk, IfErr, IfSome, IsTrue, IsFalse, OnOk, OnErr, length};
 ghost use Rattle.mc_protocol.specs.Commands.{steps, HasShortKeys};
 ghost use Rattle.mc_protocol.specs.Commands.{Command};

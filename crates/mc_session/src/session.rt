@@ -1,3 +1,5 @@
+//! Sessions, and their turns.
+
 ghost use Rattle.std.specs.Prelude.{◌≡◌, ◌≤◌, ◌↔◌, length, IsTrue, IfSome};
 ghost use Rattle.mc_protocol.specs.Commands.{HasShortKeys, longest_key};
 ghost use Rattle.mc_parse.specs.Peeks.{unit_of};

@@ -1,4 +1,4 @@
--- What lies in a bay, and what of it shows.
+-- The content of a bay, as contracts see it.
 use Rattle.std.specs.Prelude.{◌≡◌, ℕ, ◌*◌, refl}
 use mathlib.Core.Logic.{inl, inr, ◌⊎◌}
 use Rattle.std.specs.Coded.{Coded, code_by, coded⊎}
@@ -6,12 +6,12 @@ use Rattle.mc_shelf.specs.States.{ShelfContent, DeskState, coded_content, coded_
 use Rattle.mc_shared.specs.declared.bay.Bay.{Bay}
 use Rattle.mc_shared.specs.declared.bay.Bay.TheVariants.{Shelf, Desk}
 
--- Where a bay lies in the table. Its word and its slot are eight apart from the next one's, so that no
--- two lie in one line of a cache; nothing lies between.
+-- The place of a bay in the table. Its word and its slot are eight after the previous bay's, so
+-- that no two share a cache line; nothing is between.
 abbrev pub place : ℕ → ℕ
 place b = b * 8
 
--- what a bay holds: the content of a shelf, whose room and growth don't show, or the desk
+-- the content of a bay: a shelf's content, without its room and growth, or the desk
 pub data Content : Type 0 where
   OfShelf : ShelfContent → Content
   OfDesk : DeskState → Content

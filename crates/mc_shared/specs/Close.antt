@@ -1,4 +1,4 @@
--- What is left when the store is closed.
+-- The result of closing the store.
 use Rattle.std.specs.Prelude.{◌≡◌, List}
 use Rattle.mc_protocol.specs.Plain.{Plain}
 use Rattle.mc_shelf.specs.States.{ShelfState, DeskState}

@@ -1,4 +1,4 @@
--- How many keys of each number were counted.
+-- Counts of keys by number.
 use Rattle.std.specs.Prelude.{◌≡◌, ◌≢◌, ℕ, ◌*◌, ◌/◌, ◌%◌, ◌<◌, List, length, slice_index}
 use Rattle.mc_protocol.specs.Plain.{Plain, flushed}
 use Rattle.mc_shelf.specs.States.{ShelfContent, ShelfState, DeskState}
@@ -8,18 +8,18 @@ use Rattle.mc_shared.specs.History.{Beginning}
 use Rattle.mc_shared.specs.Steps.{AreKeys}
 use Rattle.mc_shared.specs.View.{SeatView}
 
--- a place for each number, and 0 there
+-- a place for each number, with 0
 pub record AreNone (counts : List ℕ) : Type 0 where
   pub many : length counts ≡ 4096
   pub none : (number : ℕ) → slice_index counts number ≡ 0
 
--- at the place of each number how many keys of a shelf have it
+-- at the place of each number, how many keys of a shelf have it
 pub record AreCountsOf (shelf : ShelfContent) (counts : List ℕ) : Type 0 where
   pub many : length counts ≡ 4096
   pub counted : (hash_of : List ℕ → ℕ) → AreHashes shelf hash_of → (number : ℕ) → number < 4096
       → slice_index counts number ≡ keys_with hash_of number shelf.items
 
--- the shelves are all parts of a state, and each has as many numbers
+-- the shelves are all parts of a state, and each has equally many numbers
 pub record AreAllOf (hash_of : List ℕ → ℕ) (state : Plain) (shelves : List ShelfState) : Type 0
   where
     pub count : ℕ
@@ -27,15 +27,14 @@ pub record AreAllOf (hash_of : List ℕ → ℕ) (state : Plain) (shelves : List
     pub desk : DeskState
     pub parts : ArePartsOf hash_of state shelves count desk
 
--- at the place of each number how many keys have it, of whatever state the shelves are all parts
+-- at the place of each number, how many keys have it, in any state with these shelves
 pub record AreCountsOfAll (shelves : List ShelfState) (counts : List ℕ) : Type 0 where
   pub many : length counts ≡ 4096
   pub counted : (hash_of : List ℕ → ℕ) (state : Plain) → AreAllOf hash_of state shelves
       → (number : ℕ) → number < 4096
       → slice_index counts number ≡ keys_with hash_of number state.items
 
--- at the place of each number how many keys have it, whatever the state is, if what a seat holds
--- fits it
+-- at the place of each number, how many keys have it, in any state that fits what a seat holds
 pub record AreKeyCounts (start : Beginning) (v : SeatView) (counts : List ℕ) : Type 0 where
   pub many : length counts ≡ 4096
   pub counted : (number : ℕ) → number < 4096 → AreKeys start v number (slice_index counts number)
@@ -49,15 +48,15 @@ pub record AreKeyCountsAt (start : Beginning) (v : SeatView) (at : ℕ) (counts 
     pub none : (number : ℕ) → number < 4096 → number % start.shelves ≢ at
         → slice_index counts number ≡ 0
 
--- at the place of each number how many keys of a shelf have it, by one hash of keys
+-- at the place of each number, how many keys of a shelf have it, by one hash function
 pub record AreCountsBy (hash_of : List ℕ → ℕ) (shelf : ShelfContent) (counts : List ℕ) : Type 0
   where
     pub many : length counts ≡ 4096
     pub counted : (number : ℕ) → number < 4096
         → slice_index counts number ≡ keys_with hash_of number shelf.items
 
--- at the place of each number how many keys of it a flush after a delay left, of whatever state the
--- shelves are then all parts
+-- at the place of each number, how many keys with it a flush after a delay leaves, in any state
+-- with these shelves
 pub record AreCountsLeft (delay : ℕ) (shelves : List ShelfState) (counts : List ℕ) : Type 0 where
   pub many : length counts ≡ 4096
   pub counted : (hash_of : List ℕ → ℕ) (state : Plain) (now : ℕ)

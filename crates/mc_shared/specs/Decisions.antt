@@ -1,4 +1,4 @@
--- What a decision says.
+-- The meaning of a decision.
 use Rattle.std.specs.Prelude.{ℕ, ◌-◌, List, [], ◌∷◌, replicate, slice_index}
 use Rattle.std.specs.FinMap.{len}
 use Rattle.mc_protocol.specs.declared.step.KeyStep.TheVariants.{Flush}
@@ -13,7 +13,7 @@ use Rattle.mc_shared.specs.Spread.{spread, keys_in}
 use Rattle.mc_shared.specs.declared.decision.Decision.{Decision}
 use Rattle.mc_shared.specs.declared.decision.Decision.TheVariants.{Settled, Read, Begun, Purged, NoneDead, Flushed}
 
--- what was done
+-- the operation
 abbrev pub operation_of : Decision → Operation
 operation_of (Settled step moment reply) = Stepped step.now moment reply.now
 operation_of (Read step moment shelf) =
@@ -24,7 +24,7 @@ operation_of (Purged at moment shelf before) = PurgedShelf at moment
 operation_of (NoneDead at moment) = PurgedShelf at moment
 operation_of (Flushed delay moment shelves before) = Stepped (Flush delay) moment AllFlushed
 
--- the bays that are still held, with what they hold from then on
+-- the bays that are still held, with their content from then on
 abbrev pub still_of : Decision → List (ℕ × Content)
 still_of (Settled step moment reply) = []
 still_of (Read step moment shelf) = []
@@ -34,9 +34,9 @@ still_of (Purged at moment shelf before) = (at, OfShelf shelf.now.content) ∷ [
 still_of (NoneDead at moment) = []
 still_of (Flushed delay moment shelves before) = stacked shelves.now.items
 
--- the words that show too many from then on: that of the step's number, as often as the shelf
--- counted more items than it has when the step is finished; and if many went, each number's, as
--- often as more of it were counted than are left
+-- The words that count too many keys from then on. For a step it is its number's word, as often as
+-- the shelf's count exceeds its items once the step is finished. For a purge or a flush it is each
+-- number's word, as often as its count exceeds the keys that are left.
 abbrev pub surplus_of : Beginning → Decision → List ℕ
 surplus_of start (Settled step moment reply) = []
 surplus_of start (Read step moment shelf) = []

@@ -24,7 +24,7 @@ use Rattle.mc_shared.specs.declared.ask.Looked.TheVariants.{Planned, AskAgainAtD
 use Rattle.mc_shared.specs.declared.ask.Untaken.{Untaken}
 use Rattle.mc_shared.specs.declared.ask.Untaken.TheVariants.{Met, Refused}
 
--- a shelf that is held: of which store, for a caller with which past, which it is, and what it holds
+-- a held shelf: the store, the caller's past, the shelf's number, and its content
 pub record ShelfHold (K : Type 0) : Type 0 where
   pub shared : SharedState K
   pub past : Past
@@ -39,7 +39,7 @@ coded_shelf_hold {K} hasher =
     (λ p. record { shared = p.0; past = p.1.0; at = p.1.1.0; shelf = p.1.1.1 })
     (λ _. refl)
 
--- the seat is the store's, its caller lives, and it holds this shelf alone, which fits a history
+-- the seat is the store's, its caller is alive, and it holds only this shelf, which fits a history
 pub record HoldsShelf {K : Type 0} (hash_of : K → List ℕ → ℕ) (shared : SharedState K) (seat : Sitter)
     (at : ℕ) (shelf : ShelfContent) : Type 0 where
   pub own : seat.table_id ≡ shared.table
@@ -71,7 +71,8 @@ with_desk hold desk =
 abbrev pub without_desk : {K : Type 0} → BothHold K → ShelfHold K
 without_desk hold = record { shared = hold.shared; past = hold.past; at = hold.at; shelf = hold.shelf }
 
--- the seat is the store's, its caller lives, and it holds this shelf and the desk, which fit a history
+-- the seat is the store's, its caller is alive, and it holds this shelf and the desk, which fit a
+-- history
 pub record HoldsBoth {K : Type 0} (hash_of : K → List ℕ → ℕ) (shared : SharedState K) (seat : Sitter)
     (at : ℕ) (shelf : ShelfContent) (desk : DeskState) : Type 0 where
   pub own : seat.table_id ≡ shared.table
@@ -81,7 +82,7 @@ pub record HoldsBoth {K : Type 0} (hash_of : K → List ℕ → ℕ) (shared : S
       ≡ holds_two seat.me.0.past shared.began.settings.shelves (OfDesk desk) at (OfShelf shelf)
   pub fits : Fitted (start_of hash_of shared.began) seat.me.0
 
--- the caller that a hold gives back
+-- the caller that a hold returns
 abbrev pub caller_of : {K : Type 0} → SharedState K → Past → CallerState
 caller_of shared past = record { table = shared.table; past = past }
 
@@ -94,31 +95,31 @@ pub record IsAsked {K : Type 0} (hash_of : K → List ℕ → ℕ) (shared : Sha
   pub own : shelf_in (start_of hash_of shared.began) (key_of ask.step.now) ≡ ask.at
   pub inside : ask.at < shared.began.settings.shelves
 
--- what a look at a shelf found: a plan of the step, or that the desk has to tell
+-- the result of looking a step up at a shelf: a plan of the step, or that only the desk can decide
 abbrev pub IsLooked : Looked → ShelfState → Ask → Type 0
 IsLooked (Planned plan) shelf ask = IsPlanned plan shelf ask.step.now ask.hash ask.moment
 IsLooked AskAgainAtDesk shelf ask = writes (next_of shelf.content ask.step.now ask.moment) ≡ true
 
--- the bay was held by another, as its word was 1, which it is not where the past is whole
+-- another caller holds the bay, since its word was 1; not so if the past is whole
 pub record IsBusyTo (p : Past) (bay : ℕ) (busy : Busy) : Type 0 where
   pub same : busy.bay ≡ bay
   pub odd : busy.word ≡ 1
   pub other : Whole p → ⊥
 
--- the past has the purge as one call more, and a legal history keeps it
+-- the past has the purge as one more call, and a legal history keeps it
 pub record HasPurged {K : Type 0} (hash_of : K → List ℕ → ℕ) (shared : SharedState K) (old : Past)
     (at now : ℕ) (new : CallerState) : Type 0 where
   pub table : new.table ≡ shared.table
   pub past : new.past ≡ call old (entry_of old (Purged at now))
   pub agrees : Agrees (start_of hash_of shared.began) new.past
 
--- Why a step was not taken: the key's shelf or the desk was held by another, or it was refused.
+-- Why a step wasn't taken: another caller held the key's shelf or the desk, or it was refused.
 abbrev pub Unmet : {B : Type 0} → (Past → ℕ → B → Type 0) → Beginning → Past → KeyStep → ℕ → Untaken B
     → Type 0
 Unmet busy start p step now (Met told) = busy p (shelf_in start (key_of step)) told ⊎ busy p start.shelves told
 Unmet busy start p step now (Refused fault) = Refuses start p step now fault
 
--- what a caller that tried is told
+-- the error that a caller of `try_step` gets
 abbrev pub told_of : Untaken Busy → TryFault
 told_of (Met busy) = IsBusy busy.bay busy.word
 told_of (Refused OutOfMemory) = NoMemory

@@ -1,14 +1,14 @@
--- Presence words: of each number that a key may have, how many keys have it.
+-- Presence words: for each number of keys, how many keys have it.
 use Rattle.std.specs.Prelude.{ℕ, ◌+◌, ◌*◌, ◌/◌, ◌%◌}
 use Rattle.mc_shared.specs.Bays.{place}
 
--- The word of a number. Those of one shelf's numbers lie side by side, behind all bays. Eight words
--- are left out behind each shelf's, so that no two shelves' lie in one line of a cache, wherever the
--- table begins; nor does one with the desk's, which has its line for itself.
+-- The word of a number. The words of one shelf's numbers are adjacent, behind all bays. Eight words
+-- are unused after each shelf's, so that no two shelves' words share a cache line, wherever the
+-- table begins; nor do they share one with the desk's word, which has a line of its own.
 unfoldable pub word_of : (shelves number : ℕ) → ℕ
 word_of shelves number =
     place (shelves + 1) + number % shelves * (4096 / shelves + 8) + number / shelves
 
--- how many words a table has
+-- the number of words of a table
 unfoldable pub words_with : (shelves : ℕ) → ℕ
 words_with shelves = place (shelves + 1) + shelves * (4096 / shelves + 8)

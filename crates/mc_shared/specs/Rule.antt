@@ -1,4 +1,4 @@
--- The running rule.
+-- The rule of the table, which every atomic step keeps.
 use Rattle.std.specs.Prelude.{◌≡◌, ℕ, ◌+◌, ◌*◌, ◌/◌, ◌%◌, ◌≤◌, ◌<◌, List, [], ◌∷◌, cond, eqb, length, slice_index, ◌⊎◌, Option, Some}
 use mathlib.Core.Option.{some}
 use lib.ListN.{get_elem?}
@@ -16,13 +16,13 @@ use Rattle.mc_shared.specs.View.{SeatView}
 use Rattle.mc_shelf.specs.Numbers.{keys_with}
 use Rattle.mc_shared.specs.Presence.{word_of, words_with}
 
--- the bay b holds what the state says
+-- the content of bay b fits the state
 abbrev pub FitsBay : Beginning → Plain → ℕ → Content → Type 0
 FitsBay start m b (OfShelf shelf) =
     (b < start.shelves) × IsShelfOf start.hash_of start.shelves m b shelf
 FitsBay start m b (OfDesk desk) = (b ≡ start.shelves) × IsDeskOf m desk
 
--- the greatest charge and the limit of pages are what they began as
+-- the greatest charge and the limit of pages are as at the beginning
 pub record KeepsLimits (start : Beginning) (m : Plain) : Type 0 where
   pub greatest : m.greatest ≡ start.plain.greatest
   pub limit : m.limit ≡ start.plain.limit
@@ -31,25 +31,25 @@ abbrev pub AllFit : Beginning → Plain → List (ℕ × Content) → Type 0
 AllFit start m [] = Unit {0}
 AllFit start m (x ∷ xs) = FitsBay start m x.0 x.1 × AllFit start m xs
 
--- how often the bay b is held
+-- how often bay b is held
 abbrev pub holds_bay : ℕ → ℕ × Content → ℕ
 holds_bay b x = cond (eqb b x.0) 1 0
 
 abbrev pub times : ℕ → SeatView → ℕ
 times b v = total (holds_bay b) v.bays
 
--- how often a view names a word as one that shows one key too many
+-- how often a view lists a word as counting one key too many
 abbrev pub named : ℕ → SeatView → ℕ
 named word v = total (λ x. cond (eqb word x) 1 0) v.surplus
 
--- a word is that of a number, and the view holds the number's shelf
+-- the word is that of a number whose shelf the view holds
 pub record IsHeldWord (start : Beginning) (v : SeatView) (word : ℕ) : Type 0 where
   pub number : ℕ
   pub below : number < 4096
   pub is : word ≡ word_of start.shelves number
   pub held : 1 ≤ times (number % start.shelves) v
 
--- the pasts of all seats, against the history
+-- the pasts of all seats fit the history
 pub record Story (start : Beginning) (log : List HistoryEntry) (views : List SeatView) : Type 0 where
   pub legal : IsLegal start start.plain log
   pub ordered : (id : ℕ) (v : SeatView) → get_elem? views id ≡ some v → Ordered log v.past
@@ -57,14 +57,14 @@ pub record Story (start : Beginning) (log : List HistoryEntry) (views : List Sea
   pub known : (g : Name → ℕ) → total (λ v. total g (callers v.past)) views ≡ g [] + total
       (λ v. total g (makes v.past)) views
 
--- who is who: each caller is held by one past, and only who lives holds a bay
+-- the names: each caller is held by one past, and only a living caller holds a bay
 pub record Named (log : List HistoryEntry) (views : List SeatView) : Type 0 where
   pub sound : (id : ℕ) (v : SeatView) → get_elem? views id ≡ some v → Sound v.past
   pub once : (c : Name) → total (λ v. past.times c (callers v.past)) views ≤ 1
   pub numbers : (c : Name) (n : ℕ) → total (numbered c n) log ≤ 1
   pub idle : (id : ℕ) (v : SeatView) → get_elem? views id ≡ some v → Lives v.past ⊎ (v.bays ≡ [])
 
--- the bays, against the state: those below the number of shelves, and the desk
+-- the bays fit the state: those of the shelves, and the desk's
 pub record Stocked (start : Beginning) (m : Plain) (words : List ℕ)
     (homes : List (mathlib.Core.Option.Option (Option Bay))) (views : List SeatView) : Type 0 where
   pub wide : length words ≡ words_with start.shelves
@@ -76,9 +76,9 @@ pub record Stocked (start : Beginning) (m : Plain) (words : List ℕ)
   pub limits : KeepsLimits start m
   pub out : (id : ℕ) (v : SeatView) → get_elem? views id ≡ some v → AllFit start m v.bays
 
--- the presence words, against the keys: a word is how many keys have its number, and by how much it
--- shows too many, which only a view names that holds the number's shelf; each shelf has as many
--- numbers
+-- the presence words fit the keys: a word is the number of keys with its number, plus how often the
+-- views list it as counting too many, which only a view does that holds the number's shelf; each
+-- shelf has equally many numbers
 pub record Present (start : Beginning) (m : Plain) (words : List ℕ) (views : List SeatView) : Type 0
   where
     pub divides : 4096 / start.shelves * start.shelves ≡ 4096
@@ -88,7 +88,7 @@ pub record Present (start : Beginning) (m : Plain) (words : List ℕ) (views : L
     pub owned : (id : ℕ) (v : SeatView) (word : ℕ) → get_elem? views id ≡ some v → 1 ≤ named word v
         → IsHeldWord start v word
 
--- the words of a table that opens: each bay's is 0, and each number's how many keys have it
+-- the words of a new table: a bay's word is 0, and a number's word counts its keys
 pub record AreFirst (start : Beginning) (words : List ℕ) : Type 0 where
   pub divides : 4096 / start.shelves * start.shelves ≡ 4096
   pub long : length words ≡ words_with start.shelves
@@ -97,7 +97,7 @@ pub record AreFirst (start : Beginning) (words : List ℕ) : Type 0 where
       → slice_index words (word_of start.shelves number)
       ≡ keys_with start.hash_of number start.plain.items
 
--- the words of a table on the way there: those of the numbers before one are set to their counts
+-- the words of a table that is being filled: those of the numbers below one are set to their counts
 pub record AreFilled (shelves : ℕ) (words counts : List ℕ) (number : ℕ) : Type 0 where
   pub long : length words ≡ words_with shelves
   pub free : (b : ℕ) → b < shelves + 1 → slice_index words (place b) ≡ 0
@@ -111,7 +111,7 @@ pub record Kept (start : Beginning) (s : State (Option Bay) SeatView) : Type 0 w
   pub stocked : Stocked start (after start start.plain log) s.words s.homes s.views
   pub present : Present start (after start start.plain log) s.words s.views
 
--- the rule of a table whose key is what the store began with
+-- the rule of a table; its key is what the store began with
 abbrev pub KeptFrom : {K : Type 0} → (K → List ℕ → ℕ) → StoreState K → State (Option Bay) SeatView
     → Type 0
 KeptFrom hash_of store = Kept (start_of hash_of store)

@@ -1,11 +1,11 @@
--- Words that show too many after many keys went at once.
+-- Words that count too many keys after many keys were removed at once.
 use Rattle.std.specs.Prelude.{ℕ, zero, suc, ◌+◌, List, [], ◌++◌, replicate}
 use Rattle.mc_shelf.specs.States.{ShelfState}
 use Rattle.mc_shelf.specs.Numbers.{keys_with}
 use Rattle.mc_shared.specs.Sums.{total}
 use Rattle.mc_shared.specs.Presence.{word_of}
 
--- the words of so many numbers from one on, each as often as keys of its number went
+-- the words of `count` numbers from one on, each as often as keys with its number were removed
 unfoldable pub spread : (shelves : ℕ) → (gone : ℕ → ℕ) → (number count : ℕ) → List ℕ
 spread shelves gone number zero = []
 spread shelves gone number (suc count) =

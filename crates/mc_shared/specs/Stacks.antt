@@ -1,4 +1,4 @@
--- Shelves that are held, the last one first.
+-- Held shelves, the last one first.
 use Rattle.std.specs.Prelude.{ℕ, ◌+◌, List, [], ◌∷◌, None}
 use Rattle.mc_shelf.specs.States.{ShelfState}
 use Rattle.mc_shared.specs.Bays.{Content, OfShelf, place}
@@ -12,7 +12,7 @@ stacked_on n (x ∷ xs) below = stacked_on (n + 1) xs ((n, OfShelf x.content) �
 abbrev pub stacked : List ShelfState → List (ℕ × Content)
 stacked xs = stacked_on 0 xs []
 
--- the slots of held bays, each with nothing in it
+-- the slots of held bays, which are empty
 abbrev pub hollow : List (ℕ × Content) → List (ℕ × Slot)
 hollow [] = []
 hollow (x ∷ xs) = (place x.0, None) ∷ hollow xs

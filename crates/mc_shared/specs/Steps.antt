@@ -1,4 +1,4 @@
--- What each atomic step tells.
+-- The meaning of each atomic step.
 use Rattle.std.specs.Prelude.{◌≡◌, ◌≢◌, ℕ, ◌+◌, ◌%◌, ◌^◌, ◌<◌, ◌≤◌, List, [], ◌∷◌, drop, Option, Some, None}
 use Rattle.mc_protocol.specs.Plain.{Plain, opening}
 use Rattle.mc_protocol.specs.declared.step.KeyStep.TheVariants.{Read}
@@ -21,7 +21,7 @@ Slot = Option Bay
 abbrev pub Mine : Type 0
 Mine = Me Slot SeatView
 
--- what belongs in the bay b, where there are so many shelves
+-- the content that belongs in bay b, given the number of shelves
 abbrev pub BelongsAt : ℕ → ℕ → Bay → Type 0
 BelongsAt shelves b (Shelf shelf) = b < shelves
 BelongsAt shelves b (Desk desk) = b ≡ shelves
@@ -29,11 +29,11 @@ BelongsAt shelves b (Desk desk) = b ≡ shelves
 abbrev pub holding : SeatView → ℕ → Content → SeatView
 holding v b x = record v { bays = (b, x) ∷ v.bays }
 
--- the entry of what a past's caller decides next, under that caller's next number
+-- the entry of the next operation of a past's caller, with that caller's next number
 abbrev pub entry_of : Past → Operation → HistoryEntry
 entry_of p what = record { by = name_of p; number = count_calls (name_of p) (held p); what = what }
 
--- the seat took this bay last, and has its content; its slot is empty, and no word shows too many
+-- the seat took this bay last, and has its content; its slot is empty, and no word counts too many
 abbrev pub HoldsThis : Mine → ℕ → Content → Type 0
 HoldsThis m b x =
     (m.0.bays ≡ (b, x) ∷ rest m.0.bays) × (m.1 ≡ (place b, None) ∷ rest m.1) × (m.0.surplus ≡ [])
@@ -43,23 +43,23 @@ abbrev pub HoldsLast : Mine → ℕ → Type 0
 HoldsLast m b =
     ((x : Content) × (m.0.bays ≡ (b, x) ∷ rest m.0.bays)) × (m.1 ≡ (place b, None) ∷ rest m.1)
 
--- after the last bay taken was given back
+-- the seat after the last bay taken was given back
 abbrev pub without : Mine → Mine
 without m = (record m.0 { bays = rest m.0.bays }, rest m.1)
 
--- the same with a decision, where these bays are still held, with this content, and these words
--- show too many
+-- the same with a decision, after which these bays are still held, with this content, and these
+-- words count too many keys
 abbrev pub decided_by : Mine → Operation → List (ℕ × Content) → (surplus : List ℕ) → Mine
 decided_by m what bays surplus = (
   record { past = call m.0.past (entry_of m.0.past what); bays = bays; surplus = surplus },
   rest m.1,
 )
 
--- with a decision, and nothing else
+-- with a decision, and no other change
 abbrev pub called : Mine → Operation → Mine
 called m what = (record m.0 { past = call m.0.past (entry_of m.0.past what) }, m.1)
 
--- where these words show too many
+-- with these words counting too many keys
 abbrev pub loaded : Mine → (surplus : List ℕ) → Mine
 loaded m surplus = (record m.0 { surplus = surplus }, m.1)
 
@@ -77,13 +77,12 @@ pub record Fitted (start : Beginning) (v : SeatView) : Type 0 where
   pub limits : KeepsLimits start (after start start.plain log)
   pub fits : AllFit start (after start start.plain log) v.bays
 
--- the bay is held by another, as its word was 1: not by this seat, nor by any if its past is
--- whole
+-- another caller holds the bay, since its word was 1: not this seat, nor any if its past is whole
 abbrev pub IsBusy : Beginning → Mine → ℕ → (word : ℕ) → Mine → Type 0
 IsBusy began m b word m' =
     (word ≡ 1) × (m' ≡ m) × (Whole m.0.past → 1 ≤ times b m.0) × Agrees began m'.0.past
 
--- the word was 0, and the bay is held from then on; or it was 1
+-- the word was 0, and the bay is held from then on; or the word was 1
 abbrev pub took : Beginning → (bay : ℕ) → Step Slot → Mine → ℕ → Mine → Type 0
 took began b st m n m' = (n ≡ 0 → (x : Bay) × BelongsAt began.shelves b x
     × (m' ≡ (holding m.0 b (content_of x), (st.word, Some x) ∷ m.1))
@@ -99,20 +98,20 @@ abbrev pub decided
 decided began what bays surplus st m n m' =
     (m' ≡ decided_by m what bays surplus) × Agrees began m'.0.past
 
--- the bay is held from then on with its content, and all that is held fits some such history
+-- the bay is held from then on with its content, and all that is held fits such a history
 abbrev pub HasTaken : Beginning → Mine → ℕ → Bay → Mine → Type 0
 HasTaken began m b x m' =
     BelongsAt began.shelves b x × (m' ≡ (holding m.0 b (content_of x), (place b, None) ∷ m.1))
     × Fitted began (holding m.0 b (content_of x))
 
--- the last bay taken was given back with a decision, and these are still held
+-- the last bay taken was given back with a decision, and these bays are still held
 abbrev pub HasDecided
     : Beginning → Mine → Operation → List (ℕ × Content) → (surplus : List ℕ) → Mine → Type 0
 HasDecided began m what still surplus m' =
     (m' ≡ decided_by m what still surplus) × Agrees began m'.0.past
 
--- Whatever the state is, if what is held fits it: the decision is the plain machine's, what is
--- given back and what is still held fit the state after it, and so does each bay that is not held
+-- In any state that fits what is held, the decision is the plain machine's. What is given back and
+-- what is still held fit the state after it, and so does each bay that isn't held.
 pub record Decides (start : Beginning) (bays : List (ℕ × Content)) (b : ℕ) (y : Content) (what : Operation)
     (still : List (ℕ × Content)) : Type 0 where
   pub places : (c : ℕ) → total (holds_bay c) still ≡ total (holds_bay c) (rest bays)
@@ -124,8 +123,8 @@ pub record Decides (start : Beginning) (bays : List (ℕ × Content)) (b : ℕ) 
   pub others : (m : Plain) → AllFit start m bays → (c : ℕ) (z : Content)
       → total (holds_bay c) bays ≡ 0 → FitsBay start m c z → FitsBay start (next start m what) c z
 
--- Whatever the state is, if what is held fits it: the words show the keys after the decision, with
--- what shows too many before and after it, and each that does is of a shelf that is still held
+-- In any state that fits what is held, the words count the keys after the decision, with those
+-- counted too many before and after it; each such word is of a shelf that is still held.
 pub record Counts (start : Beginning) (v : SeatView) (what : Operation) (w : SeatView) : Type 0 where
   pub weighs : (m : Plain) → AllFit start m v.bays → (number : ℕ) → number < 4096
       → keys_with start.hash_of number m.items + named (word_of start.shelves number) v
@@ -133,21 +132,21 @@ pub record Counts (start : Beginning) (v : SeatView) (what : Operation) (w : Sea
       + named (word_of start.shelves number) w
   pub owned : (word : ℕ) → 1 ≤ named word w → IsHeldWord start w word
 
--- A seat holds a number's shelf, and no word shows too many: so the number's word is the count of its
--- keys, and stays so.
+-- A seat holds a number's shelf, and no word counts too many. So the number's word is the count of
+-- its keys, and stays so.
 pub record MayCount (start : Beginning) (v : SeatView) (number : ℕ) : Type 0 where
   pub below : number < 4096
   pub inside : number % start.shelves < start.shelves
   pub held : 1 ≤ times (number % start.shelves) v
   pub bare : v.surplus ≡ []
 
--- It may add one to the word: whatever the state is, if what is held fits it, fewer keys have the
--- number than a word can count.
+-- It may add one to the word: in any state that fits what is held, fewer keys have the number than
+-- a word can count.
 pub record MayAdd (start : Beginning) (v : SeatView) (number : ℕ) : Type 0 where
   pub own : MayCount start v number
   pub few : (m : Plain) → AllFit start m v.bays → keys_with start.hash_of number m.items + 1 < 2 ^ 64
 
--- so many keys have the number, whatever the state is, if what is held fits it
+-- this many keys have the number, in any state that fits what is held
 abbrev pub AreKeys : Beginning → SeatView → (number count : ℕ) → Type 0
 AreKeys began v number count =
     (m : Plain) → AllFit began m v.bays → count ≡ keys_with began.hash_of number m.items
@@ -156,17 +155,17 @@ AreKeys began v number count =
 abbrev pub added : Step Slot → Mine → ℕ → Mine → Type 0
 added st m n m' = m' ≡ loaded m (st.word ∷ m.0.surplus)
 
--- so many were taken from the word, which was named first so often
+-- `count` was subtracted from the word, with which the surplus began `count` times
 abbrev pub lowered : Step Slot → Mine → ℕ → Mine → Type 0
 lowered st m n m' = m' ≡ loaded m (drop st.first m.0.surplus)
 
--- the word of a number was read, and is how many keys have it
+-- the word of a number was read, and is the count of its keys
 abbrev pub counted : Beginning → (number : ℕ) → Step Slot → Mine → ℕ → Mine → Type 0
 counted began number st m n m' = (m' ≡ m) × AreKeys began m.0 number n
 
--- What a number's word tells a seat: after some legal history that keeps its past, no key has the
--- number if the word is 0; and if the past is whole and the seat holds nothing, the word is 0
--- if no key has it.
+-- What a number's word proves to a seat. If it is 0, no key has the number, after some legal
+-- history that keeps its past. If the past is whole, the seat holds nothing and no key has the
+-- number, then the word is 0.
 pub record Shows (start : Beginning) (v : SeatView) (number word : ℕ) : Type 0 where
   pub log : List HistoryEntry
   pub legal : IsLegal start start.plain log
@@ -175,13 +174,13 @@ pub record Shows (start : Beginning) (v : SeatView) (number word : ℕ) : Type 0
   pub zero : Whole v.past → v.bays ≡ []
       → keys_with start.hash_of number (after start start.plain log).items ≡ 0 → word ≡ 0
 
--- a key was sought by its number's word: if that is 0, it is decided that the key isn't there
+-- a key was searched by its number's word: if that is 0, a miss of the key is decided
 abbrev pub sought : Beginning → List ℕ → (now number : ℕ) → Step Slot → Mine → ℕ → Mine → Type 0
 sought began key now number st m n m' =
     (n ≡ 0 → (m' ≡ called m (Stepped (Read key) now Miss)) × Agrees began m'.0.past)
     × (n ≢ 0 → m' ≡ m) × Shows began m.0 number n
 
--- the next name that a caller gives: how many it has made, before its own
+-- the next name that a caller gives: the number of callers it has made, before its own name
 abbrev pub next_name : Past → Name
 next_name p = count_made (name_of p) (makes p) ∷ name_of p
 
@@ -201,7 +200,7 @@ gone = record { past = spent; bays = []; surplus = [] }
 abbrev pub reloaded : Beginning → Step Slot → Mine → ℕ → Mine → Type 0
 reloaded began st m n m' = (m' ≡ m) × Agrees began m.0.past
 
--- what a marker stands for where none is picked
+-- the value of a marker if no call picks one
 abbrev pub nothing_began : Beginning
 nothing_began = record { shelves = 0; hash_of = λ _. 0; plain = opening 0 0 }
 

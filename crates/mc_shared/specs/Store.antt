@@ -1,4 +1,4 @@
--- What the calls of the shared store promise.
+-- The promises of the shared store's calls.
 use Rattle.std.specs.Prelude.{◌≡◌, ℕ, ◌≤◌, ◌⊎◌, Bool, true, List, [], ◌∷◌, ◌++◌, Some, None}
 use Rattle.mc_protocol.specs.declared.step.KeyStep.{KeyStep}
 use Rattle.mc_protocol.specs.declared.reply.Reply.{Reply}
@@ -24,20 +24,20 @@ use Rattle.mc_shared.specs.Steps.{Slot, Mine, Agrees, entry_of}
 abbrev pub resting : Past → Mine
 resting p = (record { past = p; bays = []; surplus = [] }, [])
 
--- a seat that holds one bay, whose content it has
+-- a seat that holds one bay, with its content
 abbrev pub holds_one : Past → ℕ → Content → Mine
 holds_one p at x = (record { past = p; bays = (at, x) ∷ []; surplus = [] }, (place at, None) ∷ [])
 
--- the past with a call more
+-- the past with one more call
 abbrev pub with_call : Past → KeyStep → ℕ → Reply → Past
 with_call p step now reply = call p (entry_of p (Stepped step now reply))
 
--- the past became that with a call more, and a legal history keeps it
+-- the past became that with one more call, and a legal history keeps it
 abbrev pub HasCalled : Beginning → (old : Past) → KeyStep → (now : ℕ) → Reply → (new : Past) → Type 0
 HasCalled start old step now reply new =
     (new ≡ with_call old step now reply) × Agrees start new
 
--- what the plain machine makes of a step comes out so, after some legal history that keeps the past
+-- after some legal history that keeps the past, this is an outcome of the step on the plain machine
 pub record CanCome (began : Beginning) (p : Past) (step : KeyStep) (now : ℕ)
     (so : Outcome → Type 0) : Type 0 where
   pub log : List HistoryEntry
@@ -45,15 +45,16 @@ pub record CanCome (began : Beginning) (p : Past) (step : KeyStep) (now : ℕ)
   pub keeps : KeptBy log p
   pub outcome : so (plain (after began began.plain log) step now)
 
--- it is out of unique numbers after some such history
+-- after some such history it has no unique number left for the step
 abbrev pub IsSpentAfter : Beginning → Past → KeyStep → (now : ℕ) → Type 0
 IsSpentAfter began p step now = CanCome began p step now (λ outcome. outcome ≡ Spent)
 
--- it answers a hit or a write after some such history, which memory may be refused for
+-- after some such history the reply is a hit or a write, for which memory may be refused
 abbrev pub MayFailAfter : Beginning → Past → KeyStep → (now : ℕ) → Type 0
 MayFailAfter began p step now = CanCome began p step now MayFail
 
--- a plan of a step on a key with this hash, by a look at a shelf, which made room for what it writes
+-- a plan of a step on a key with this hash, from a look at a shelf, which made room for what it
+-- writes
 pub record IsPlanned (plan : Plan) (shelf : ShelfState) (step : KeyStep) (hash now : ℕ) : Type 0
   where
     pub is_plan : IsPlan plan shelf.content step now
@@ -61,8 +62,8 @@ pub record IsPlanned (plan : Plan) (shelf : ShelfState) (step : KeyStep) (hash n
     pub room : HasRoom plan shelf step
     pub most : shelf.content.greatest ≤ 8388608
 
--- Why a step was tried and not taken. A bay is busy only if its word was 1, which it is not
--- if the past is whole, and is the key's shelf or the desk.
+-- Why a tried step wasn't taken. The bay is busy only if its word was 1, so not if the past is
+-- whole; it is the key's shelf or the desk.
 abbrev pub May : Beginning → Past → KeyStep → ℕ → TryFault → Type 0
 May began p step now (Busy bay word) =
     (word ≡ 1) × (Whole p → ⊥)
@@ -70,15 +71,15 @@ May began p step now (Busy bay word) =
 May began p step now NoMemory = MayFailAfter began p step now
 May began p step now NumbersSpent = IsSpentAfter began p step now
 
--- no key of the state has a key's number
+-- no key of the state has the key's number
 abbrev pub HasNone : Beginning → Plain → (key : List ℕ) → Type 0
 HasNone start m key =
     (other : List ℕ) → number_of start.hash_of other ≡ number_of start.hash_of key
     → get m.items other ≡ None
 
--- What a caller is told of a key by its number's word, after some legal history that keeps its
--- past: no key has the number if the answer is true; and if the past is whole it is true exactly
--- where none has.
+-- What a caller learns of a key by its number's word, after some legal history that keeps its past.
+-- If the answer is true, no key has the number. If the past is whole, it is true exactly if none
+-- has.
 pub record IsShown (start : Beginning) (p : Past) (key : List ℕ) (answer : Bool) : Type 0 where
   pub log : List HistoryEntry
   pub legal : IsLegal start start.plain log
@@ -93,7 +94,7 @@ shelf_slot shelf = Some (Shelf shelf)
 abbrev pub desk_slot : DeskState → Slot
 desk_slot desk = Some (Desk desk)
 
--- a slot, and those up to the next place, which nothing lies in
+-- a slot, and the empty ones up to the next place
 abbrev pub slot_alone : Slot → List Slot
 slot_alone x = x ∷ None ∷ None ∷ None ∷ None ∷ None ∷ None ∷ None ∷ []
 
@@ -102,7 +103,7 @@ abbrev pub spaced : List Slot → List Slot
 spaced [] = []
 spaced (x ∷ xs) = slot_alone x ++ spaced xs
 
--- a seat that holds two bays, the first of them taken last
+-- a seat that holds two bays; the first one was taken last
 abbrev pub holds_two : Past → ℕ → Content → ℕ → Content → Mine
 holds_two p b y at x = (
   record { past = p; bays = (b, y) ∷ (at, x) ∷ []; surplus = [] },
@@ -110,8 +111,8 @@ holds_two p b y at x = (
       [],
 )
 
--- Why a step was not taken: memory was refused, which a flush of all shelves takes too, or the
--- numbers are spent; a step on a key each only after some such history.
+-- Why a step wasn't taken: memory was refused, which a flush needs too, or the numbers are used up;
+-- for a step on a key each is so only after some such history.
 abbrev pub Refuses : Beginning → Past → KeyStep → ℕ → StepFault → Type 0
 Refuses began p step now OutOfMemory = IsOnKey step → MayFailAfter began p step now
 Refuses began p step now OutOfNumbers = IsSpentAfter began p step now

@@ -1,4 +1,4 @@
--- Steps whose replies are told.
+-- Steps that deliver their reply to an `Answer`.
 use Rattle.std.specs.Prelude.{◌≡◌, ℕ, Result, Err, OnOk, OnErr, Some, None, true}
 use Rattle.std.specs.FinMap.{get}
 use Rattle.mc_protocol.specs.declared.step.KeyStep.{KeyStep}
@@ -19,12 +19,13 @@ use Rattle.mc_protocol.specs.declared.answer.Unanswered.TheVariants.{NoMemory, N
 use Rattle.mc_shared.specs.declared.telling.Sought.{Sought}
 use Rattle.mc_shared.specs.declared.telling.Sought.TheVariants.{Told, Nothing, Deferred}
 
--- an item stands in a shelf under a step's key
+-- a shelf has an item under a step's key that isn't dead
 abbrev pub ItemStands : ShelfContent → KeyStep → (now : ℕ) → Type 0
 ItemStands shelf step now = (item : Entry) × (stood shelf step now ≡ Some item)
 
--- What was told of the item of a read that was sought in a shelf: a hit of it where it stands. If
--- the key has none, or a dead one, nothing was told; only a dead one is deferred.
+-- The result of searching a read's item in a shelf: it is there and a hit of it was delivered, or
+-- the key has none, or a dead one. Nothing is delivered for the last two, and only a dead one is
+-- deferred.
 abbrev pub IsSought
     : {A : Type 0} → (told : A → Reply → A → Type 0) → ShelfContent → KeyStep → (now : ℕ)
     → (before : A) → Sought → (after : A) → Type 0
@@ -35,8 +36,8 @@ IsSought told shelf step now before Nothing after =
 IsSought told shelf step now before Deferred after =
     (is_gone shelf.cut now (get shelf.items (key_of step)) ≡ true) × (after ≡ before)
 
--- What came of a read, by what was sought: it was taken with the hit that was told; it was taken as
--- a miss, and nothing was told; or it wasn't taken.
+-- The result of a read, by that search: it was taken with the hit that was delivered, or as a miss
+-- without delivery, or it wasn't taken.
 abbrev pub CameOfRead
     : {A : Type 0} → (told : A → Reply → A → Type 0) → Beginning → (old : Past) → KeyStep → (now : ℕ)
     → (before : A) → Sought → (new : Past) → (after : A) → Type 0
@@ -46,10 +47,11 @@ CameOfRead told start old step now before Nothing new after =
     HasCalled start old step now Miss new × (after ≡ before)
 CameOfRead told start old step now before Deferred new after = (new ≡ old) × (after ≡ before)
 
--- How a step that was to be told came out for a caller. Told, its past has it as one call more,
--- with the reply that was told; if the telling alone was refused, with some reply. Else the past
--- stays, as memory was refused or the unique numbers are spent, after some legal history. What
--- takes the reply is as it was if it wasn't told. A legal history keeps the past in any case.
+-- The result of a step that delivers its reply, for a caller. If it was delivered, the past has the
+-- step as one more call with that reply. If only the delivery was refused, the past has it with
+-- some reply. Otherwise the past is unchanged: memory was refused, or the unique numbers are used
+-- up after some legal history. The answer is unchanged if nothing was delivered. A legal history
+-- keeps the past in every case.
 pub record IsTold {A : Type 0} (told : A → Reply → A → Type 0) (start : Beginning)
     (old : CallerState) (step : KeyStep) (now : ℕ) (before : A)
     (result : Result (Unit {0}) Unanswered) (new : CallerState) (after : A) : Type 0 where

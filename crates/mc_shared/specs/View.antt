@@ -1,5 +1,5 @@
--- What a seat knows: a past, the bays that it holds, each with the content that its home would have,
--- and the presence words that show more keys than there are, each as often as it does by one.
+-- What a seat knows: a past, the bays that it holds, each with its content, and the presence words
+-- that count too many keys, each as often as it does.
 use Rattle.std.specs.Prelude.{◌≡◌, ℕ, List, [], refl}
 use mathlib.Core.Logic.{inl, inr, ◌⊎◌}
 use Rattle.std.specs.Coded.{Coded, code_by, coded×, coded⊎, coded_ℕ, coded_list}

@@ -31,7 +31,7 @@ impl<K: KeyHash + Drop> Shared<K> {
 
 /// A caller with its store, its gate and the right to wait.
 ///
-/// Contracts see the caller's identity, what the store began with, and the past.
+/// Contracts see which store it is, what the store began with, and the past.
 #[derive(Drop)]
 pub struct Asking<'a, R: Wait, K: KeyHash + Drop, G: Gate> {
     rt: &'a R,

@@ -81,7 +81,7 @@ impl Answer for Deaf {
     }
 }
 
-/// A caller that keeps its replies. Contracts see its identity.
+/// A caller that keeps its replies. Contracts see which store it calls.
 #[derive(Drop)]
 struct Heard<'a, R: Wait> {
     asking: Asking<'a, R, Fnv, NoGate>,

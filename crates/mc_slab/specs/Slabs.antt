@@ -103,19 +103,19 @@ abbrev pub WantsPages : SlabState → NeedState → ℕ → Type 0
 WantsPages slab need back =
     (has_room_with slab need back ≡ true) × (0 < pages_wanted slab need back)
 
--- what a want of chunks is told with: the class's pages, and its chunks that are out
+-- the fields of the error for missing chunks: the class's pages, and its chunks that are out
 abbrev pub TellsFull : SlabState → NeedState → (back class pages out : ℕ) → Type 0
 TellsFull slab need back class pages out =
     IsFull slab need back × (class ≡ need.class) × (pages ≡ pages_of slab need.class)
     × (out ≡ out_of slab need.class)
 
--- the fault that tells so
+-- the error with these fields
 abbrev pub full_fault : SlabState → NeedState → TakeFault
 full_fault slab need = Full need.class (pages_of slab need.class) (out_of slab need.class)
 
--- How the chunks of a need are asked for. They come all, and are out; or it is told that there is
--- no room for them, exactly if there is none, or that memory was refused, which is asked for
--- nothing but pages. Not taken, the slab is as it was.
+-- Taking the chunks of a need. Either all of them are taken, and are out; or the error is that
+-- there is no room, exactly if there is none, or that memory was refused, which is used only for
+-- pages. After an error the slab is unchanged.
 pub record Takes (need : NeedState) (old : SlabState) (result : Result ChunksState TakeFault)
     (new : SlabState) : Type 0 where
   pub chunks : IfOk result (AreChunksOf need)
@@ -127,8 +127,8 @@ pub record Takes (need : NeedState) (old : SlabState) (result : Result ChunksSta
   pub err : OnErr result (new ≡ old)
   pub is_slab : OnOk result (IsSlab new)
 
--- How a class is made ready for a need, once so many of its chunks came back: it gets the pages that are wanting then, all or
--- none, and is told of no room and of no memory as when the chunks are taken.
+-- Making a class ready for a need, once `back` of its chunks were given back. It gets the pages
+-- that it then wants, all or none; the errors are those of taking the chunks.
 pub record Readies (need : NeedState) (back : ℕ) (old : SlabState) (result : Result Unit TakeFault)
     (new : SlabState) : Type 0 where
   pub ready : OnOk result (new ≡ made_ready old need back)

@@ -28,9 +28,9 @@ const PATIENCE: u64 = 10;
 /// from then on.
 const LONG_PATIENCE: u64 = 250;
 
-/// The phases of the program: connections are accepted, and then less and less is done.
+/// The phases of accepting connections, in order.
 ///
-/// `OPEN`: they are accepted. `ASKED`: they are accepted, and the acceptors are asked to stop.
+/// `OPEN`: connections are accepted. `ASKED`: the same, and the acceptors are asked to stop.
 /// `CLOSING`: no more are accepted, and open ones may end by themselves. `OVER`: all end.
 const OPEN: u32 = 0;
 
@@ -39,7 +39,7 @@ const ASKED: u32 = 1;
 const CLOSING: u32 = 2;
 
 const OVER: u32 = 3;
-/// All end, because no more can be accepted.
+/// The phase after a failed listener: all connections end.
 const FAILED: u32 = 4;
 
 /// The connections that were dealt to a worker and wait for it, and the worker's waker.

@@ -1,3 +1,5 @@
+//! Random-looking numbers that are the same in each run.
+
 ghost use Rattle.std.specs.Prelude.{◌≡◌, ◌≤◌, ◌<◌};
 
 /// Numbers that look random and are the same in each run.

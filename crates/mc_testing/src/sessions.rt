@@ -1,3 +1,5 @@
+//! Inputs of sessions with their outputs.
+
 /// The input and the output of sessions over a new store, at second 1000.
 pub const SESSIONS: [(&str, &str); 11] = [
     (

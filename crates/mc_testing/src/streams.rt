@@ -1,3 +1,5 @@
+//! Readers and writers of a few bytes at a time.
+
 use std::alloc::{AllocError, Global};
 use std::io::{self, ErrorKind, Read, Write};
 

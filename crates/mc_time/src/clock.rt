@@ -1,3 +1,5 @@
+//! Clocks.
+
 use crate::moment::Moment;
 use std::time::{self, Duration, SystemTime, UNIX_EPOCH};
 

@@ -1,3 +1,5 @@
+//! Moments in seconds.
+
 use std::alloc::AllocError;
 use std::marker::Model;
 

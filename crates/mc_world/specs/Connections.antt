@@ -6,9 +6,9 @@ use Rattle.mc_parse.specs.Streams.{AreUnits, is_last, passed_after}
 use Rattle.mc_parse.specs.Feeds.{Unread, settled}
 use Rattle.mc_session.specs.Turns.{SessionState, turn_count, turns, nothing_unread}
 
--- What has come of a session: its stream so far, of whose front so many bytes are passed over; how
--- many of the stream's turns were taken; what they were answered that isn't sent yet; and whether
--- it is open.
+-- The history of a session: its stream so far, with `passed` bytes skipped at its front; the number
+-- of the stream's turns that were taken; their texts that aren't written yet; and whether it is
+-- open.
 pub record Connection : Type 0 where
   pub greatest : ℕ
   pub passed : ℕ
@@ -29,7 +29,7 @@ pub record HasNoNext (connection : Connection) : Type 0 where
   pub are : AreUnits connection.greatest connection.passed connection.stream units
   pub none : slice_get (turns units) connection.taken ≡ None
 
--- these units, none of which ends the stream, stand at its front, and this is what comes after them
+-- these units, none of which ends the stream, are at its front, and this comes after them
 abbrev pub Follows : (greatest passed : ℕ) → List ℕ → List ProtocolUnit → Unread → Type 0
 Follows greatest passed bytes [] rest =
     rest ≡ settled (record { greatest = greatest; passed = passed; bytes = bytes })
@@ -45,8 +45,8 @@ pub data IsAmong : Unread → ℕ → Type 0 where
       → drop unread.passed unread.bytes ≡ front ++ rest → Spells unread.greatest unit front
       → taken < turn_count unit → IsAmong unread taken
 
--- what is left of an open connection: what comes after the units whose turns are all taken, and how
--- many turns were taken of the unit that then stands first
+-- what is left of an open connection: what comes after the units whose turns are all taken, and the
+-- number of turns taken of the next unit
 pub record IsRest (connection : Connection) (session : SessionState) : Type 0 where
   pub read : List ProtocolUnit
   pub follows : Follows connection.greatest connection.passed connection.stream read session.unread
@@ -54,7 +54,7 @@ pub record IsRest (connection : Connection) (session : SessionState) : Type 0 wh
   pub among : IsAmong session.unread session.taken
   pub out : session.out ≡ connection.out
 
--- a closed connection has its output alone
+-- a closed connection keeps only its output
 abbrev pub shut : Connection → SessionState
 shut connection =
     record {
@@ -64,12 +64,12 @@ shut connection =
       is_open = false;
     }
 
--- so the connection stands: what is left of it if it is open, and else its output alone
+-- the session represents the connection: what is left of it if it is open, and else only its output
 abbrev pub Stands : Connection → SessionState → Type 0
 Stands connection session = MatchBool connection.is_open
     ((session.is_open ≡ true) × IsRest connection session) (session ≡ shut connection)
 
--- a connection that nothing came of
+-- a new connection
 abbrev pub fresh : ℕ → Connection
 fresh greatest =
     record { greatest = greatest; passed = 0; stream = []; taken = 0; out = []; is_open = true }
@@ -78,7 +78,7 @@ fresh greatest =
 abbrev pub with_piece : List ℕ → Connection → Connection
 with_piece piece c = record c { stream = c.stream ++ piece }
 
--- one turn more was taken, with this text; that of a last unit closes the connection
+-- one more turn was taken, with this text; that of a last unit closes the connection
 abbrev pub after_turn : ProtocolUnit → List ℕ → Connection → Connection
 after_turn unit text c =
     record c { taken = c.taken + 1; out = c.out ++ text; is_open = not (is_last unit) }

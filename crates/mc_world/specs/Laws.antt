@@ -1,5 +1,5 @@
--- What the laws of the plain world speak of: events that decide no step, and what a session's steps
--- are answered.
+-- Definitions for the laws of the plain world: events that decide no step, and the replies to a
+-- session's steps.
 use Rattle.std.specs.Prelude.{◌≡◌, ◌⊎◌, ◌↔◌, ◌<◌, ℕ, ◌==◌, Bool, false, List, [], ◌∷◌, ◌++◌, length, filter, Option, Some, None, IfSome, slice_get}
 use Rattle.std.specs.Bool.{MatchBool}
 use Rattle.std.specs.Option.{MatchOption}
@@ -16,8 +16,7 @@ use Rattle.mc_world.specs.Worlds.{PlainWorld, numbered, open_connection, named, 
 use Rattle.mc_world.specs.declared.event.Event.{Event}
 use Rattle.mc_world.specs.declared.event.Event.TheVariants.{Open, Piece, Turn, Clock, Grow, Purge, Close}
 
--- the step of a unit's turn: that of a fault has none, nor has that of a line that is too long, of
--- version or of quit
+-- the step of a unit's turn: a fault, a line that is too long, version and quit have none
 abbrev pub step_of : ProtocolUnit → (at : ℕ) → Option KeyStep
 step_of (Request command) at = slice_get (steps command) at
 step_of (Fault fault) at = None
@@ -44,7 +43,7 @@ DecidesNoStep world (Close k) n = k ≡ n
 abbrev pub IsApart : Event → ℕ → Type 0
 IsApart event n = (event ≡ Open → ⊥) × (named event ≡ Some n → ⊥)
 
--- a run of the one list is a run of the other
+-- a run of the first list is a run of the second
 abbrev pub RunAlike : List Event → List Event → Type 0
 RunAlike some others = (hash : List ℕ → ℕ) (shelves : ℕ) (old new : PlainWorld)
     → Runs hash shelves old some new ↔ Runs hash shelves old others new
@@ -55,7 +54,7 @@ abbrev pub DecidesNoStepBehind : (hash : List ℕ → ℕ) (shelves : ℕ) (old 
 DecidesNoStepBehind hash shelves old front event n = (world : PlainWorld)
     → Runs hash shelves old front world → DecidesNoStep world event n
 
--- what a step is answered: the plain machine's reply, or that its unique numbers are spent
+-- the answer to a step: the plain machine's reply, or that its unique numbers are used up
 pub data Answer : Type 0 where
   Replied : Reply → Answer
   NumbersSpent : Answer
@@ -70,14 +69,14 @@ abbrev pub answers_in : PlainWorld → Option KeyStep → List Answer
 answers_in world None = []
 answers_in world (Some step) = answer_in (plain world.state step world.now) ∷ []
 
--- what the connection's next turn is answered in this world
+-- the answer to the connection's next turn in this world
 abbrev pub AnswersNext : PlainWorld → Connection → List Answer → Type 0
 AnswersNext world connection answers =
     (HasNoNext connection × (answers ≡ []))
     ⊎ ((unit : ProtocolUnit) × (at : ℕ) × IsNextTurn connection unit at
     × (answers ≡ answers_in world (step_of unit at)))
 
--- what the event is answered, if it is a turn of that session
+-- the answer to the event, if it is a turn of that session
 abbrev pub AnswersOf : ℕ → PlainWorld → Event → List Answer → Type 0
 AnswersOf n world Open answers = answers ≡ []
 AnswersOf n world (Piece k piece) answers = answers ≡ []
@@ -90,9 +89,9 @@ AnswersOf n world (Grow shelf) answers = answers ≡ []
 AnswersOf n world (Purge shelf) answers = answers ≡ []
 AnswersOf n world (Close k) answers = answers ≡ []
 
--- Keys have their hashes, there are so many shelves, and a session has this number.
+-- The hash of keys, the number of shelves, and a session's number.
 module _ (hash : List ℕ → ℕ) (shelves : ℕ) (n : ℕ) where
-  -- events, one after another, in which the steps of that session are answered so
+  -- events in order, with these answers to the steps of that session
   abbrev pub RunsAnswering : PlainWorld → List Event → List Answer → PlainWorld → Type 0
   RunsAnswering old [] answers new = (new ≡ old) × (answers ≡ [])
   RunsAnswering old (event ∷ events) answers new =
@@ -100,7 +99,7 @@ module _ (hash : List ℕ → ℕ) (shelves : ℕ) (n : ℕ) where
       × Happens hash shelves old event mid × AnswersOf n old event first
       × RunsAnswering mid events others new × (answers ≡ first ++ others)
 
--- the session is there at the end of a run, in which its steps are answered in some way
+-- the session is there at the end of a run, with some answers to its steps
 abbrev pub HasAnswers : (hash : List ℕ → ℕ) (shelves n : ℕ) → PlainWorld → List Event → PlainWorld
     → Type 0
 HasAnswers hash shelves n old events new =
@@ -113,12 +112,12 @@ abbrev pub is_number : ℕ → Option ℕ → Bool
 is_number n None = false
 is_number n (Some k) = k == n
 
--- the events of that session, in their order
+-- the events of that session, in order
 abbrev pub events_of : ℕ → List Event → List Event
 events_of n events = filter (λ event. is_number n (named event)) events
 
--- A run of some world leaves the session with this last connection, if it has this first one,
--- if these are its own events, and if its steps are answered so.
+-- A run of some world leaves the session with this last connection, given this first one, its own
+-- events, and the answers to its steps.
 pub record Leaves (n : ℕ) (first : Connection) (own : List Event) (answers : List Answer)
     (last : Connection) : Type 0 where
   pub hash : List ℕ → ℕ
@@ -131,9 +130,9 @@ pub record Leaves (n : ℕ) (first : Connection) (own : List Event) (answers : L
   pub runs : RunsAnswering hash shelves n old events answers new
   pub ends : numbered n new.connections ≡ Some last
 
--- The laws of the grammar and of sessions that the proofs here use: no spelling begins another, and
--- each has a byte; a stream has one list of units; and it matters neither where a stream is cut nor
--- how early bytes are passed over.
+-- The laws of the grammar and of sessions that the proofs here use: no spelling is the beginning of
+-- another, and each has a byte; a stream has one list of units; and it makes no difference where a
+-- stream is cut and how early bytes are skipped.
 pub record Grammar : Type 0 where
   pub apart : (greatest : ℕ) (u v : ProtocolUnit) (a b x y : List ℕ) → Spells greatest u a
       → Spells greatest v b → a ++ x ≡ b ++ y → (u ≡ v) × (a ≡ b)

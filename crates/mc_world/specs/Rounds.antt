@@ -1,4 +1,4 @@
--- A session of a world as one end of a connection, and what a run of it did until now.
+-- A session of a world as one end of a connection, and its run so far.
 use Rattle.std.specs.Prelude.{◌≡◌, ℕ, ◌+◌, ◌%◌, ◌^◌, ◌<◌, List, [], ◌∷◌, length, None}
 use Rattle.mc_session.specs.Turns.{sent}
 use Rattle.mc_session.specs.declared.endpoint.Endpoint.{Ghosts as Relations}
@@ -9,15 +9,15 @@ use Rattle.mc_world.specs.declared.event.Event.TheVariants.{Open, Piece, Turn}
 use Rattle.mc_world.specs.declared.event.Refused.{Refused}
 use Rattle.mc_world.specs.declared.seat.Seat.{Seat}
 
--- the seat of a session that was given so many turns
+-- the seat of a session that was given this many turns
 abbrev pub seat : (number turns : ℕ) → Seat
 seat number turns = record { number = number; turns = turns }
 
--- one turn more, counted in 64 bits
+-- one more turn, counted in 64 bits
 abbrev pub one_more : Seat → Seat
 one_more s = seat s.number ((s.turns + 1) % 2 ^ 64)
 
--- the first bytes of the output are gone, so many of them
+-- the first `count` bytes of the output were written
 abbrev pub with_sent : {K : Type 0} → (number count : ℕ) → WorldState K → WorldState K
 with_sent number count w =
     record w {
@@ -29,8 +29,8 @@ module _ {K : Type 0} (hash_of : K → List ℕ → ℕ) where
   abbrev pub Refuses : WorldState K → Event → WorldState K → Type 0
   Refuses old event new = (refused : Refused) × ToldUntil hash_of refused old (event ∷ []) new
 
-  -- A session as an endpoint of its world: a turn is given at the clock's moment, and then the
-  -- shelf grows whose time it is.
+  -- A session as an endpoint of its world: a turn is given at the clock's moment, and then the next
+  -- shelf in turn grows.
   abbrev pub in_world : Relations Seat (WorldState K)
   in_world =
       record {
@@ -53,7 +53,7 @@ module _ {K : Type 0} (hash_of : K → List ℕ → ℕ) where
     pub room : length old.sessions < 65535
     pub told : Told hash_of old (Open ∷ []) new
 
-  -- until now so many turns were given, this was read and that was written
+  -- so far this many turns were given, this was read and that was written
   pub record HasServed (may_give : ℕ → Type 0) (n : ℕ) (first : WorldState K) (turns : ℕ)
       (read written : List ℕ) (now : WorldState K) : Type 0 where
     pub events : List Event

@@ -6,11 +6,11 @@ use Rattle.mc_world.specs.Worlds.{PlainWorld, WorldState, numbered, changed, out
 use Rattle.mc_world.specs.declared.event.Event.{Event}
 use Rattle.mc_world.specs.declared.event.Event.TheVariants.{Open, Piece, Turn, Clock, Grow, Close}
 
--- the most turns in a run
+-- the most turns of a run
 abbrev pub most_turns : ℕ
 most_turns = 2 ^ 40
 
--- a turn is taken only while less of the session's output waits to be written
+-- a turn is taken only with less output than this
 abbrev pub most_waiting : ℕ
 most_waiting = 65536
 
@@ -28,11 +28,11 @@ scene world reader writer = record { world = world; reader = reader; writer = wr
 abbrev pub next_session : {K : Type 0} → WorldState K → ℕ
 next_session w = length w.sessions + 1
 
--- so much of a session's output waits to be written
+-- the length of a session's output that isn't written yet
 abbrev pub waiting : {K : Type 0} → ℕ → WorldState K → ℕ
 waiting n w = length (output_of (numbered n w.sessions))
 
--- the world in which these bytes still stand in front of the output of session n
+-- the world with these bytes still in front of the output of session n
 abbrev pub with_written : {K : Type 0} → ℕ → List ℕ → WorldState K → WorldState K
 with_written n written w =
     record w {
@@ -49,7 +49,7 @@ abbrev pub with_front : ℕ → List ℕ → PlainWorld → PlainWorld
 with_front n bytes w =
     record w { connections = changed n w.connections (in_front bytes) (numbered n w.connections) }
 
--- the shelf that grows behind a turn: 0, 1, .. and round again
+-- the shelf that grows after a turn: 0, 1, .. and round again
 abbrev pub shelf_of : (turns shelves : ℕ) → ℕ
 shelf_of turns shelves = turns % max shelves 1
 
@@ -57,26 +57,26 @@ shelf_of turns shelves = turns % max shelves 1
 abbrev pub turn_events : (n shelf now : ℕ) → List Event
 turn_events n shelf now = Clock now ∷ Turn n ∷ Grow shelf ∷ []
 
--- Session n of a world is served: keys have their hashes, and the clock may give these moments.
+-- Session n of a world is served: the hash of keys, and the moments of the clock.
 module _ {K : Type 0} (hash_of : K → List ℕ → ℕ) (may_give : ℕ → Type 0) (n : ℕ)
     (old : WorldState K) where
-  -- the events make this world, but that what was written is gone from the session's output, of
-  -- which less than 64 KiB wait
+  -- the events make this world, except that what was written is no longer in the session's output;
+  -- less than 64 KiB of it are left
   pub record HasRoom (events : List Event) (written : List ℕ) : Type 0 where
     pub world : WorldState K
     pub told : Told hash_of old events (with_written n written world)
     pub room : waiting n world < most_waiting
 
-  -- the same, but that the session is open and no turn of it is due
+  -- the same, and the session is open with no turn due
   pub record FindsIdle (events : List Event) (written : List ℕ) : Type 0 where
     pub world : WorldState K
     pub told : Told hash_of old events (with_written n written world)
     pub idle : IsIdle (numbered n world.sessions)
 
   -- The events that serve the session before it closes, the bytes that they bring, those that were
-  -- written meanwhile, and how many turns they are. It opens. Then pieces come, where no turn is
-  -- due and all output is written, and bytes are written; and turns are taken, each at a moment that
-  -- the clock may give, where less than 64 KiB wait, and with growth of the next shelf behind it.
+  -- written meanwhile, and the number of turns. It opens. Then pieces come, while no turn is due
+  -- and all output is written; bytes are written; and turns are taken, each at a moment that the
+  -- clock may give, with less than 64 KiB of output, and with growth of the next shelf after it.
   pub data IsService : List Event → (read written : List ℕ) → (turns : ℕ) → Type 0 where
     starts : IsService (Open ∷ []) [] [] 0
     turn : {events : List Event} {read written : List ℕ} {turns : ℕ} (now : ℕ) → may_give now
@@ -91,9 +91,9 @@ module _ {K : Type 0} (hash_of : K → List ℕ → ℕ) (may_give : ℕ → Typ
         → IsService events read written turns
         → IsService events read (written ++ bytes) turns
 
-  -- The event that is refused memory, what comes just before it, the bytes that it brings, and how
-  -- many turns it is: a turn behind its clock, taken if less than 64 KiB wait, or a piece that
-  -- was read where no turn was due.
+  -- The event that is refused memory, what comes just before it, the bytes that it brings, and the
+  -- number of turns: a turn after its clock, taken with less than 64 KiB of output, or a piece that
+  -- was read while no turn was due.
   pub data IsRefusal (events : List Event) (written : List ℕ) : List Event → Event
       → (brings : List ℕ) → (calls : ℕ) → Type 0 where
     refused_turn : (now : ℕ) → may_give now → HasRoom events written
@@ -101,9 +101,9 @@ module _ {K : Type 0} (hash_of : K → List ℕ → ℕ) (may_give : ℕ → Typ
     refused_piece : (bytes : List ℕ) → 0 < length bytes → FindsIdle events written
         → IsRefusal events written [] (Piece n bytes) bytes 0
 
-  -- A session was served until memory ran out: what came before the refused event, and that event,
-  -- which takes memory. Its step, if it is a turn, stands in the store and its text isn't told, or
-  -- nothing of it was done; and the session is closed.
+  -- A session was served until memory was refused: what came before the refused event, and that
+  -- event, which takes memory. If it is a turn, the store took its step without its text, or
+  -- nothing was done; and the session is closed.
   pub record UntilRefused (old_reader old_writer : Option (List ℕ)) (new : WorldScene K) : Type 0 where
     pub events : List Event
     pub read : List ℕ
@@ -125,8 +125,7 @@ module _ {K : Type 0} (hash_of : K → List ℕ → ℕ) (may_give : ℕ → Typ
 
 -- A session of a world was served, which opened it: the scene before, and after.
 module _ {K : Type 0} (hash_of : K → List ℕ → ℕ) (may_give : ℕ → Type 0) (old new : WorldScene K) where
-  -- the events that came until the close, what was read, which is their pieces joined, and what was
-  -- written
+  -- the events before the close, what was read (their pieces joined), and what was written
   pub record Came : Type 0 where
     pub events : List Event
     pub read : List ℕ
@@ -138,15 +137,15 @@ module _ {K : Type 0} (hash_of : K → List ℕ → ℕ) (may_give : ℕ → Typ
     pub consumes : Consumes old.reader new.reader read
     pub appends : Appends old.writer new.writer written
 
-  -- The new world is what the events make of the old one, but that what was written is gone from
-  -- the session's output.
+  -- The new world is what the events make of the old one, except that what was written is no longer
+  -- in the session's output.
   pub record Served : Type 0 where
     pub came : Came
     pub told : Told hash_of old.world (came.events ++ Close (next_session old.world) ∷ [])
         (with_written (next_session old.world) came.written new.world)
 
-  -- It was served whole: nothing is left to be written, and before the close the session was closed
-  -- already, or no turn was due and the reader is at its end.
+  -- It was served whole: no output is left, and before the close the session was closed already, or
+  -- no turn was due and the reader is at its end.
   pub record ServedAll : Type 0 where
     pub served : Served
     pub written : output_of (numbered (next_session old.world) new.world.sessions) ≡ []
@@ -155,8 +154,8 @@ module _ {K : Type 0} (hash_of : K → List ℕ → ℕ) (may_give : ℕ → Typ
     pub ended : IsClosed (numbered (next_session old.world) last.sessions)
         ⊎ (IsIdle (numbered (next_session old.world) last.sessions) × IsAtEnd new.reader)
 
-  -- memory ran out: nothing was done, since the session wasn't opened, or it was served until an
-  -- event was refused
+  -- memory was refused: nothing was done, since the session wasn't opened, or it was served until
+  -- an event was refused
   abbrev pub RanShort : Type 0
   RanShort = (new ≡ old) ⊎ UntilRefused hash_of may_give
       (next_session old.world) old.world old.reader old.writer new

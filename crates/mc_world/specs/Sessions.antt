@@ -1,4 +1,4 @@
--- What one event does to the sessions of a world.
+-- One event's effect on the sessions of a world.
 use Rattle.std.specs.Prelude.{◌≡◌, ◌⊎◌, ℕ, ◌+◌, ◌<◌, ◌%◌, ◌==◌, Bool, true, List, [], ◌∷◌, ◌++◌, length, Option, Some, None, slice_get, nat_lt, if◌then◌else◌, IsTrue, IsFalse, Result, Ok, OnOk, OnErr, IfErr}
 use Rattle.mc_protocol.specs.Plain.{Plain}
 use Rattle.mc_protocol.specs.declared.step.Steps.{Ghosts as Relations}
@@ -13,11 +13,11 @@ use Rattle.mc_world.specs.declared.event.Event.{Event}
 use Rattle.mc_world.specs.declared.event.Event.TheVariants.{Open, Piece, Turn, Clock, Grow, Purge, Close}
 use Rattle.mc_world.specs.declared.parts.Parts.{Parts}
 
--- the open session of that number is changed, and nothing if none is
+-- the open session of that number is changed; nothing is if none is open
 abbrev pub at_session : List SessionState → ℕ → (SessionState → SessionState) → List SessionState
 at_session sessions n change = changed n sessions change (open_session n sessions)
 
--- one session more, if fewer than 65535 were opened
+-- one more session, if fewer than 65535 were opened
 abbrev pub with_opened : (greatest : ℕ) → List SessionState → List SessionState
 with_opened greatest sessions = if nat_lt (length sessions) 65535 then sessions ++ opened greatest
     ∷ [] else sessions
@@ -39,7 +39,7 @@ module _ {S : Type 0} (relations : Relations S) where
   abbrev pub TurnOf : ℕ → ℕ → (old new : List SessionState) → S → S → Type 0
   TurnOf n now old new before after = TurnBy (open_session n old) n now old new before after
 
--- it decides the step of its next turn, whose text isn't told
+-- it decides the step of its next turn, without its text
 abbrev pub DecidedOf : {S : Type 0} (relations : Relations S) → ℕ → ℕ → List SessionState → S → S
     → Type 0
 DecidedOf relations n now old before after = (session : SessionState)
@@ -50,7 +50,7 @@ abbrev pub SessionIsDue : ℕ → List SessionState → Type 0
 SessionIsDue n sessions = (session : SessionState) × (open_session n sessions ≡ Some session)
     × (NoTurnDue session → ⊥)
 
--- the session of that number stands at this place, and is open
+-- the session of that number is at this place, and is open
 pub record IsOpenAt (sessions : List SessionState) (n at : ℕ) : Type 0 where
   pub session : SessionState
   pub number : n ≡ at + 1
@@ -58,8 +58,8 @@ pub record IsOpenAt (sessions : List SessionState) (n at : ℕ) : Type 0 where
   pub here : slice_get sessions at ≡ Some session
   pub opens : session.is_open ≡ true
 
--- What a turn that is given to session n does and answers. Want of memory closes the session; what
--- was not decided leaves the store with what it held.
+-- The effect and the result of a turn that is given to session n. Want of memory closes the
+-- session; if nothing was decided, the store holds the same.
 pub record TurnGiven {S : Type 0} (relations : Relations S) (n now : ℕ)
     (result : Result SessionTurn TurnFault) (old new : List SessionState) (before after : S)
     : Type 0 where
@@ -73,7 +73,7 @@ pub record TurnGiven {S : Type 0} (relations : Relations S) (n now : ℕ)
   pub decided : IfErr result (λ fault. IsTrue fault.decided →
       DecidedOf relations n now old before after)
 
--- what an event makes of a world, said of its sessions
+-- An event's effect on a world, by its sessions.
 module _ {K : Type 0} (hash_of : K → List ℕ → ℕ) where
   -- a shelf of a world is purged, if it is there
   abbrev pub without_dead : ℕ → WorldState K → Plain
@@ -97,7 +97,7 @@ module _ {K : Type 0} (hash_of : K → List ℕ → ℕ) where
   Done old (Purge shelf) new = new ≡ record old { state = without_dead shelf old }
   Done old (Close n) new = new ≡ record old { sessions = at_session old.sessions n ended }
 
--- the session that an event names is closed
+-- the session of an event is closed
 abbrev pub sessions_ended : Option ℕ → List SessionState → List SessionState
 sessions_ended None sessions = sessions
 sessions_ended (Some n) sessions = at_session sessions n ended
@@ -123,7 +123,7 @@ EventTakesMemory old (Grow shelf) = ⊥
 EventTakesMemory old (Purge shelf) = ⊥
 EventTakesMemory old (Close n) = ⊥
 
--- what is left when memory ran out in an event
+-- what is left if memory was refused in an event
 pub record Undone {K : Type 0} (decided : Bool) (old : WorldState K) (event : Event)
     (new : WorldState K) : Type 0 where
   pub settings : new.settings ≡ old.settings

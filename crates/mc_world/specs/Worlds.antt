@@ -20,15 +20,15 @@ use Rattle.mc_world.specs.declared.event.Event.{Event}
 use Rattle.mc_world.specs.declared.event.Event.TheVariants.{Open, Piece, Turn, Clock, Grow, Purge, Close}
 use Rattle.mc_world.specs.declared.event.Refused.{Refused}
 
--- the store's state, the moment, and the connections, the first of which is session 1; and the
--- greatest charge of an item
+-- the store's state, the moment, and the connections (the first is session 1); and the greatest
+-- charge of an item
 pub record PlainWorld : Type 0 where
   pub greatest : ℕ
   pub state : Plain
   pub now : ℕ
   pub connections : List Connection
 
--- What contracts see of a world: how its store is set up, what hashes its keys, the plain machine's
+-- What contracts see of a world: its store's settings, the hasher of its keys, the plain machine's
 -- state, the moment, and the sessions, which have what is left of their streams.
 pub record WorldState (K : Type 0) : Type 0 where
   pub settings : Settings
@@ -67,33 +67,33 @@ coded_world {K} coded_hasher =
     })
     (λ _. refl)
 
--- the plain machine answers a step so
+-- the plain machine takes a step with this reply
 abbrev pub replies : Plain → KeyStep → ℕ → Reply → Plain → Type 0
 replies old step now reply new = plain old step now ≡ Answered reply new
 
--- its unique numbers are spent
+-- its unique numbers are used up
 abbrev pub is_spent : Plain → KeyStep → ℕ → Type 0
 is_spent old step now = plain old step now ≡ Spent
 
--- what the plain machine's steps are as those of a store
+-- the plain machine's steps as those of a store
 abbrev pub in_plain : Relations Plain
 in_plain = record { took = replies; spent = is_spent; same = λ old new. new ≡ old }
 
--- what has that number, counted from 1
+-- the element of that number, counted from 1
 abbrev pub numbered : {A : Type 0} → ℕ → List A → Option A
 numbered zero xs = None
 numbered (suc n) xs = slice_get xs n
 
--- it, if it is open
+-- the same, if it is open
 abbrev pub if_open : {A : Type 0} → (A → Bool) → Option A → Option A
 if_open is_open None = None
 if_open is_open (Some x) = if is_open x then Some x else None
 
--- another in the place of that number
+-- another element in the place of that number
 abbrev pub put : {A : Type 0} → ℕ → List A → A → List A
 put n xs x = slice_set xs (n - 1) x
 
--- the open one of that number is changed, and nothing if none is
+-- the open one of that number is changed; nothing is if none is open
 abbrev pub changed : {A : Type 0} → ℕ → List A → (A → A) → Option A → List A
 changed n xs change None = xs
 changed n xs change (Some x) = put n xs (change x)
@@ -106,7 +106,7 @@ open_connection n connections = if_open (λ c. c.is_open) (numbered n connection
 abbrev pub open_session : ℕ → List SessionState → Option SessionState
 open_session n sessions = if_open (λ s. s.is_open) (numbered n sessions)
 
--- what is to be written of a session, and nothing of one that was never opened
+-- a session's output that isn't written yet; it is empty for a session that was never opened
 abbrev pub output_of : Option SessionState → List ℕ
 output_of None = []
 output_of (Some s) = s.out
@@ -121,7 +121,7 @@ abbrev pub IsClosed : Option SessionState → Type 0
 IsClosed None = ⊥
 IsClosed (Some s) = IsFalse s.is_open
 
--- the world with its open connection of that number changed, and as it was if none is open
+-- the world with its open connection of that number changed; nothing is if none is open
 abbrev pub at_connection : PlainWorld → ℕ → (Connection → Connection) → PlainWorld
 at_connection w n change =
     record w { connections = changed n w.connections change (open_connection n w.connections) }
@@ -144,7 +144,7 @@ Turns old n connection new =
       connections = put n old.connections (after_turn turn.unit turn.text connection);
     }))
 
--- Keys have their hashes, and there are so many shelves.
+-- The hash of keys, and the number of shelves.
 module _ (hash : List ℕ → ℕ) (shelves : ℕ) where
   -- one event
   abbrev pub Happens : PlainWorld → Event → PlainWorld → Type 0
@@ -164,7 +164,7 @@ module _ (hash : List ℕ → ℕ) (shelves : ℕ) where
       }
   Happens old (Close n) new = new ≡ at_connection old n ended
 
-  -- events, one after another
+  -- events in order
   abbrev pub Runs : PlainWorld → List Event → PlainWorld → Type 0
   Runs old events new = Chain Happens old events new
 
@@ -176,7 +176,7 @@ StandAll (connection ∷ connections) [] = ⊥
 StandAll (connection ∷ connections) (session ∷ sessions) = Stands connection session
     × StandAll connections sessions
 
--- the session that an event names
+-- the session of an event
 abbrev pub named : Event → Option ℕ
 named Open = None
 named (Piece n piece) = Some n
@@ -191,7 +191,7 @@ abbrev pub with_end : Option ℕ → PlainWorld → PlainWorld
 with_end None w = w
 with_end (Some n) w = at_connection w n ended
 
--- The connection's next turn is a command's, and the plain machine answers its step at the world's
+-- The connection's next turn is a command's, and the plain machine takes its step at the world's
 -- moment: it takes the store's state to this one.
 pub record NextStep (old : PlainWorld) (connection : Connection) (state : Plain) : Type 0 where
   pub command : Command
@@ -227,41 +227,42 @@ TakesMemory old (Grow shelf) = ⊥
 TakesMemory old (Purge shelf) = ⊥
 TakesMemory old (Close n) = ⊥
 
--- Memory ran out in an event: its turn's step was decided and isn't told, or nothing was done; and
--- its session is closed.
+-- Memory was refused in an event: its turn's step was decided without its text, or nothing was
+-- done; and its session is closed.
 abbrev pub GivesUp : Bool → PlainWorld → Event → PlainWorld → Type 0
 GivesUp true old event new = (state : Plain) × EventDecides old event state
     × (new ≡ with_end (named event) (record old { state = state }))
 GivesUp false old event new = new ≡ with_end (named event) old
 
--- the plain world stands so
+-- the plain world represents the world
 pub record WorldStandsAs {K : Type 0} (plain : PlainWorld) (world : WorldState K) : Type 0 where
   pub greatest : world.settings.greatest ≡ plain.greatest
   pub state : world.state ≡ plain.state
   pub now : world.moment ≡ plain.now
   pub sessions : StandAll plain.connections world.sessions
 
--- there is such a plain world
+-- there is a plain world that represents the world
 pub record CanStand {K : Type 0} (world : WorldState K) : Type 0 where
   pub plain : PlainWorld
   pub stands : WorldStandsAs plain world
 
--- The keys of a world have their hashes.
+-- The hash of a world's keys.
 module _ {K : Type 0} (hash_of : K → List ℕ → ℕ) where
-  -- events, one after another, over so many shelves as that world has, and with its hasher
+  -- events in order, over as many shelves as that world has, and with its hasher
   abbrev pub RunsIn : WorldState K → PlainWorld → List Event → PlainWorld → Type 0
   RunsIn world first events last =
       Runs (hash_of world.hasher) world.settings.shelves first events last
 
-  -- What the events make of a world, whatever came before: where a plain world stands as the old
-  -- one, the events make of it one that stands as the new one. The store is set up as it was.
+  -- What the events make of a world, whatever came before: from every plain world that represents
+  -- the old one, the events make one that represents the new one. The store's settings are
+  -- unchanged.
   pub record Told (old : WorldState K) (events : List Event) (new : WorldState K) : Type 0 where
     pub settings : new.settings ≡ old.settings
     pub hasher : new.hasher ≡ old.hasher
     pub told : (first : PlainWorld) → WorldStandsAs first old → (last : PlainWorld)
         × RunsIn old first events last × WorldStandsAs last new
 
-  -- an event that takes memory, which runs out in it
+  -- an event that takes memory, which is refused
   abbrev pub Refuses : PlainWorld → Bool → Event → WorldState K → Type 0
   Refuses first decided event new = (last : PlainWorld) × GivesUp decided first event last
       × WorldStandsAs last new × TakesMemory first event

@@ -1,3 +1,5 @@
+//! Events of a world, and their refusals.
+
 use mc_protocol::Bytes;
 use mc_time::Moment;
 

@@ -1,3 +1,5 @@
+//! The parts of a world.
+
 ghost use Rattle.std.specs.Prelude.{◌≡◌, [], IfErr, OnOk, Ok, None};
 ghost use Rattle.mc_world.specs.Worlds.{numbered, open_session, IsIdle};
 ghost use Rattle.mc_world.specs.Sessions.{Done, Undone, SessionIsDue, state_of};

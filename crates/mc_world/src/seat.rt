@@ -1,3 +1,5 @@
+//! A world's session as one end of a connection.
+
 use crate::event::Event;
 use crate::world::World;
 use mc_hop::KeyHash;

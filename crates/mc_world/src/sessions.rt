@@ -1,3 +1,5 @@
+//! Sessions by number.
+
 ghost use Rattle.std.specs.Prelude.{◌≡◌, [], ◌<◌, ◌≤◌, ◌↔◌, length, Some, None, Ok};
 ghost use Rattle.std.specs.Prelude.{IfSome, IfErr, OnOk, OnErr, IsTrue, IsFalse};
 ghost use Rattle.std.specs.Option.{option_copied};

@@ -1,3 +1,5 @@
+//! Worlds: many sessions over one store, driven by events.
+
 ghost use Rattle.std.specs.Prelude.{◌≡◌, ◌≤◌, ◌↔◌, ◌∷◌, [], length};
 ghost use Rattle.std.specs.Prelude.{IsTrue, IfOk, IfErr, OnOk, Ok, None};
 ghost use Rattle.mc_protocol.specs.Plain.{opening, starting};
