@@ -83,8 +83,8 @@ class Run:
             try:
                 self.judge(crate, found, begin, keep)
             except Exception as error:  # a fault of this program fails what it judges
-                with self.turn:
-                    crate.failed.update({it.name: f"it couldn't be judged: {error!r}" for it in found})
+                for body in found:
+                    self.fail(crate, body, f"it couldn't be judged: {error!r}")
             if crate.later:
                 self.add(crate, crate.later.pop(0), keep if os.path.isdir(keep) else begin)
             with self.turn:
@@ -99,39 +99,36 @@ class Run:
         only = [] if len(found) > 1 else ["--only", f"{crate.name}::{found[0].function}"]
         status, output = self.copy.check(crate.name, crate.sources.planted(found), [*only, "--jobs", str(self.each)], begin, keep)
         said = bodies.verdicts(output, crate.name)
-        if status not in (0, 1, 3) and begin:
+        if status in (0, 1, 3) and said and not bodies.unread(output):
+            self.part(crate, found, said, begin, keep)
+        elif status not in (0, 1, 3) and begin:
             # what was kept may have changed while it was copied
             self.add(crate, found, None)
-            return
-        if status not in (0, 1, 3) or not said and len(found) == 1:
-            with self.turn:
-                crate.failed.update({it.name: f"the check ended with status {status}: {bodies.complaint(output)}" for it in found})
-            return
-        if not said:
+        elif len(found) > 1:
             lost = bodies.culprits(output, found, crate.sources)
             rest = [it for it in found if it not in lost]
             for part in [[it] for it in lost] + ([rest] if lost else halves(found)):
                 if part:
                     self.add(crate, part, begin)
-            return
-        again = []
+        else:
+            self.fail(crate, found[0], bodies.complaint(status, output))
+
+    def part(self, crate, found, said, begin, keep):
+        """Notes which bodies a check refuses. What isn't refused beside others is tried alone, and then from nothing."""
         for body in found:
-            is_refused, why = bodies.reason(body, crate.name, output)
-            if f"{crate.name}::{body.function}" not in said:
-                with self.turn:
-                    crate.failed[body.name] = why
-            elif is_refused:
+            is_refused, why = bodies.reason(body, f"{crate.name}::{body.function}", said)
+            if is_refused:
                 self.results.keep(crate.name, body, why)
                 with self.turn:
                     crate.refused[body.name] = why
-            elif len(found) > 1 or begin:
-                again.append(body)
+            elif is_refused is not None and (len(found) > 1 or begin):
+                self.add(crate, [body], keep if len(found) > 1 else None)
             else:
-                with self.turn:
-                    crate.failed[body.name] = why
-        # what isn't refused beside others is tried alone, and then from nothing
-        for body in again:
-            self.add(crate, [body], keep if len(found) > 1 else None)
+                self.fail(crate, body, why)
+
+    def fail(self, crate, body, why):
+        with self.turn:
+            crate.failed[body.name] = why
 
     def tell(self, crate):
         """Says what came of a crate."""

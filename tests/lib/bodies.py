@@ -208,31 +208,34 @@ def verdicts(output, crate):
 
 
 def verdict(told, goals, lines, is_gone):
-    """Whether a function is proved, and why not: by what its line says, the goals that are not proved, and the lines of its proof that don't fit."""
+    """Whether a function is proved, for what reasons of its own it is not, and its line."""
     if told.startswith("proved"):
-        return True, []
+        return True, [], told
     if is_gone:
         # its answers name what is gone, so a goal of one branch may be open for want of an answer under another name
         goals = [it for it in goals if FALSE in it or AT_END.search(it)]
-    return False, [*goals, *lines]
+    return False, [*goals, *lines], told
 
 
-def reason(body, crate, output):
-    """Whether the check refuses a wrong body's function for a reason of its own, and what is to be said of it."""
-    said = verdicts(output, crate)
-    name = f"{crate}::{body.function}"
+def unread(output):
+    """Whether a check can't read a text of the sources or definitions."""
+    return any(map(UNREAD.match, output.split("\n")))
+
+
+def reason(body, name, said):
+    """Whether a check refuses a wrong body's function for a reason of its own, and what is to be said; None where there is no such function."""
     if name not in said:
-        return False, f"there is no function {name}, or its contract isn't read" if said else f"the check doesn't read the crate: {complaint(output)}"
-    is_proved, reasons = said[name]
+        return None, f"there is no function {name}"
+    is_proved, reasons, line = said[name]
     if is_proved:
         return False, f"STILL PROVED: {name} is proved with this body"
-    if reasons:
-        return True, reasons[0]
-    told = next(it for it in output.split("\n") if it.startswith(f"fn {name}: "))
-    return False, f"refused for no reason of its own: {told}"
+    return (True, reasons[0]) if reasons else (False, f"refused for no reason of its own: {name}: {line}")
 
 
-def complaint(output):
-    """The first line by which a check says that it stopped."""
+def complaint(status, output):
+    """What is wrong with a wrong body of which a check says nothing."""
     lines = output.strip().split("\n")
-    return next((it for it in lines if "error" in it), lines[-1])[:200]
+    first = next((it for it in lines if "error" in it), lines[-1])[:200]
+    if "has no function" in first:
+        return f"there is no function of that name: {first}"
+    return f"it can't be read: {first}" if status == 1 else f"the check ended with status {status}: {first}"

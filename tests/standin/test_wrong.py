@@ -52,7 +52,7 @@ pub fn behind_next(number: u32) -> u32
 BODIES = {
     "one_too_many": ("next", "    number + 1", "    number + 2", "refused: src/lib.rt"),
     "the_same_by_another_name": ("twice", "    number + number", "    let both = number + number; both", "FAILED: STILL PROVED"),
-    "no_number": ("four_more", "    number + 4", "    number + true", "FAILED: the check doesn't read the crate"),
+    "no_number": ("four_more", "    number + 4", "    number + true", "FAILED: it can't be read: src/lib.rt"),
     "of_no_function": ("five_more", "    next(behind)", "    next(behind) + 1", "FAILED: there is no function"),
     "in_what_calls_a_wrong_one": ("behind_next", "    let behind = next(number);", "    let it = number; let behind = next(it);", "FAILED: "),
     "of_no_text": ("next", "    number + 7", "    number + 8", "FAILED: an 'old:' text stands in src/lib.rt 0 times"),
