@@ -16,6 +16,7 @@ pub mod TellingLemmas
 pub mod Held
 pub mod Opening
 pub mod Stacked
+pub mod Surveyed
 pub mod EmptyLemmas
 pub mod NumberSweeps
 pub mod CountLemmas

@@ -15,6 +15,7 @@ pub mod Stacks
 pub mod Holds
 pub mod Decisions
 pub mod Close
+pub mod Survey
 pub mod Asking
 pub mod Telling
 pub mod Emptied

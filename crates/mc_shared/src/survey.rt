@@ -1,13 +1,14 @@
 //! The counts of a shelf and of a class.
 //!
-//! Counts are read by the holder of the shelf and decide nothing. They belong to one moment that no
-//! history names, so contracts promise only what holds at every moment.
+//! Counts are read by the holder of the shelf and decide nothing. They are those of the state after
+//! a legal history that keeps the caller's past.
 ghost use Rattle.std.specs.Prelude.{◌≡◌, ◌*◌, ◌<◌, ◌≤◌};
 ghost use Rattle.mc_slab.specs.Classes.{chunks_a_page};
 ghost use Rattle.mc_slab.specs.Slabs.{pages_of, out_of};
 ghost use Rattle.mc_shelf.specs.Counts.{FitTogether, counts_of};
 ghost use Rattle.mc_shared.specs.History.{start_of};
 ghost use Rattle.mc_shared.specs.Steps.{Agrees};
+ghost use Rattle.mc_shared.specs.Survey.{AreCountsAfter, IsAccountAfter};
 
 use crate::hold::{AtBoth, AtShelf};
 use crate::store::{Caller, Shared};
@@ -22,6 +23,8 @@ impl<'a, K: KeyHash + Drop> AtShelf<'a, K> {
     fn shelf_counts(&self) -> ShelfCounts
         ensures value { result ≡ counts_of self.now.shelf }
         ensures fits { FitTogether result }
+        ensures after { AreCountsAfter (start_of K.hash_of self.now.shared.began) self.now.past
+            self.now.at result }
     {
         self.shelf.counts()
     }
@@ -35,6 +38,8 @@ impl<'a, K: KeyHash + Drop> AtBoth<'a, K> {
           out = out_of self.now.desk.slab class;
         } }
         ensures within { result.out ≤ result.pages * chunks_a_page class }
+        ensures after { IsAccountAfter (start_of K.hash_of self.now.shared.began) self.now.past
+            class result }
     {
         // for the proof: the invariants of the class and of the desk
         let _laws = (class.number(), self.desk.next_unique());
@@ -52,6 +57,8 @@ fn shelf_counts_for<K: KeyHash + Drop, R: Wait>(
     ensures same { result.0 ≡ caller }
     ensures fits { FitTogether result.1 }
     ensures agrees { Agrees (start_of K.hash_of asked.entry.0.now.began) caller.past }
+    ensures after { AreCountsAfter (start_of K.hash_of asked.entry.0.now.began) caller.past
+        asked.entry.2 result.1 }
 {
     let (shared, rt, at) = asked;
     let hold = shared.wait_for_shelf(rt, caller, at);
@@ -68,6 +75,8 @@ fn account_for<K: KeyHash + Drop, R: Wait>(
     ensures same { result.0 ≡ caller }
     ensures within { result.1.out ≤ result.1.pages * chunks_a_page asked.entry.2.now }
     ensures agrees { Agrees (start_of K.hash_of asked.entry.0.now.began) caller.past }
+    ensures after { IsAccountAfter (start_of K.hash_of asked.entry.0.now.began) caller.past
+        asked.entry.2.now result.1 }
 {
     let (shared, rt, class) = asked;
     // for the proof: there is a first shelf
@@ -89,6 +98,8 @@ impl<K: KeyHash + Drop> Shared<K> {
         ensures same { (caller.new.table ≡ caller.old.table) × (caller.new.past ≡ caller.old.past) }
         ensures fits { FitTogether result }
         ensures agrees { Agrees (start_of K.hash_of self.now.began) caller.new.past }
+        ensures after { AreCountsAfter (start_of K.hash_of self.now.began) caller.new.past shelf
+            result }
     {
         replace_with(caller, (self, rt, shelf), shelf_counts_for)
     }
@@ -102,6 +113,8 @@ impl<K: KeyHash + Drop> Shared<K> {
         ensures same { (caller.new.table ≡ caller.old.table) × (caller.new.past ≡ caller.old.past) }
         ensures within { result.out ≤ result.pages * chunks_a_page class }
         ensures agrees { Agrees (start_of K.hash_of self.now.began) caller.new.past }
+        ensures after { IsAccountAfter (start_of K.hash_of self.now.began) caller.new.past class
+            result }
     {
         replace_with(caller, (self, rt, &class), account_for)
     }

@@ -1,0 +1,19 @@
+-- What is counted of what a seat holds.
+use Rattle.std.proofs.Common.{ℕ, List, refl, ap, subst}
+use Rattle.mc_shared.proofs.Words.{Mine, AllFit, after, start_of, SharedState, Sitter, HoldsShelf, ShelfState}
+use Rattle.mc_shelf.specs.Counts.{counts_of}
+use Rattle.mc_shared.specs.Survey.{AreCountsAfter}
+
+-- a shelf that is held has its part of the state that its seat's past may have
+pub counts_after : {K : Type 0} (hash_of : K → List ℕ → ℕ) (shared : SharedState K) (seat : Sitter) (at : ℕ) (shelf : ShelfState) → HoldsShelf hash_of shared seat at shelf.content
+    → AreCountsAfter (start_of hash_of shared.began) seat.me.0.past at (counts_of shelf)
+counts_after hash_of shared seat at shelf holds =
+    let began = start_of hash_of shared.began in
+    let fits = holds.fits in record {
+      log = fits.log;
+      legal = fits.legal;
+      keeps = fits.keeps;
+      shelf = shelf;
+      part = (subst (AllFit began (after began began.plain fits.log)) (ap (λ (m : Mine). m.0.bays) holds.held) fits.fits).0.1;
+      counted = refl;
+    }
