@@ -1,18 +1,21 @@
-//! Who hears of the steps of a worker.
+//! Counts the steps of a worker.
 
-use crate::metrics::{Counts, counted_as};
+use crate::counting::counted_as;
 use mc_guests::{Outcome, Tally};
+use mc_metrics::Counts;
 use mc_protocol::KeyStep;
 use mc_sockets::Refusals;
 
-/// Has the steps of a worker counted, and the log noted one that is refused as no chunk is left.
+/// Counts a worker's steps, and notes in the log each step that is refused for want of a chunk.
 #[derive(Clone, Copy)]
-pub struct Heard<'a> {
+pub struct WorkerTally<'a> {
+    /// The counters of the worker.
     pub counts: &'a Counts,
+    /// Where refused steps are noted.
     pub refusals: Refusals<'a>,
 }
 
-impl Tally for Heard<'_> {
+impl Tally for WorkerTally<'_> {
     fn took(&self, step: &KeyStep<'_>, outcome: Outcome) {
         if let Some(counted) = counted_as(step, outcome) {
             self.counts.add(counted, 1);
