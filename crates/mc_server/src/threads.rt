@@ -8,9 +8,7 @@
 use crate::client::StoreClient;
 use crate::plan::{Common, ServerPlan, ThreadPlan, WorkerPlan};
 use mc_host::Wanting;
-use mc_sockets::{
-    ClosingLinks, Crowd, Refusals, SocketLinks, accept_all, accept_beside,
-};
+use mc_sockets::{ClosingLinks, Crowd, Refusals, SocketLinks, accept_all, accept_beside};
 use mc_telemetry::{MetricsServer, Notice, WorkerTally, write_lines};
 use mc_time::Clock;
 use mc_workers::{NoGate, Worker};

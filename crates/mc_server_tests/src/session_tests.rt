@@ -53,9 +53,7 @@ fn served(
     let Ok(mut world) = World::new(alloc, options.settings, Fnv, clock.now()) else {
         return Err(AllocError);
     };
-    Ok(End::Served(serve_one(
-        alloc, reader, writer, &mut world, &clock,
-    )))
+    Ok(End::Served(serve_one(alloc, reader, writer, &mut world, &clock)))
 }
 
 #[test]
