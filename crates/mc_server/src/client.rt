@@ -39,7 +39,7 @@ impl<'a> Model for StoreClient<'a> {
 }
 
 impl<'a> StoreClient<'a> {
-    /// Takes a caller of this store.
+    /// Returns a client over this store and one of its callers.
     pub fn new(shared: &'a Shared<Fnv>, caller: Caller) -> StoreClient<'a>
         requires { caller.table ≡ shared.now.table }
     {

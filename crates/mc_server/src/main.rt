@@ -12,7 +12,7 @@
 //!
 //! A socket's bytes and the scheduling of threads are unspecified, so contracts cover the rest: that
 //! `run` does what the options say, and with `--stdin` serves a session of a new world; and that the
-//! status is that of the end. The rest is tested over sockets (tests/sockets), and docs/PROMISES.md
+//! status is that of the end. The rest is tested over sockets (tests/sockets), and docs/GAPS.md
 //! says which is which.
 //!
 //! Begin with `running.rt`, `serving.rt` and `listening.rt`.
@@ -46,7 +46,7 @@ fn main(rt: HostRuntime) -> ExitCode {
     tell_end(&rt, &end)
 }
 
-/// What the command line asks for; or how the program ends without it.
+/// Returns what the command line asks for, or how the program ends without that.
 fn read_options(rt: &HostRuntime) -> Result<Options, End> {
     let words = words(rt)?;
     match mc_options::parse_options(rt.alloc(), words.as_slice()) {
@@ -56,15 +56,15 @@ fn read_options(rt: &HostRuntime) -> Result<Options, End> {
     }
 }
 
-/// The words of the command line, the program's own name first; or how the program ends without
+/// Returns the words of the command line, the program's name first, or how the program ends without
 /// them.
 fn words(rt: &HostRuntime) -> Result<Vec<String>, End> {
     let words = env::args(rt).map_err(End::of_words)?;
     Ok(words.collect(rt.alloc())?)
 }
 
-/// Prints what `clap` says of the command line: help on standard output, a mistake on standard
-/// error. Of want of memory it says nothing.
+/// Prints the text of `clap`: help to standard output, a mistake to standard error. It prints nothing
+/// if memory is refused.
 fn print_fault(rt: &HostRuntime, error: &clap::Error) -> io::Result<()> {
     if error.kind() == ErrorKind::OutOfMemory {
         return Ok(());
@@ -72,12 +72,12 @@ fn print_fault(rt: &HostRuntime, error: &clap::Error) -> io::Result<()> {
     error.print(rt)
 }
 
-/// Says how the program ends, and gives its status.
+/// Prints why the program ends, and returns its status.
 fn tell_end(rt: &HostRuntime, end: &End) -> ExitCode
     ensures { exit_status result ≡ status_of end.now }
 {
     let (status, text) = end.ending();
-    // if standard error is closed too, the status alone tells
+    // if standard error is closed too, only the status is left
     let _ = if let End::CannotListen(refusal) = end {
         let Refusal { endpoint, why } = *refusal;
         let reason = why.reason();

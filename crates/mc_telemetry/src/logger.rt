@@ -1,4 +1,7 @@
 //! Writes to standard error while the server runs.
+//!
+//! One thread writes to standard error, so a full pipe stops no worker. The same thread reports that
+//! the store is full, and reads the class's counts by a caller of its own.
 
 use crate::full::{Full, Stock};
 use crate::stats::StoreStats;

@@ -1,4 +1,7 @@
 //! Answers requests over HTTP, one after another.
+//!
+//! One thread serves scrapes, each for at most 2 seconds. More at once would need a poll and a state
+//! each, and what they hold of the store is held one after another anyway.
 
 use crate::families::FAMILIES;
 use crate::observer::Observer;
