@@ -58,6 +58,10 @@ crate:
 	cd crates/$(C) && rt test
 	rt must-fail $(C)
 
+# The crates' wrong bodies, each of which one check must refuse: make wrong C=mc_shelf ONLY=a_cut_is_not_set
+wrong:
+	@python3 -m tests.wrong $(C) $(if $(ONLY),--only $(ONLY))
+
 # Inputs and outputs against the program that is built: make rows ONLY=flush
 rows:
 	@python3 -m tests protocol $(if $(ONLY),-p test_rows.py -k '*.Rows.test_*$(ONLY)*')

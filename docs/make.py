@@ -6,6 +6,8 @@
   python3 docs/make.py --check    writes nothing. Prints each stale region, each link, path and name that isn't there, each option that
                                   PROTOCOL.md or the manual page lacks, and the counts of style.py. Last line: 'N passed, M failed'
 """
+import functools
+import itertools
 import json
 import re
 import subprocess
@@ -18,9 +20,10 @@ sys.path[:0] = [str(ROOT / "bench"), str(ROOT / "docs")]
 import chart  # noqa: E402
 import style  # noqa: E402
 
-PROGRAM = "mc_server"
 # The run that README.md, docs/BENCHMARKS.md and docs/tcp.svg show.
 RUN = "bench/results/2026-11-24-3394e2fc.json"
+# The workloads that README.md shows.
+SHOWN = ["get", "set", "get of 100 keys", "get, 32 deep", "set, 32 deep", "get of 10 KB", "set of 10 KB", "get of 1 MB", "set of 1 MB"]
 REGION = re.compile(r"(<!-- made: ([^>]+?) -->\n)(.*?)(<!-- end -->)", re.S)
 # A link to a definition, whose line is kept right.
 PLACE = re.compile(r"\[`(\w+)`\]\(([^)#]+)#L\d+\)")
@@ -34,22 +37,31 @@ LIBRARIES = {
 # Of these documents the names in code spans are looked up, too; the others name what clients and systems have.
 INSIDE = ("README.md", "CONTRIBUTING.md", *(f"docs/{name}.md" for name in "ARCHITECTURE DECISIONS FIRST-CHANGE GAPS PROVING THEOREM".split()))
 # Words in code spans that no source of this repository has: those of the system, of other programs, and of examples.
-OTHERS = set("""mn MN mc_x mc_y touchif mapped""".split())
+OTHERS = set("""mn MN NM mc_x mc_y touchif mapped""".split())
 # Where a path in a code span may begin.
 PLACES = [ROOT, ROOT / "docs", ROOT / "tests", ROOT / "crates", *sorted((ROOT / "crates").iterdir())]
+# What a cell of a table can't have.
+CELL = str.maketrans({"|": "\\|", "<": "&lt;"})
 FUNCTION = re.compile(r"^( *)(pub(?:\([\w ]+\))? )?(?:const |unsafe )*fn (\w+)")
 OWNER = re.compile(r"^(?:pub(?:\([\w ]+\))? )?(?:unsafe )?(?:impl(?:<[^{]*?>)? (?:([\w:]+)(?:<.*>)? for )?(\w+)|trait (\w+))")
-DEFINITION = re.compile(r"^ *(?:abbrev |unfoldable |pub )*(?:data |record )?([^\s:{(]+)(?= .*:|$)")
+DEFINITION = re.compile(r"^ *(?:pub )?(?:abbrev|unfoldable|data|record) (?:pub )?([^\s:{(]+)")
 
 
 def read(path):
     return (ROOT / path).read_text(encoding="utf-8")
 
 
+@functools.cache
 def crates():
     """The crates of crates.txt in its order, each with its libraries."""
     lines = [line.partition(":") for line in read("crates.txt").splitlines() if line.strip() and not line.startswith("#")]
     return {name.split()[0]: libraries.split() for name, _, libraries in lines}
+
+
+@functools.cache
+def under(name):
+    """What a crate stands on, and what that stands on."""
+    return {low for own in crates().get(name, []) for low in under(own) | {own}}
 
 
 def root_file(crate):
@@ -64,12 +76,9 @@ def page(crate):
 
 def comment_above(lines, at, mark):
     """The first paragraph of the comment that ends above a line."""
-    found = []
-    while at and lines[at - 1].strip().startswith((mark, "#[")):
-        at -= 1
-        if not lines[at].strip().startswith("#["):
-            found.insert(0, lines[at].strip()[len(mark):].strip())
-    return " ".join("\n".join(found).split("\n\n")[0].split("\n"))
+    above = itertools.takewhile(lambda line: line.strip().startswith((mark, "#[")), reversed(lines[:at]))
+    found = [line.strip()[len(mark):].strip() for line in above if not line.strip().startswith("#[")]
+    return " ".join("\n".join(reversed(found)).split("\n\n")[0].split("\n"))
 
 
 def calls(crate):
@@ -94,17 +103,13 @@ def calls(crate):
 
 def edits(crate, functions):
     """The wrong bodies that a crate must refuse, each with the function that it changes."""
-    for path in sorted((ROOT / f"crates/{crate}/must-fail").glob("*.edit")):
+    for path in sorted((ROOT / f"crates/{crate}").glob("*/*.edit")):
         text = path.read_text(encoding="utf-8")
         file, old = (re.search(rf"^{word}: ?(.*)$", text, re.M).group(1) for word in ("file", "old"))
         lines = read(f"crates/{crate}/{file.strip()}").splitlines()
         at = next((at for at, line in enumerate(lines) if old.strip() in line), -1)
         inside = [call for call in functions if call[0] == Path(file.strip()).name and call[1] <= at]
         yield path.stem, (inside[-1][2], inside[-1][3]) if inside else ("", file.strip())
-
-
-def cell(text):
-    return text.replace("|", "\\|").replace("<", "&lt;")
 
 
 def list_calls():
@@ -118,7 +123,7 @@ def list_calls():
             refused = [edit for edit, place in wrong if place == (owner, name)]
             if is_open or refused:
                 title = f"{owner}::{name}" if owner else name
-                text += f"| `{title}` | {cell(doc)} | {', '.join(filter(None, clauses))} | {', '.join(refused)} |\n"
+                text += f"| `{title}` | {doc.translate(CELL)} | {', '.join(filter(None, clauses))} | {', '.join(refused)} |\n"
     return text
 
 
@@ -129,55 +134,38 @@ def list_definitions():
         for path in sorted((ROOT / f"crates/{crate}/specs").glob("*.antt")):
             lines = path.read_text(encoding="utf-8").splitlines()
             rows = [f"- `{found[1]}` (line {at + 1}) {comment_above(lines, at, '--')}\n" for at, line in enumerate(lines)
-                    for found in [DEFINITION.match(line)] if found and re.match(r" *(abbrev|unfoldable|pub |data|record)", line)
-                    and not re.match(r" *pub (mod|use) | {4}pub ", line)]
+                    for found in [DEFINITION.match(line)] if found and not re.match(r" *pub (mod|use) ", line)]
             text += f"\n## {crate}/specs/{path.name}\n\n{''.join(rows)}" if rows else ""
     return text
 
 
 def made_crates():
     """A row for each crate: what it is, the crates it stands on, its tests."""
-    below, rows, under = crates(), [], {}
-    for name, libraries in below.items():
-        under[name] = {low for own in libraries if own in below for low in under[own] | {own}}
-        direct = [low for low in libraries if low in below and not any(low in under[other] for other in libraries if other in below)]
+    rows = []
+    for name, libraries in crates().items():
+        direct = [low for low in libraries if low in crates() and not any(low in under(other) for other in libraries)]
         tests = re.search(r"Tests: (.*?)\.?$", page(name)[-1])
         what = re.split(r"(?<=\.) ", page(name)[0])[0].rstrip(".")
-        rows.append(f"| `{name}` | {cell(what)} | {' '.join(direct)} | {tests.group(1).replace('`', '') if tests else ''} |\n")
+        rows.append(f"| `{name}` | {what.translate(CELL)} | {' '.join(direct)} | {tests.group(1).replace('`', '') if tests else ''} |\n")
     return "| Crate | What it is | Stands on | Tests |\n|---|---|---|---|\n" + "".join(rows)
 
 
 def made_libraries():
     """The kit's libraries that the program links."""
-    below, linked, waiting = crates(), [], [PROGRAM]
-    while waiting:
-        for library in below.get(waiting.pop(), []):
-            if library not in linked:
-                linked.append(library)
-                waiting.append(library)
-    kit = [name for name in linked if name not in below]
-    if set(kit) - set(LIBRARIES):
-        raise SystemExit(f"docs/make.py: LIBRARIES lacks {set(kit) - set(LIBRARIES)}")
+    kit = under("mc_server") - set(crates())
+    if kit - set(LIBRARIES):
+        raise SystemExit(f"docs/make.py: LIBRARIES lacks {kit - set(LIBRARIES)}")
     uses = [f"| `{name}` | {use} |\n" for name, use in LIBRARIES.items() if name in kit and use]
     return "| Library of the kit | What it does here |\n|---|---|\n" + "".join(uses)
 
 
-def made_figures():
-    """README's figures: the ratios to memcached of the stored run."""
-    it, names = json.loads(read(RUN)), ["get", "set", "get of 100 keys", "get, 32 deep", "set, 32 deep", "get of 10 KB", "set of 10 KB", "get of 1 MB", "set of 1 MB"]
-    found = {row["title"]: row["ratios"] for row in it["rows"]}
-    text = "| mcserver / memcached 1.6, 4 workers each | CPU time per request | Requests a second |\n|---|--:|--:|\n"
-    text += "".join(f"| {name} | {found[name]['us']['median']:.2f} | {found[name]['a_second']['median']:.2f} |\n" for name in names)
-    return text + f"\nRun of {it['date']}, commit `{it['commit']}`, {it['machine']}.\n"
-
-
-def made_tcp():
-    """BENCHMARKS's table of the stored run."""
+def made_tcp(short=""):
+    """The table of the stored run: all of it, or the workloads that README.md shows."""
     it = json.loads(read(RUN))
-    text = f"Run of {it['date']}, commit `{it['commit']}`, {it['machine']}, {it['memcached']}: `{it['command']}`.\n\n"
+    text = f"Run of {it['date']}, commit `{it['commit']}`, {it['machine']}, {it['memcached']}:\n`{it['command']}`.\n\n"
     text += "| Workload | Requests/s, memcached | mcserver | Ratio | CPU us a request, memcached | mcserver | Ratio | p99 ratio |\n"
     text += "|---|--:|--:|--:|--:|--:|--:|--:|\n"
-    for row in it["rows"]:
+    for row in (row for row in it["rows"] if not short or row["title"] in SHOWN):
         theirs, ours = row["sides"]["memcached"], row["sides"]["mcserver"]
         shown = {name: f"{ratio['median']:.2f} ({ratio['least']:.2f}-{ratio['most']:.2f})" for name, ratio in row["ratios"].items()}
         text += (f"| {row['title']} | {theirs['a_second']:,} | {ours['a_second']:,} | {shown['a_second']} | {theirs['us']:.2f} | "
@@ -188,9 +176,8 @@ def made_tcp():
 def made_clauses(file, name, *clauses):
     """The contract of a function as it stands, or some of its clauses."""
     head = re.search(rf"^ *(?:pub )?fn {name}\b.*?\n *(?:{{\n|{{}}\n)", read(file), re.S | re.M).group(0)
-    found = re.findall(r"^ *(?:requires|ensures) (\w*).*?(?=\n *(?:requires|ensures|{\n|{}\n|//))", head, re.S | re.M)
-    texts = re.findall(r"^ *(?:requires|ensures) .*?(?=\n *(?:requires|ensures|{\n|{}\n|//))", head, re.S | re.M)
-    kept = [text for text, clause in zip(texts, found) if not clauses or clause in clauses]
+    found = re.findall(r"^( *(?:requires|ensures) (\w*).*?)(?=\n *(?:requires|ensures|{\n|{}\n|//))", head, re.S | re.M)
+    kept = [text for text, clause in found if not clauses or clause in clauses]
     return "```\n" + textwrap.dedent("\n".join(kept)) + "\n```\n"
 
 
@@ -202,7 +189,7 @@ def line_of(name, file):
     raise SystemExit(f"docs/make.py: {file} has no {name}")
 
 
-KINDS = {"crates": made_crates, "libraries": made_libraries, "figures": made_figures, "tcp": made_tcp, "clauses": made_clauses}
+KINDS = {"crates": made_crates, "libraries": made_libraries, "tcp": made_tcp, "clauses": made_clauses}
 
 
 def tracked(pattern="*"):
@@ -224,7 +211,7 @@ def made_anew():
 
 def known_words():
     """Every word of the sources, and of the names of files."""
-    text = "\n".join(read(path) for path in tracked() if not path.endswith((".md", ".svg", ".json")) and not path.startswith("tests/rows"))
+    text = "\n".join(read(path) for path in tracked() if not re.search(r"\.(md|svg|json)$|^tests/rows|^docs/", path))
     return set(re.findall(r"\w+", text + " ".join(tracked())))
 
 
@@ -236,7 +223,8 @@ def lost(path, words):
         if not re.match(r"\w+:", target):
             to = here / target if target else ROOT / path
             heads = re.findall(r"^#+ (.*)", to.read_text(encoding="utf-8"), re.M) if to.is_file() and anchor else []
-            if not to.exists() or (anchor and not re.fullmatch(r"L\d+", anchor) and anchor not in [re.sub(r"[^\w -]", "", head).replace(" ", "-").lower() for head in heads]):
+            anchors = [re.sub(r"[^\w -]", "", head).replace(" ", "-").lower() for head in heads]
+            if not to.exists() or (anchor and not re.fullmatch(r"L\d+", anchor) and anchor not in anchors):
                 yield f"{path}: there is no {target}{'#' + anchor if anchor else ''}"
     bare = re.sub(r"\[[^]]*\]\([^)]*\)", "", text)
     yield from (f"{path}: {name} is no link" for name in re.findall(r"[\w/]*[A-Z]+\.md\b", re.sub(r"`[^`]*`", "", bare)))
@@ -244,8 +232,25 @@ def lost(path, words):
         if re.fullmatch(r"[\w.-]+(/[\w.-]+)+/?", span) and re.search(r"\.\w+$|/$", span) and not re.search(r"[XA-Z]{4}|\bX|out/", span):
             if not any((place / span).exists() for place in PLACES):
                 yield f"{path}: there is no {span}"
+        elif found := re.fullmatch(r"(mc_\w+_tests|mc_sockets)/(\w+)(?:: (\w+))?", span):
+            test = ROOT / f"crates/{found[1]}/src/{found[2]}.rt"
+            if not test.exists() or (found[3] and found[3] not in test.read_text(encoding="utf-8")):
+                yield f"{path}: there is no {span}"
         elif path in INSIDE and re.fullmatch(r"[A-Za-z_][\w:]*(\(\))?", span):
             yield from (f"{path}: nothing is named {word}" for word in re.findall(r"\w+", span) if word not in words | OTHERS)
+
+
+def lost_tests():
+    """Crates whose page names no tests, or tests that aren't there; and sources that name documents that aren't there."""
+    for crate in crates():
+        tests = re.findall(r"Tests: .*", page(crate)[-1])
+        if not tests and not crate.endswith("_tests"):
+            yield f"{root_file(crate)}: the page doesn't end with 'Tests: CRATE, src/FILE.rt.'"
+        yield from (f"{root_file(crate)}: there is no {other}/{file}" for line in tests
+                    for other, file in re.findall(r"`?(mc_\w+)`?, `?(src/\w+\.rt)", line) if not (ROOT / f"crates/{other}/{file}").exists())
+    for path in tracked():
+        if path.endswith((".rt", ".py", ".antt", "Makefile", ".sh")) and not path.startswith("docs/"):
+            yield from (f"{path}: there is no {name}" for name in re.findall(r"\bdocs/[\w-]+\.md", read(path)) if not (ROOT / name).exists())
 
 
 def lacking_options():
@@ -264,9 +269,7 @@ def lacking_options():
 def check():
     passed, faults, words = 0, [], known_words()
     stale = [f"{path}: not what the sources say: make docs" for path, new in made_anew() if read(path) != new]
-    untested = [f"{root_file(crate)}: no line 'Tests: CRATE, FILE'" for crate in crates()
-                if not crate.endswith("_tests") and not re.search(r"Tests: ", " ".join(page(crate)))]
-    for found in (stale, untested, list(lacking_options()), *(list(lost(path, words)) for path in tracked("*.md")), *style.faults(ROOT)):
+    for found in (stale, list(lost_tests()), list(lacking_options()), *(list(lost(path, words)) for path in tracked("*.md")), *style.faults(ROOT)):
         faults += found
         passed += not found
     print("\n".join([*faults, f"{passed} passed, {len(faults)} failed"]))

@@ -1,4 +1,4 @@
-"""Runs the gate `rt ci`, looks at the documents, and runs the tests on the programs that were just proved and built: `python3 -m tests.gate`
+"""Runs the gate `rt ci`, judges the wrong bodies, looks at the documents, and tests the programs that were just built: `python3 -m tests.gate`
 
 All print as they go. The last line adds up what was counted: `N passed, N failed`. The status is 0 only where something passed in each
 stage, nothing failed and all ended well.
@@ -62,10 +62,16 @@ def main():
     os.chdir(settings.ROOT)
     for name in settings.NAMES:
         os.environ.pop(name, None)
-    # else `rt ci` lets large checks wait for memory that they don't use (docs/GATE.md)
+    # else `rt ci` lets large checks wait for memory that they don't use (CONTRIBUTING.md)
     os.environ.setdefault("RT_JOBS", str(len(os.sched_getaffinity(0))))
     before = {program: written(program) for _, program, _ in STAGES}
-    counts = [command("gate", ["rt", "ci"]), command("documents", [sys.executable, "docs/make.py", "--check"])]
+    counts = [command("gate", ["rt", "ci"])]
+    if counts[0][1]:
+        print("wrong bodies: not judged, as they stand over what the gate proves", flush=True)
+        counts.append((0, 1))
+    else:
+        counts.append(command("wrong bodies", [sys.executable, "-m", "tests.wrong"]))
+    counts.append(command("documents", [sys.executable, "docs/make.py", "--check"]))
     for kind, program, build in STAGES:
         # The gate leaves the programs that it proved and ran, so nothing is proved a second time for these.
         stands = written(program) not in (None, before[program])

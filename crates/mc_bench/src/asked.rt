@@ -1,34 +1,35 @@
-//! What the command line asks for.
+//! The command line.
 ghost use Rattle.std.specs.Prelude.{◌≢◌, IsNone, length};
 
 use mc_shelf::Settings;
 
-/// How many calls each caller makes if the command line doesn't say.
+/// The default number of calls of each caller.
 const CALLS: u32 = 25_000;
 
-/// How many pages stores of which steps are taken have.
+/// The pages of the stores of steps.
 const PAGES: u32 = 64;
 
-/// How many shelves they have if the command line doesn't say.
+/// The default number of shelves.
 const SHELVES: u32 = 64;
 
 /// A run.
 #[derive(Clone, Copy)]
 pub enum Run {
-    /// So many sessions of one world have so many rounds.
+    /// Sessions of one world take turns for some rounds.
     Worlds {
         sessions: u16,
         rounds: u32,
     },
     /// Threads take steps.
     Steps(Threaded),
-    /// Callers in threads tell what they called and what they were answered. The calls follow from the seed;
-    /// each caller makes so many.
+    /// Callers in threads make calls, and print each call with its reply.
+    ///
+    /// The calls follow from the seed; each caller makes as many.
     Record {
         seed: u64,
         calls: u32,
     },
-    /// Keys are looked for while so many items stand: so many windows that have an item, and as many that have none.
+    /// Keys are searched among some items: as many windows of keys with an item as of keys without.
     Finds {
         within: Within,
         items: u32,
@@ -36,28 +37,28 @@ pub enum Run {
     },
 }
 
-/// What keys are looked for in.
+/// Where keys are searched.
 #[derive(Clone, Copy)]
 pub enum Within {
-    /// The indexes of a store's shelves, by themselves.
+    /// In the indexes of a store's shelves, by themselves.
     Index,
-    /// The store of one thread, by its step that reads.
+    /// In the store of one thread, by its step that reads.
     Store,
 }
 
-/// What steps are taken.
+/// The steps of a run.
 #[derive(Clone, Copy)]
 pub struct Threaded {
     pub over: Over,
     pub mix: Mix,
     pub crew: Crew,
-    /// How many steps each thread takes.
+    /// The number of steps of each thread.
     pub rounds: u64,
-    /// How the store is set up.
+    /// The settings of the store.
     pub settings: Settings,
 }
 
-/// What takes the steps, and of which keys.
+/// The store that takes the steps, and their keys.
 #[derive(Clone, Copy)]
 pub enum Over {
     /// The store of one thread.
@@ -68,11 +69,11 @@ pub enum Over {
     Side,
     /// The shared store, one key for all threads.
     Same,
-    /// The shared store, keys that each thread draws anew from all that stand.
+    /// The shared store, with keys that each thread draws from all that are there.
     Drawn,
 }
 
-/// Which steps are taken.
+/// The kinds of steps.
 #[derive(Clone, Copy)]
 pub enum Mix {
     Gets,
@@ -81,11 +82,11 @@ pub enum Mix {
     Mixed,
     /// Gets of a key that isn't there.
     Misses,
-    /// Sets of a key that isn't there, each with its delete behind it.
+    /// Sets of a key that isn't there, each followed by its delete.
     Renewals,
 }
 
-/// How many threads there are.
+/// The number of threads.
 #[derive(Clone, Copy)]
 pub enum Crew {
     One,
@@ -93,7 +94,9 @@ pub enum Crew {
     Four,
 }
 
-/// Tells which run the command line asks for: the program's name, the run's and what it takes. Other words ask for none.
+/// Returns the run that the command line names, or `None` if it names none.
+///
+/// The words are the program's name, the run's and its arguments.
 pub fn asked_run(words: &[String]) -> Option<Run>
     ensures { (length words.now ≢ 3) × (length words.now ≢ 4) × (length words.now ≢ 5)
         × (length words.now ≢ 6) × (length words.now ≢ 7) → IsNone result }
@@ -126,12 +129,12 @@ pub fn asked_run(words: &[String]) -> Option<Run>
             rounds.parse().ok()?,
             shelves.parse().ok()?,
         ),
-        // other words, or so many that no run takes them
+        // other words, or more than any run takes
         _other => None,
     }
 }
 
-/// Reads which steps are taken, of a store with so many shelves.
+/// Reads the steps of a store with this many shelves.
 fn steps_of(over: &str, mix: &str, crew: &str, rounds: u64, shelves: u32) -> Option<Run> {
     Some(Run::Steps(Threaded {
         over: over_of(over)?,
@@ -142,7 +145,7 @@ fn steps_of(over: &str, mix: &str, crew: &str, rounds: u64, shelves: u32) -> Opt
     }))
 }
 
-/// Reads what takes the steps.
+/// Reads the store and the keys.
 fn over_of(word: &str) -> Option<Over> {
     match word {
         "store" => Some(Over::Store),
@@ -154,7 +157,7 @@ fn over_of(word: &str) -> Option<Over> {
     }
 }
 
-/// Reads what keys are looked for in.
+/// Reads where keys are searched.
 fn within_of(word: &str) -> Option<Within> {
     match word {
         "index" => Some(Within::Index),
@@ -163,7 +166,7 @@ fn within_of(word: &str) -> Option<Within> {
     }
 }
 
-/// Reads which steps are taken.
+/// Reads the kinds of steps.
 fn mix_of(word: &str) -> Option<Mix> {
     match word {
         "gets" => Some(Mix::Gets),
@@ -175,7 +178,7 @@ fn mix_of(word: &str) -> Option<Mix> {
     }
 }
 
-/// Reads how many threads there are.
+/// Reads the number of threads.
 fn crew_of(word: &str) -> Option<Crew> {
     match word {
         "1" => Some(Crew::One),

@@ -1,4 +1,4 @@
-//! Calls as they are drawn, and as they are told.
+//! Random calls, and their lines in a record.
 ghost use Rattle.std.specs.Prelude.{◌≤◌, ◌<◌, length, IfOk, IfSome};
 ghost use Rattle.mc_protocol.specs.Commands.{key_of};
 
@@ -6,10 +6,10 @@ use mc_protocol::{Bytes, KeyStep, Reply, Verb};
 use mc_testing::Dice;
 use std::alloc::{AllocError, Global};
 
-/// How many keys the calls are on.
+/// The number of keys.
 pub const KEYS: usize = 8;
 
-/// What is called.
+/// The kind of a call.
 #[derive(Clone, Copy)]
 pub enum Word {
     Set,
@@ -28,20 +28,23 @@ pub enum Word {
     Tidy,
 }
 
-/// A call. What its word doesn't take is there all the same, and means nothing.
+/// A call. Fields that its kind doesn't use are there all the same, and mean nothing.
 #[derive(Drop)]
 pub struct Call {
     pub word: Word,
-    /// Which of the keys.
+    /// The index of the key.
     pub key: usize,
     pub flags: u32,
     pub exptime: i64,
-    /// A unique number, how far a number is counted, or a delay in seconds.
+    /// A unique number, a delta, or a delay in seconds.
     pub number: u64,
     pub block: String,
 }
 
-/// Draws a call. Its block is the mark, which no other call has, or one of a few; its number may be what its caller has seen of the key.
+/// Draws a call.
+///
+/// Its block is the mark, which no other call has, or one of a few. Its number may be one that its
+/// caller read of the key.
 pub fn draw_call(
     alloc: Global,
     dice: &mut Dice,
@@ -70,7 +73,7 @@ pub fn draw_call(
     })
 }
 
-/// Draws what is called.
+/// Draws the kind of a call.
 fn word_drawn(dice: &mut Dice) -> Word {
     match dice.roll(200) {
         0..=27 => Word::Set,
@@ -90,7 +93,7 @@ fn word_drawn(dice: &mut Dice) -> Word {
     }
 }
 
-/// Draws which of the keys is called for.
+/// Draws the index of a key.
 fn key_drawn(dice: &mut Dice) -> usize
     ensures { result < 8 }
 {
@@ -117,7 +120,7 @@ fn block_drawn(alloc: Global, dice: &mut Dice, mark: u64) -> Result<String, Allo
 }
 
 impl Call {
-    /// A get of this key.
+    /// Returns a get of this key.
     pub fn get(alloc: Global, key: usize) -> Call {
         Call {
             word: Word::Get,
@@ -129,7 +132,7 @@ impl Call {
         }
     }
 
-    /// Gives the key that is called for. Of the eight each two lie on one shelf.
+    /// Returns the key of the call. Each two of the eight keys are on one shelf.
     pub fn key(&self) -> &'static str
         ensures { length result.now ≤ 250 }
     {
@@ -145,7 +148,7 @@ impl Call {
         }
     }
 
-    /// Makes the step that it asks for, if it asks for one: to tidy is none.
+    /// Returns the step of the call, or `None` for tidying.
     pub fn step(&self) -> Option<KeyStep<'_>>
         ensures { IfSome result (λ step. length (key_of step) ≤ 250) }
     {
@@ -175,7 +178,7 @@ impl Call {
         })
     }
 
-    /// The step of a word that stores.
+    /// Returns the step of a storage command.
     fn stores(&self, verb: Verb) -> KeyStep<'_>
         ensures { length (key_of result) ≤ 250 }
     {
@@ -188,7 +191,7 @@ impl Call {
         }
     }
 
-    /// The step of a word that counts.
+    /// Returns the step of incr or decr.
     fn counts(&self, up: bool) -> KeyStep<'_>
         ensures { length (key_of result) ≤ 250 }
     {
@@ -199,8 +202,9 @@ impl Call {
         }
     }
 
-    /// Returns whether the record has a line of it. While the clock stands, no reply tells of
-    /// tidying, nor of a flush that is to come.
+    /// Returns whether the record has a line of it.
+    ///
+    /// While the clock stands, no reply shows tidying, nor a flush that is to come.
     pub fn has_line(&self) -> bool {
         match self.word {
             Word::Tidy => false,
@@ -209,7 +213,7 @@ impl Call {
         }
     }
 
-    /// Writes the call as a line of a record has it: its word and what that takes.
+    /// Writes the call as in a line of a record: its kind and its fields.
     pub fn tell(&self, told: &mut String) -> Result<(), AllocError> {
         let (word, key) = (name_of(self.word), self.key());
         let (flags, exptime, number) = (self.flags, self.exptime, self.number);
@@ -230,7 +234,7 @@ impl Call {
     }
 }
 
-/// Names what is called.
+/// Returns the name of a kind.
 fn name_of(word: Word) -> &'static str {
     match word {
         Word::Set => "set",
@@ -250,7 +254,7 @@ fn name_of(word: Word) -> &'static str {
     }
 }
 
-/// Writes a reply as a line of a record has it.
+/// Writes a reply as in a line of a record.
 pub fn tell_reply(told: &mut String, reply: &Reply) -> Result<(), AllocError> {
     match reply {
         Reply::Hit {
@@ -276,7 +280,9 @@ pub fn tell_reply(told: &mut String, reply: &Reply) -> Result<(), AllocError> {
     }
 }
 
-/// Writes a block as a line of a record has it: behind `=`, and what is no letter or sign of ASCII as `%` and two digits.
+/// Writes a block as in a line of a record: `=`, and then its bytes.
+///
+/// Bytes other than letters and signs of ASCII are `%` and two digits.
 fn tell_block(told: &mut String, block: &[u8]) -> Result<(), AllocError> {
     write!(told, "=")?;
     for byte in block {

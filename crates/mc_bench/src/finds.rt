@@ -1,7 +1,8 @@
-//! Finds of keys that are drawn at random, of which so many have an item.
+//! Searches for random keys; some of them have an item.
 //!
-//! A window is 1024 keys, drawn and hashed before its time is taken, so that what is measured is the finds alone, and what else the
-//! machine does spoils few windows. bench/chains.c has the same items and draws the same keys.
+//! A window is 1024 keys, which are drawn and hashed before its time is taken. So only the searches
+//! are measured, and other work of the machine spoils few windows. bench/chains.c has the same
+//! items and draws the same keys.
 ghost use Rattle.std.specs.Prelude.{◌≤◌};
 
 use crate::asked::Within;
@@ -15,22 +16,22 @@ use std::alloc::{AllocError, Global};
 use std::io;
 use std::time::CpuClock;
 
-/// How many keys a window has.
+/// The number of keys in a window.
 const WINDOW: usize = 1024;
 
-/// What keys are looked for in.
+/// Where keys are searched.
 pub trait Search {
-    /// Puts in an item of a new key.
+    /// Inserts an item of a new key.
     fn put(&mut self, alloc: Global, key: &[u8; 32]) -> Result<(), AllocError>;
 
-    /// Ends each growth that runs.
+    /// Ends every running growth.
     fn settle(&mut self);
 
-    /// Reads the flags of a key's item, which are 0, if it has one. The hash is the key's.
+    /// Returns the flags of a key's item, which are 0, or `None`. `hash` is the key's hash.
     fn flags(&mut self, alloc: Global, key: &[u8; 32], hash: u64) -> Option<u32>;
 }
 
-/// Computes the hash that shelves are found by.
+/// Returns the hash by which shelves are found.
 pub fn fnv(key: &[u8; 32]) -> u64 {
     Fnv.hash(key)
 }
@@ -69,7 +70,7 @@ impl Search for Store<Fnv> {
     }
 }
 
-/// The key of a number: `key-` and its digits, 28 with zeros in front.
+/// Returns the key of a number: `key-` and its digits, 28 with leading zeros.
 fn key_of(number: u64) -> [u8; 32] {
     let mut key = *b"key-0000000000000000000000000000";
     let mut left = number;
@@ -88,7 +89,7 @@ struct Window {
 }
 
 impl Window {
-    /// Draws keys of so many numbers, from the first on.
+    /// Draws keys of `items` numbers, from the first on.
     fn draw(&mut self, dice: &mut Dice, first: u64, items: u64) -> Result<(), AllocError>
         requires { 1 ≤ items }
     {
@@ -102,7 +103,9 @@ impl Window {
         Ok(())
     }
 
-    /// Looks for the keys, and counts those that have an item. A processor may begin with a key before it is done with the one before.
+    /// Searches the keys, and counts those that have an item.
+    ///
+    /// A processor may begin with a key before it has ended with the previous one.
     fn count_found<S: Search>(&self, alloc: Global, sought: &mut S) -> u64 {
         let mut found = 0u64;
         for (key, hash) in self.keys.iter().zip(self.hashes.iter()) {
@@ -113,7 +116,7 @@ impl Window {
         found
     }
 
-    /// The same, one at a time: which key comes next follows from the flags that were read.
+    /// The same, one at a time: the next key follows from the flags that were read.
     fn found_in_turn<S: Search>(&self, alloc: Global, sought: &mut S) -> u64 {
         let mut found = 0u64;
         let mut at = 0usize;
@@ -131,18 +134,18 @@ impl Window {
     }
 }
 
-/// The processor's time of this process so far, in nanoseconds.
+/// Returns the processor time of this process in nanoseconds.
 fn nanos(rt: &impl CpuClock) -> io::Result<u64> {
     let time = rt.process_cpu_time()?;
     let seconds = time.as_secs().wrapping_mul(1_000_000_000);
     Ok(seconds.wrapping_add(u64::from(time.subsec_nanos())))
 }
 
-/// What is looked for: which keys, and in how many windows.
+/// The keys that are searched, and the number of windows.
 #[derive(Clone, Copy)]
 struct Sample {
     name: &'static str,
-    /// Whether it is one at a time.
+    /// Whether they are searched one at a time.
     in_turn: bool,
     /// The first of the keys' numbers.
     first: u64,
@@ -150,7 +153,7 @@ struct Sample {
     windows: u32,
 }
 
-/// Looks for the keys of so many windows, and tells of each how many were found and how many nanoseconds it took.
+/// Searches the keys of windows, and prints for each how many were found and its nanoseconds.
 fn tell<S: Search>(
     rt: &HostRuntime,
     alloc: Global,
@@ -185,8 +188,9 @@ fn tell<S: Search>(
     Ok(())
 }
 
-/// Puts in so many items, and looks for the keys of so many windows: of keys that have an item, of such keys one at a time, and of keys
-/// that have none.
+/// Inserts items, and searches the keys of some windows of each kind.
+///
+/// The kinds: keys with an item, such keys one at a time, and keys without an item.
 fn run<S: Search + Drop>(
     rt: &HostRuntime,
     alloc: Global,
@@ -218,7 +222,7 @@ fn run<S: Search + Drop>(
     Ok(())
 }
 
-/// Finds in the indexes of shelves alone, or gets through a store.
+/// Searches in the indexes of shelves alone, or gets through a store.
 pub fn tell_finds(
     rt: &HostRuntime,
     alloc: Global,

@@ -1,4 +1,4 @@
-//! Items that lie in chunks, in the indexes of as many shelves as a store has.
+//! Items in chunks, in the indexes of as many shelves as a store has.
 ghost use Rattle.std.specs.Prelude.{◌≡◌};
 
 use crate::finds::{Search, fnv};
@@ -12,10 +12,10 @@ use std::alloc::{AllocError, Global};
 /// The block of each item.
 const BLOCK: [u8; 100] = [b'x'; 100];
 
-/// What an item of a key of 32 bytes and that block takes of its chunk.
+/// The charge of an item with a key of 32 bytes and that block.
 const CHARGE: usize = 180;
 
-/// An item with the hash of its key in its header, as a shelf's index has it.
+/// An item with the hash of its key in its header, as in a shelf's index.
 #[derive(Drop)]
 struct Entry {
     item: Item,
@@ -58,7 +58,7 @@ fn put_item(slab: &mut Slab, alloc: Global, key: &[u8; 32]) -> Result<Entry, All
     })
 }
 
-/// Puts an item in, if none has its hash and key, and lets the index grow on.
+/// Inserts an item, unless its hash and key are there, and lets the index grow on.
 fn put(index: &mut Index<Entry>, alloc: Global, entry: Entry) -> Result<(), AllocError> {
     index.reserve(alloc)?;
     if index.find(entry.hash(), entry.key()).is_none() {
@@ -76,7 +76,7 @@ pub struct Indexes {
 }
 
 impl Indexes {
-    /// Makes indexes of no items, over so much memory as they may want.
+    /// Makes empty indexes, over as much memory as they may want.
     pub fn new(alloc: Global) -> Result<Indexes, AllocError> {
         let mut shelves = Vec::new(alloc);
         for _ in 0..64 {

@@ -1,30 +1,34 @@
-//! Runs what is measured, and what is judged afterwards.
+//! Measurements of the crates themselves, and a record of random calls in threads.
 //!
-//! How long a turn, a step or a search takes can't be said by a contract, nor seen through a
-//! socket, whose calls cost more than what is asked for. So this program calls the crates
-//! themselves, and whoever measures takes the time of a whole run, or counts its instructions
-//! (docs/BENCHMARKS.md). And threads that race can be tested only by looking at what they were
-//! told: a record of their calls is what an independent search then explains by an order, or can't
-//! (tests/history). Contracts say only what the command line asks for, and which calls are drawn.
+//! A contract can't state how long a turn, a step or a search takes, and through a socket it can't
+//! be measured, because the system calls cost more. So this program calls the crates, and the
+//! measuring script takes the time of a whole run, or counts its instructions (docs/BENCHMARKS.md).
+//! Threads that race can be tested only by their replies: `record` prints their calls, and an
+//! independent search then explains them by an order, or can't (tests/history). Contracts cover
+//! only the command line and the calls that are drawn.
 //!
-//! - `mc_bench worlds SESSIONS ROUNDS`: so many sessions of one world take their turns round robin. In a round each session sets a
-//!   key and gets it again, which is two turns of it. All of them use one key, so that whatever the number of sessions the store is
-//!   the same. What is printed is how many bytes the sessions were told.
-//! - `mc_bench steps OVER MIX THREADS ROUNDS [SHELVES]`: each of 1, 2 or 4 threads takes so many
-//!   steps of a store with so many shelves, 64 if it isn't said. OVER is `store`, which is that of
-//!   one thread, `own`, a shared store with a key for each thread, `side`, the same with keys whose
-//!   shelves lie side by side, `same`, with one key for all, or `drawn`, with keys that each thread
-//!   draws from 4096 at each step. MIX is `gets`, `sets`, `mixed`, nine gets to a set, `misses`,
-//!   gets of a key that isn't there, or `renewals`, sets of such a key, each with its delete behind
-//!   it. What is printed is how many steps were answered as they should be.
-//! - `mc_bench record SEED [CALLS]`: four callers in threads of their own make so many random calls
-//!   each of one shared store, 25,000 if it isn't said. What is printed is each call with its
-//!   answer, in each caller's order.
-//! - `mc_bench finds WITHIN ITEMS WINDOWS`: so many items of keys of 32 bytes and blocks of 100 are put in, and keys that are drawn at
-//!   random are looked for, 1024 a window, in so many windows of each kind: `hits`, of keys that have an item, `turns`, which are such
-//!   hits one at a time, none begun before the one before has ended, and `misses`, of keys that have none. WITHIN is `index`, which is
-//!   the shelves' indexes by themselves, or `store`, which is whole gets. What is printed is a line for each window: its kind, how many
-//!   keys were found, and the processor's nanoseconds.
+//! - `mc_bench worlds SESSIONS ROUNDS`: the sessions of one world take their turns round robin. In
+//!   a round each session sets a key and gets it again, which is two turns. All use one key, so
+//!   that the store is the same for any number of sessions. It prints the bytes of the sessions'
+//!   output.
+//! - `mc_bench steps OVER MIX THREADS ROUNDS [SHELVES]`: each of 1, 2 or 4 threads takes ROUNDS
+//!   steps of a store with SHELVES shelves, by default 64. OVER is `store`, the store of one
+//!   thread; `own`, a shared store with a key for each thread; `side`, the same with keys on
+//!   neighbouring shelves; `same`, with one key for all; or `drawn`, with keys that each thread
+//!   draws from 4096 at each step. MIX is `gets`; `sets`; `mixed`, nine gets to a set; `misses`,
+//!   gets of a key that isn't there; or `renewals`, sets of such a key, each followed by its
+//!   delete. It prints how many steps had the expected reply.
+//! - `mc_bench record SEED [CALLS]`: four callers in threads of their own make CALLS random calls
+//!   each of one shared store, by default 25,000. It prints each call with its reply, in each
+//!   caller's order.
+//! - `mc_bench finds WITHIN ITEMS WINDOWS`: inserts ITEMS items with keys of 32 bytes and blocks of
+//!   100, and searches random keys, 1024 a window, in WINDOWS windows of each kind. The kinds are
+//!   `hits`, keys with an item; `turns`, such hits one at a time, each begun after the previous one
+//!   has ended; and `misses`, keys without an item. WITHIN is `index`, the shelves' indexes by
+//!   themselves, or `store`, whole gets. It prints a line for each window: its kind, how many keys
+//!   were found, and the processor time in nanoseconds.
+//!
+//! Tests: none.
 #![tactic(auto)]
 
 mod asked;

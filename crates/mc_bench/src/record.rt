@@ -1,4 +1,4 @@
-//! Calls of many threads, and what they were answered.
+//! Calls of many threads, with their replies.
 ghost use Rattle.std.specs.Prelude.{◌≡◌, IfOk};
 
 use crate::call::{Call, KEYS, draw_call, tell_reply};
@@ -20,11 +20,11 @@ struct Script {
     calls: u32,
 }
 
-/// Lets four callers make their calls, each in a thread of its own, and gives what each tells, in its own order. They are joined
-/// afterwards, and one of them then reads all keys.
+/// Runs four callers, each in a thread of its own, and returns their records, each in its order.
 ///
-/// The record is of the form that tests/history reads. A flush that is to come and tidying have no line: while the clock stands,
-/// no reply tells of them.
+/// Afterwards they are joined, and one of them reads all keys. The record has the form that
+/// tests/history reads. A flush that is to come and tidying have no line: while the clock stands,
+/// no reply shows them.
 pub fn tell_calls<R: Threads + Wait + Sync>(
     rt: &R,
     alloc: Global,
@@ -60,7 +60,7 @@ pub fn tell_calls<R: Threads + Wait + Sync>(
     Ok(vec![in alloc; begun, first_told, second_told, last_told]?)
 }
 
-/// Two callers make their calls, of which the first has this number, and are joined.
+/// Runs two callers, the first with this number, and joins them.
 fn pair<R: Threads + Wait + Sync>(
     rt: &R,
     alloc: Global,
@@ -94,7 +94,7 @@ fn pair<R: Threads + Wait + Sync>(
     Ok((first, told))
 }
 
-/// One caller makes its calls.
+/// Makes one caller's calls.
 fn calls<R: Wait>(
     rt: &R,
     alloc: Global,
@@ -137,8 +137,9 @@ fn calls<R: Wait>(
     Ok((caller, told))
 }
 
-/// The caller makes one call, and tells of it in a line with these numbers, the caller's and the call's. Gives the unique number
-/// of a hit, or 0.
+/// Makes one call, and writes its line with the caller's and the call's numbers.
+///
+/// Returns the unique number of a hit, or 0.
 fn told_call<R: Wait>(
     rt: &R,
     alloc: Global,
@@ -175,7 +176,7 @@ fn told_call<R: Wait>(
     })
 }
 
-/// The caller reads all keys.
+/// Reads all keys by the caller.
 fn last<R: Wait>(
     rt: &R,
     alloc: Global,

@@ -14,10 +14,10 @@ use std::sync::Wait;
 use std::thread;
 use std::thread::Threads;
 
-/// How many keys are drawn from.
+/// The number of keys to draw from.
 const DRAWN: u64 = 4096;
 
-/// What each thread does.
+/// The work of each thread.
 #[derive(Clone, Copy)]
 struct Load {
     over: Over,
@@ -25,7 +25,7 @@ struct Load {
     rounds: u64,
 }
 
-/// Takes the steps, and gives how many were answered as they should be.
+/// Takes the steps, and returns how many had the expected reply.
 pub fn count_answered<R: Threads + Wait + Sync>(
     rt: &R,
     alloc: Global,
@@ -49,7 +49,7 @@ pub fn count_answered<R: Threads + Wait + Sync>(
     }
 }
 
-/// A store that is set up so, with the keys of all threads.
+/// Returns a store with these settings, and with the keys of all threads.
 fn fill_store(alloc: Global, over: Over, settings: Settings) -> Result<Store<Fnv>, AllocError> {
     let mut store = Store::new(alloc, settings, Fnv)?;
     for thread in 0..4 {
@@ -64,14 +64,14 @@ fn fill_store(alloc: Global, over: Over, settings: Settings) -> Result<Store<Fnv
     Ok(store)
 }
 
-/// Sets the key of a number, of those that are drawn.
+/// Sets the key of a number, one of those that are drawn.
 fn set_drawn(store: &mut Store<Fnv>, alloc: Global, number: u64) {
     let key = number.to_be_bytes();
     let now = Moment::from_seconds_at_most(1000);
     let _ = store.step(alloc, &set_of(&key, &[b'x'; 100]), now);
 }
 
-/// Sets the key that the thread of this number has.
+/// Sets the key of the thread of this number.
 fn set_key(store: &mut Store<Fnv>, alloc: Global, over: Over, thread: u8) {
     let load = Load {
         over,
@@ -81,7 +81,7 @@ fn set_key(store: &mut Store<Fnv>, alloc: Global, over: Over, thread: u8) {
     let _ = work(store, alloc, load, thread);
 }
 
-/// So many threads take their steps.
+/// Runs this many threads.
 fn shared_by<R: Threads + Wait + Sync>(
     rt: &R,
     alloc: Global,
@@ -117,7 +117,7 @@ fn shared_by<R: Threads + Wait + Sync>(
     }
 }
 
-/// Two threads take their steps, of which the first has this number.
+/// Runs two threads, the first with this number.
 fn pair<R: Threads + Wait + Sync>(
     rt: &R,
     alloc: Global,
@@ -142,7 +142,7 @@ fn pair<R: Threads + Wait + Sync>(
     one.saturating_add(other)
 }
 
-/// One thread takes its steps of the shared store.
+/// Takes one thread's steps on the shared store.
 fn asks<R: Wait>(
     rt: &R,
     alloc: Global,
@@ -157,7 +157,7 @@ fn asks<R: Wait>(
     work(&mut asking, alloc, load, number)
 }
 
-/// What one step does: to a key that stands, or to a fresh one, which no thread's key is.
+/// What one step does: to a key that is there, or to a fresh one, which is no thread's key.
 #[derive(Clone, Copy)]
 enum Act {
     Get,
@@ -167,7 +167,7 @@ enum Act {
     DeleteFresh,
 }
 
-/// The thread of this number takes its steps. Gives how many were answered as they should be.
+/// Takes the steps of the thread of this number, and returns how many had the expected reply.
 fn work<S: Steps>(store: &mut S, alloc: Global, load: Load, number: u8) -> u64 {
     match load.over {
         Over::Drawn => work_with_drawn(store, alloc, load, number),
@@ -175,7 +175,7 @@ fn work<S: Steps>(store: &mut S, alloc: Global, load: Load, number: u8) -> u64 {
     }
 }
 
-/// The same, each step of a key that is drawn.
+/// The same, each step on a random key.
 fn work_with_drawn<S: Steps>(store: &mut S, alloc: Global, load: Load, number: u8) -> u64 {
     let now = Moment::from_seconds_at_most(1000);
     let block = [b'x'; 100];
@@ -192,7 +192,7 @@ fn work_with_drawn<S: Steps>(store: &mut S, alloc: Global, load: Load, number: u
     answered
 }
 
-/// The same, each step of the thread's own key.
+/// The same, each step on the thread's own key.
 fn work_with_own<S: Steps>(store: &mut S, alloc: Global, load: Load, number: u8) -> u64 {
     let now = Moment::from_seconds_at_most(1000);
     let block = [b'x'; 100];
@@ -208,8 +208,10 @@ fn work_with_own<S: Steps>(store: &mut S, alloc: Global, load: Load, number: u8)
     answered
 }
 
-/// The key of the thread of this number. Those of different threads lie on different shelves: `a` on
-/// shelf 12, `b`, `k` and `z` far from it and from each other, `Z`, `_` and `P` on 13, 14 and 15.
+/// Returns the key of the thread of this number.
+///
+/// Keys of different threads are on different shelves: `a` on shelf 12, `b`, `k` and `z` far from
+/// it and from each other, `Z`, `_` and `P` on 13, 14 and 15.
 fn key_of(over: Over, number: u8) -> &'static [u8]
     ensures { length result.now ≤ 250 }
 {
@@ -224,7 +226,8 @@ fn key_of(over: Over, number: u8) -> &'static [u8]
     }
 }
 
-/// A key that isn't there when the steps begin: for each thread one on a shelf of its own, or one for all.
+/// Returns a key that isn't there when the steps begin: one for each thread on a shelf of its own,
+/// or one for all.
 fn fresh_key(over: Over, number: u8) -> &'static [u8]
     ensures { length result.now ≤ 250 }
 {
@@ -237,7 +240,7 @@ fn fresh_key(over: Over, number: u8) -> &'static [u8]
     }
 }
 
-/// What the step of this round does.
+/// Returns what the step of this round does.
 fn act_of(mix: Mix, round: u64) -> Act {
     match mix {
         Mix::Gets => Act::Get,
@@ -250,7 +253,7 @@ fn act_of(mix: Mix, round: u64) -> Act {
     }
 }
 
-/// The step that does so: a set is to this block.
+/// Returns the step that does so; a set stores this block.
 fn step_of<'a>(act: Act, key: &'a [u8], fresh: &'a [u8], block: &'a [u8]) -> KeyStep<'a>
     requires { (length key.now ≤ 250) × (length fresh.now ≤ 250) }
     ensures { length (key_of result) ≤ 250 }
@@ -270,7 +273,7 @@ fn step_of<'a>(act: Act, key: &'a [u8], fresh: &'a [u8], block: &'a [u8]) -> Key
     }
 }
 
-/// A set of the key to this block.
+/// Returns a set of the key to this block.
 fn set_of<'a>(key: &'a [u8], block: &'a [u8]) -> KeyStep<'a>
     requires { length key.now ≤ 250 }
     ensures { length (key_of result) ≤ 250 }
@@ -284,7 +287,7 @@ fn set_of<'a>(key: &'a [u8], block: &'a [u8]) -> KeyStep<'a>
     }
 }
 
-/// Returns whether a set was stored, a get was a hit, or of a fresh key a miss, and a delete found its key.
+/// Returns whether the reply is expected: stored, a hit, a miss of a fresh key, or deleted.
 fn is_expected(act: Act, taken: &Result<Reply, StepFault>) -> bool {
     match taken {
         Ok(Reply::Stored) => matches!(act, Act::Set | Act::SetFresh),

@@ -9,10 +9,10 @@ use mc_time::Moment;
 use mc_world::{Event, World};
 use std::alloc::{AllocError, Global};
 
-/// What a session sends in a round: two turns.
+/// The input of a session in a round: two turns.
 const SENT: &[u8] = b"set key 0 0 1\r\nx\r\nget key\r\n";
 
-/// Opens the sessions and lets them have their rounds. Gives how many bytes they were told.
+/// Opens the sessions and runs their rounds. Returns the bytes of their output.
 pub fn serve_rounds(alloc: Global, sessions: u16, rounds: u32) -> Result<u64, AllocError> {
     let settings = Settings {
         pages: 64,
@@ -30,7 +30,7 @@ pub fn serve_rounds(alloc: Global, sessions: u16, rounds: u32) -> Result<u64, Al
     Ok(bytes)
 }
 
-/// One round of every session.
+/// Runs one round of every session.
 fn round(world: &mut World<Fnv>, alloc: Global, sessions: u16) -> Result<u64, AllocError> {
     for session in 0..sessions {
         let piece = Event::Piece(u32::from(session) + 1, Bytes::of(SENT));
@@ -42,7 +42,7 @@ fn round(world: &mut World<Fnv>, alloc: Global, sessions: u16) -> Result<u64, Al
     Ok(take_output(world, sessions))
 }
 
-/// One turn of every session.
+/// Takes one turn of every session.
 fn turns(world: &mut World<Fnv>, alloc: Global, sessions: u16) -> Result<(), AllocError> {
     for session in 0..sessions {
         run(world, alloc, Event::Turn(u32::from(session) + 1))?;
@@ -50,7 +50,7 @@ fn turns(world: &mut World<Fnv>, alloc: Global, sessions: u16) -> Result<(), All
     Ok(())
 }
 
-/// Takes the output of every session, and gives how many bytes it was.
+/// Takes the output of every session, and returns its length.
 fn take_output(world: &mut World<Fnv>, sessions: u16) -> u64 {
     let mut bytes: u64 = 0;
     for session in 0..sessions {
@@ -62,14 +62,14 @@ fn take_output(world: &mut World<Fnv>, sessions: u16) -> u64 {
     bytes
 }
 
-/// An event by itself.
+/// Returns a list of one event.
 fn alone(event: Event<'_>) -> [Event<'_>; 1]
     ensures { result ≡ event.entry ∷ [] }
 {
     [event]
 }
 
-/// One event of the world.
+/// Runs one event of the world.
 fn run<K: KeyHash + Drop>(
     world: &mut World<K>,
     alloc: Global,

@@ -45,6 +45,7 @@ pub record Brought {X : Type 0} (hash_of : X → ℕ) (key_of : X → List ℕ) 
   pub nearer : free + turn ≤ start
   pub filled : NoneFree first.items home start → NoneFree table.items home free
   pub unmoved : IsStuck hash_of first.k first.items home start → (table ≡ first) × (free ≡ start)
+  pub near : start ≤ home + 31 → (table ≡ first) × (free ≡ start)
 
 -- the buckets before the one whose entry was moved are filled as they were
 pub none_free : {X : Type 0} (old new : List (Option X)) (home free at : ℕ) → at < free → ((k : ℕ) → k < at → get_or new k None ≡ get_or old k None) → NoneFree old home free → NoneFree new home at

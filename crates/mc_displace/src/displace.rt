@@ -1,6 +1,6 @@
 //! Brings an empty bucket near a home.
 
-ghost use Rattle.std.specs.Prelude.{◌≡◌, ℕ, ◌+◌, ◌<◌, ◌≤◌, None, IsOk, IsErr, IfSome, IsNone, IfOk, IfErr, length};
+ghost use Rattle.std.specs.Prelude.{◌≡◌, ℕ, ◌+◌, ◌<◌, ◌≤◌, None, Ok, IsOk, IsErr, IfSome, IsNone, IfOk, IfErr, length};
 ghost use Rattle.mc_hop.specs.Tables.{NoneFree, bucket_at};
 ghost use Rattle.mc_hop.specs.Contents.{content};
 ghost use Rattle.mc_displace.specs.Moves.{IsMovable, CanMove, HasHome, NoneMovable};
@@ -45,8 +45,8 @@ fn shift<T: Keyed + Drop>(hop: &mut Hop<T>, home: usize, at: usize, free: usize)
 
 /// Moves entries until an empty bucket is within 31 of a home, and returns that bucket.
 ///
-/// The error is an empty bucket into which no entry can be moved. The content is unchanged in both
-/// cases.
+/// A bucket that is near already is returned at once, and nothing is moved. The error is an empty
+/// bucket into which no entry can be moved. The content is unchanged in both cases.
 pub fn bring_near<T: Keyed + Drop>(
     hop: &mut Hop<T>,
     home: usize,
@@ -61,6 +61,7 @@ pub fn bring_near<T: Keyed + Drop>(
     ensures near { IfOk result (IsNear hop.new.items home) }
     ensures first { NoneFree hop.old.items home free → IfErr result (NoneFree hop.new.items home) }
     ensures near_is_ok { free ≤ home + 31 → IsOk result }
+    ensures at_once { free ≤ home + 31 → (result ≡ Ok free) × (hop.new ≡ hop.old) }
     ensures stuck { IfErr result (IsStuck T.hash_of hop.new.k hop.new.items home) }
     ensures stuck_is_err { IsStuck T.hash_of hop.old.k hop.old.items home free → IsErr result }
 {

@@ -1,11 +1,11 @@
-//! The two tables of a displacement: one where an entry can be moved, and one where none can.
+//! Two tables for a displacement: one where an entry can be moved, and one where none can.
 
 use mc_displace::bring_near;
 use mc_hop::Hop;
 use mc_testing::{Mark, fill_marks, marks_table};
 use std::test::*;
 
-/// Brings the first empty bucket near the first home: where it was, and where it ended.
+/// Brings the first empty bucket near the first home. Returns where it was, and where it ended.
 fn brought(table: &mut Hop<Mark>) -> Option<(usize, Result<usize, usize>)> {
     let home = table.home_of(0);
     let free = table.free_from(home)?;

@@ -1,4 +1,4 @@
-//! When a growth begins, how it goes on and when it ends, in an index where all keys have one hash.
+//! When a growth begins, how it goes on and when it ends, with one hash for all keys.
 
 use crate::marked::{add, opened};
 use mc_grow::Place;
@@ -41,7 +41,7 @@ fn a_place_is_found_again_after_moves(rt: HostRuntime) -> Result<(), Fail> {
     Ok(())
 }
 
-/// Returns whether two places are one, or both none.
+/// Returns whether two places are the same, or both `None`.
 fn is_same(one: Option<Place>, other: Option<Place>) -> bool {
     match (one, other) {
         (None, None) => true,

@@ -1,4 +1,4 @@
-//! Hashes of keys, as others publish them.
+//! Hashes of keys, compared with published ones.
 
 use mc_hop::{Constant, Fnv, KeyHash};
 use std::test::*;

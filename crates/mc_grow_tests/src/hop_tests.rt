@@ -1,5 +1,6 @@
-//! A table of entries whose keys are words: what is put in is found, changed and taken out again, by at
-//! most 32 reads.
+//! A table of entries whose keys are words: entries are inserted, found, changed and removed.
+//!
+//! A search takes at most 32 reads.
 
 ghost use Rattle.std.specs.Prelude.{◌≡◌};
 
@@ -29,7 +30,7 @@ impl Keyed for Word {
     }
 }
 
-/// Three words of one home, the last of another hash than its own word's.
+/// Returns three words of one home; the last has another hash than its own word's.
 fn words() -> [Word; 3] {
     [
         Word {
@@ -50,7 +51,9 @@ fn words() -> [Word; 3] {
     ]
 }
 
-/// Puts the words into the first empty buckets from their homes on, and leaves out one that is there or finds none near.
+/// Puts the words into the first empty buckets from their homes on.
+///
+/// It skips a word that is there or finds no bucket near its home.
 fn put_words(table: &mut Hop<Word>) {
     for word in words() {
         if table.find(word.hash, word.key).is_none() {
@@ -63,7 +66,7 @@ fn put_words(table: &mut Hop<Word>) {
     }
 }
 
-/// A table of 64 homes with the words, asked for again if memory is refused.
+/// Returns a table of 64 homes with the words. It allocates twice if memory is refused.
 fn opened(alloc: Global) -> Result<Hop<Word>, AllocError> {
     let mut table = match Hop::new(alloc, 6) {
         Err(_) => Hop::new(alloc, 6)?,
@@ -137,7 +140,7 @@ fn every_word_is_found_without_its_key(rt: HostRuntime) -> Result<(), Fail> {
     Ok(())
 }
 
-/// The word counted once more, and how often it was before.
+/// Returns the word counted once more, and its count before.
 fn counted(word: Word) -> (Word, u32)
     ensures hash { result.0.hash ≡ word.hash }
     ensures key { result.0.key ≡ word.key }

@@ -7,13 +7,15 @@ use mc_testing::Mark;
 use std::alloc::{AllocError, Global};
 use std::test::*;
 
-/// The one key of all these entries, which their hashes tell apart.
+/// The one key of all these entries, which differ in their hashes.
 const KEY: [u8; 2] = [0; 2];
 
-/// How many entries of the first home there are: 32 of them are in the old table, 32 in the table, and 3 are strays.
+/// The number of entries of the first home: 32 in the old table, 32 in the table, and 3 strays.
 const MARKS: u64 = 67;
 
-/// An index with entries of one home: the 33rd finds no bucket near it, and with the next a growth begins.
+/// Returns an index with entries of one home.
+///
+/// The 33rd finds no bucket near it, and with the next a growth begins.
 fn growing(alloc: Global) -> Result<Index<Mark>, AllocError> {
     let mut index = opened(alloc)?;
     for hash in 0..MARKS {

@@ -1,4 +1,4 @@
-//! A growth that is moved on only if it lags, as a shelf does that is given no other turn.
+//! A growth that only moves entries if it lags, as on a shelf without any other call.
 
 ghost use Rattle.std.specs.Prelude.{◌≡◌};
 
@@ -8,7 +8,7 @@ use mc_hop::{Keyed, Reads};
 use std::alloc::{AllocError, Global};
 use std::test::*;
 
-/// An entry that is told by its hash alone.
+/// An entry with a hash and no key.
 #[derive(Drop)]
 struct Mark {
     hash: u64,
@@ -30,8 +30,9 @@ impl Keyed for Mark {
     }
 }
 
-/// Puts in an entry of that hash, if none has it, and answers how many entries the search for it
-/// read. A growth that lags moves 8 entries first.
+/// Inserts an entry of this hash, if there is none. Returns how many entries its search read.
+///
+/// A growth that lags moves 8 entries first.
 fn add(index: &mut Index<Mark>, alloc: Global, hash: u64) -> Result<u64, AllocError> {
     if index.lags() {
         let _ = index.move_some(8);
@@ -51,7 +52,7 @@ fn add(index: &mut Index<Mark>, alloc: Global, hash: u64) -> Result<u64, AllocEr
     Ok(reads.0)
 }
 
-/// A search reads 32 entries in each of two tables at most, and beside them each stray.
+/// A search reads at most 32 entries in each of two tables, and each stray.
 #[test]
 fn an_index_that_catches_up_has_no_strays(rt: HostRuntime) -> Result<(), Fail> {
     let mut index = opened(rt.alloc())?;
@@ -67,7 +68,9 @@ fn an_index_that_catches_up_has_no_strays(rt: HostRuntime) -> Result<(), Fail> {
     Ok(())
 }
 
-/// With no entry moved, a growth lags from the 97th entry on: the table has 128 homes then, and the growth began with the 49th.
+/// Without moves, a growth lags from the 97th entry on.
+///
+/// The table has 128 homes then, and the growth began with the 49th.
 #[test]
 fn a_growth_lags_by_the_load(rt: HostRuntime) -> Result<(), Fail> {
     let mut index = opened(rt.alloc())?;

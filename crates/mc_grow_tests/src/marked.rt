@@ -1,4 +1,4 @@
-//! What tests of an index share; most have one of marks.
+//! What tests of an index share; most use an index of marks.
 
 ghost use Rattle.std.specs.Prelude.{◌≡◌};
 
@@ -7,7 +7,7 @@ use mc_hop::Keyed;
 use mc_testing::Mark;
 use std::alloc::{AllocError, Global};
 
-/// Makes an index of 64 homes, asked for again if memory is refused.
+/// Returns an index of 64 homes. It allocates twice if memory is refused.
 pub(crate) fn opened<T: Keyed + Drop>(alloc: Global) -> Result<Index<T>, AllocError> {
     match Index::new(alloc, 6) {
         Err(_) => Index::new(alloc, 6),
@@ -15,8 +15,9 @@ pub(crate) fn opened<T: Keyed + Drop>(alloc: Global) -> Result<Index<T>, AllocEr
     }
 }
 
-/// Puts in a mark, if none has its hash and key, and returns whether it did. Room is asked for
-/// again if memory is refused.
+/// Inserts a mark, unless its hash and key are there, and returns whether it did.
+///
+/// It reserves twice if memory is refused.
 pub(crate) fn add(
     index: &mut Index<Mark>,
     alloc: Global,
@@ -39,7 +40,7 @@ pub(crate) fn add(
     Ok(true)
 }
 
-/// Takes the mark of that hash and key out, and returns whether there was one.
+/// Removes the mark of this hash and key, and returns whether there was one.
 pub(crate) fn take(index: &mut Index<Mark>, hash: u64, key: [u8; 2]) -> bool {
     match index.find(hash, &key) {
         Some(place) => {
@@ -50,7 +51,7 @@ pub(crate) fn take(index: &mut Index<Mark>, hash: u64, key: [u8; 2]) -> bool {
     }
 }
 
-/// Counts a mark once more, and answers its hash beside it.
+/// Returns a mark counted once more, and its hash.
 pub(crate) fn counted(mark: Mark) -> (Mark, u64)
     ensures hash { result.0.hash ≡ mark.hash }
     ensures key { result.0.key ≡ mark.key }
@@ -64,7 +65,7 @@ pub(crate) fn counted(mark: Mark) -> (Mark, u64)
     (more, hash)
 }
 
-/// Counts the mark of that hash and key once more, and returns whether there was one.
+/// Counts the mark of this hash and key once more, and returns whether there was one.
 pub(crate) fn count_more(index: &mut Index<Mark>, hash: u64, key: [u8; 2]) -> bool {
     match index.find(hash, &key) {
         Some(place) => {
@@ -75,7 +76,7 @@ pub(crate) fn count_more(index: &mut Index<Mark>, hash: u64, key: [u8; 2]) -> bo
     }
 }
 
-/// Returns the count of the mark at a place, if one stands there.
+/// Returns the count of the mark at a place, or `None`.
 pub(crate) fn count_at(index: &Index<Mark>, place: Place) -> Option<u32> {
     match index.get(place) {
         Some(mark) => Some(mark.count),

@@ -1,6 +1,7 @@
-//! An index beside std's map: the same steps, drawn at random while tables grow, with hashes that
-//! are well spread, of eight values, of one home, and all one. If memory is refused a step asks
-//! again.
+//! An index beside std's map: the same random steps while tables grow.
+//!
+//! The hashes are well spread, of eight values, of one home, or all one. If memory is refused the
+//! step is taken again.
 
 use crate::marked::{add, count_at, count_more, opened, take};
 use mc_grow::{Index, Place};
@@ -20,7 +21,7 @@ enum Hashes {
 }
 
 impl Hashes {
-    /// Computes the hash of a key. Eight hashes have eight homes, side by side.
+    /// Returns the hash of a key. Eight hashes have eight neighbouring homes.
     fn of(self, key: [u8; 2]) -> u64 {
         match self {
             Hashes::Spread => Fnv.hash(&key),
@@ -40,7 +41,7 @@ enum Act {
     Look,
 }
 
-/// Half of the steps put an entry in, and one of eight takes one out: most keys have an entry in the end.
+/// Half of the steps insert, and one of eight removes: most keys have an entry in the end.
 const ACTS: [Act; 8] = [
     Act::Put,
     Act::Put,
@@ -52,7 +53,7 @@ const ACTS: [Act; 8] = [
     Act::Look,
 ];
 
-/// How many keys there are: for three quarters of them a table of 64 homes has to grow twice.
+/// The number of keys: for three quarters of them a table of 64 homes has to grow twice.
 const KEYS: u16 = 160;
 
 /// An index and the map that it is compared with, which has the counts under the keys.
@@ -61,7 +62,7 @@ struct Pair {
     hashes: Hashes,
     index: Index<Mark>,
     map: BTreeMap<u16, u32>,
-    /// A place from before, which may have another entry by now, or none.
+    /// An earlier place, which may have another entry by now, or none.
     kept: Option<Place>,
 }
 
@@ -80,8 +81,7 @@ impl Pair {
         self.index.find(self.hashes.of(key), &key)
     }
 
-    /// Takes a step in both, and returns whether they had an entry of the key before, or had none,
-    /// alike.
+    /// Takes a step in both. Returns whether both had an entry of the key before, or neither.
     fn step(&mut self, alloc: Global, act: Act, key: u16) -> Result<bool, AllocError> {
         let bytes = key.to_be_bytes();
         let hash = self.hashes.of(bytes);
@@ -112,8 +112,9 @@ impl Pair {
         }
     }
 
-    /// Returns whether a key has the same count in both, or none, and is found so from the place
-    /// that was kept.
+    /// Returns whether a key has the same count in both, or none.
+    ///
+    /// It must also be found from the earlier place.
     fn is_alike(&self, key: u16) -> bool {
         let found = self.find(key);
         let bytes = key.to_be_bytes();
@@ -128,13 +129,13 @@ impl Pair {
         again == found && count == self.map.get(&key).copied()
     }
 
-    /// Finds the first key that is not alike in both.
+    /// Returns the first key that differs in both.
     fn first_unlike(&self) -> Option<u16> {
         (0..KEYS).find(|key| !self.is_alike(*key))
     }
 }
 
-/// Puts a key with the count 0 into the map, again if memory is refused.
+/// Puts a key with the count 0 into the map, and tries again if memory is refused.
 fn put(map: &mut BTreeMap<u16, u32>, key: u16) -> Result<(), AllocError> {
     if map.insert(key, 0).is_err() {
         map.insert(key, 0)?;

@@ -1,4 +1,4 @@
-//! Readers and writers that give and take little at a time.
+//! Readers and writers of a few bytes at a time.
 
 use mc_testing::{Drip, Sip};
 use std::io::{ErrorKind, Read, Write};

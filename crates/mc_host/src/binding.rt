@@ -1,4 +1,4 @@
-//! Listeners, and what they want of the system.
+//! Listeners, and the descriptors that they need.
 ghost use Rattle.std.specs.Prelude.{◌≡◌, ◌+◌, length, IfOk, IfErr};
 ghost use Rattle.mc_host.specs.Ends.{EndsUnbound, EndsUnboundAt};
 
@@ -16,7 +16,7 @@ pub struct Listeners {
     pub others: Vec<TcpListener>,
 }
 
-/// What is wanting to begin.
+/// What the system lacks for a start.
 #[derive(Debug, Drop)]
 pub enum Wanting {
     /// A descriptor.
@@ -40,7 +40,7 @@ impl From<AllocError> for Wanting {
     }
 }
 
-/// Binds the listener, whose accepts wait.
+/// Binds a listener, whose accepts wait.
 pub fn bind_listener<R: Net>(rt: &R, address: SocketAddr) -> io::Result<TcpListener> {
     // std's listener lets 128 connections wait, this one as many as the system allows
     let listener = TcpListener::from(mio::net::TcpListener::bind(rt, address)?);
@@ -48,7 +48,9 @@ pub fn bind_listener<R: Net>(rt: &R, address: SocketAddr) -> io::Result<TcpListe
     Ok(listener)
 }
 
-/// Binds a listener at each endpoint. The program ends if it can't, or memory runs out.
+/// Binds a listener at each endpoint.
+///
+/// The error ends the program: an endpoint can't be bound, or memory is refused.
 pub fn bound_all<R: Net>(rt: &R, alloc: Global, endpoints: &Endpoints) -> Result<Listeners, End>
     ensures each { IfOk result (λ listeners.
         length listeners.others.items ≡ length endpoints.now.others.items) }
@@ -71,7 +73,9 @@ pub fn bound_all<R: Net>(rt: &R, alloc: Global, endpoints: &Endpoints) -> Result
     Ok(Listeners { first, others })
 }
 
-/// Binds a listener at an endpoint. The program ends if it can't, or memory runs out.
+/// Binds a listener at an endpoint.
+///
+/// The error ends the program: the endpoint can't be bound, or memory is refused.
 fn bound_at<R: Net>(rt: &R, endpoint: Endpoint) -> Result<TcpListener, End>
     ensures { IfErr result (EndsUnboundAt endpoint) }
 {
@@ -81,8 +85,9 @@ fn bound_at<R: Net>(rt: &R, endpoint: Endpoint) -> Result<TcpListener, End>
     }
 }
 
-/// Gives the listeners' sockets as ones that can be shut down. It fails if the system has no
-/// descriptor for one, or memory runs out.
+/// Returns the listeners' sockets as streams, which can be shut down.
+///
+/// It fails if the system has no descriptor for one, or if memory is refused.
 pub fn sockets_of(alloc: Global, listeners: &Listeners) -> Result<Vec<TcpStream>, Wanting>
     ensures { IfOk result (λ sockets.
         length sockets.items ≡ length listeners.now.others.items + 1) }
@@ -97,13 +102,15 @@ pub fn sockets_of(alloc: Global, listeners: &Listeners) -> Result<Vec<TcpStream>
     Ok(sockets)
 }
 
-/// Gives a listener's socket as one that can be shut down.
+/// Returns a listener's socket as a stream, which can be shut down.
 fn socket_of(listener: &TcpListener) -> io::Result<TcpStream> {
     Ok(TcpStream::from(OwnedFd::from(listener.try_clone()?)))
 }
 
-/// Fails if the system hasn't a descriptor for one connection, and the ones that are kept spare,
-/// one a listener; or if memory runs out.
+/// Checks that the system has descriptors for one connection and for the spare ones.
+///
+/// There is one spare descriptor for each listener. It fails if a descriptor is missing, or if
+/// memory is refused.
 pub fn look_for_descriptors(alloc: Global, listeners: &Listeners) -> Result<(), Wanting> {
     let _connection = listeners.first.try_clone()?;
     let _spare = listeners.first.try_clone()?;

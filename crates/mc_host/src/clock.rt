@@ -1,15 +1,14 @@
-//! The clock that the command line asks for.
+//! The clock of the command line.
 ghost use Rattle.mc_host.specs.Clocks.{moments};
 
 use mc_time::{Clock, Moment};
 
-/// The clock that the command line asks for: it stands at the moment of `--now`, and is the
-/// system's if there is none.
+/// The clock of the command line: it stands at the moment of `--now`, or is the system's.
 #[derive(Clone, Copy)]
 pub struct AskedClock<S: Clock> {
-    /// Where it stands.
+    /// The moment of `--now`.
     pub asked: Option<Moment>,
-    /// The clock that is read if it doesn't stand.
+    /// The clock that is read without `--now`.
     pub system: S,
 }
 

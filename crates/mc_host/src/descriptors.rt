@@ -1,21 +1,24 @@
-//! How many descriptors the system allows.
+//! The limit of descriptors.
+//!
+//! Descriptors are tried before the program reports that it listens. The limit isn't raised:
+//! `setrlimit` isn't among the kit's calls.
 
 use std::alloc::AllocGlobal;
 use std::fs::{self, Files};
 
-/// The file in which Linux tells a process its limits.
+/// The file with a process's limits on Linux.
 const LIMITS: &str = "/proc/self/limits";
 
-/// What stands before the number of descriptors in it.
+/// The beginning of the line with the number of descriptors.
 const DESCRIPTORS: &str = "Max open files";
 
-/// Gives how many descriptors the process may have, if the system tells and there is a limit.
+/// Returns the limit of descriptors of the process, or `None` if there is none or it is unknown.
 pub fn most_descriptors<R: Files + AllocGlobal>(rt: &R) -> Option<u64> {
     let text = fs::read_to_string(rt, LIMITS).ok()?;
     number_behind(text.as_str(), DESCRIPTORS)
 }
 
-/// Gives the number behind the words with which a line begins.
+/// Returns the number behind the words with which a line begins.
 fn number_behind(text: &str, words: &str) -> Option<u64> {
     let line = text.lines().find(|line| line.starts_with(words))?;
     let rest = line.strip_prefix(words)?;

@@ -1,4 +1,6 @@
-//! How the program ends: its status, and what it says on standard error.
+//! How the program ends: its status, and its text on standard error.
+//!
+//! An end that can't listen has the address and the obstacle, not a text, so contracts name both.
 
 ghost use Rattle.std.specs.Prelude.{◌≡◌};
 ghost use Rattle.mc_host.specs.Ends.{IsUnnamed, status_of, text_of};
@@ -12,28 +14,29 @@ use std::io;
 /// How the program ends.
 #[derive(Debug, Drop)]
 pub enum End {
-    /// One session was served, to its end or until a fault; or connections, until the listener failed,
-    /// which is a fault of reading.
+    /// It served: one session to its end or a fault, or connections until the listener failed.
+    ///
+    /// A failed listener is a read fault.
     Served(Result<(), ServeFault>),
-    /// It was to listen, and can't.
+    /// It can't listen.
     CannotListen(Refusal),
     /// It was asked to end, and did.
     Stopped,
-    /// The command line is bad, and `clap` has said why.
+    /// The command line is bad, and `clap` has printed why.
     BadCommandLine,
-    /// The number of shelves that the command line asks for is no power of two.
+    /// The number of shelves on the command line isn't a power of two.
     BadShelves,
     /// A word of the command line isn't text.
     NotText,
-    /// Help or the version was asked for, and is written.
+    /// Help or the version was printed.
     Shown,
-    /// Help or the version was asked for, and could not be written.
+    /// Help or the version couldn't be printed.
     NotShown,
-    /// Memory ran out while the command line was read, or before the first connection.
+    /// Memory was refused while the command line was read, or before the first connection.
     NoMemory,
 }
 
-/// Where it can't listen, and why.
+/// The endpoint at which it can't listen, and why.
 #[derive(Clone, Copy, Debug, Drop)]
 pub struct Refusal {
     pub endpoint: Endpoint,
@@ -49,13 +52,13 @@ pub enum Obstacle {
     NotAllowed,
     /// The address isn't one of this machine.
     NotHere,
-    /// The system gives too few descriptors.
+    /// The system has too few descriptors.
     NoDescriptor,
-    /// What has no name here.
+    /// Any other obstacle.
     Other,
 }
 
-/// The errors by which the system says that there is no descriptor: `ENFILE` and `EMFILE`.
+/// The system's errors for a missing descriptor: `ENFILE` and `EMFILE`.
 const NO_DESCRIPTOR: [i32; 2] = [23, 24];
 
 impl Obstacle {
@@ -64,7 +67,7 @@ impl Obstacle {
     ghost use Rattle.std.specs.declared.io.ErrorKind.TheVariants as io_kind;
     ghost use Rattle.mc_host.specs.Ends.{reason_of, IsUnnamed};
 
-    /// Gives what stood in the way, by the system's error.
+    /// Returns the obstacle of a system error.
     pub fn of(error: &io::Error) -> Obstacle
         ensures taken { error_kind error.now ≡ io_kind.AddrInUse → result ≡ Obstacle.Taken }
         ensures not_allowed { error_kind error.now ≡ io_kind.PermissionDenied
@@ -86,7 +89,7 @@ impl Obstacle {
         unnamed_obstacle(error)
     }
 
-    /// Gives the words for it, which stand behind the address.
+    /// Returns its text, which follows the address.
     pub fn reason(self) -> &'static str
         ensures { result.now ≡ reason_of self }
     {
@@ -100,7 +103,7 @@ impl Obstacle {
     }
 }
 
-/// Tells want of descriptors from what has no name here.
+/// Returns `NoDescriptor` for a missing descriptor, and `Other` for any other error.
 fn unnamed_obstacle(error: &io::Error) -> Obstacle
     ensures { IsUnnamed result }
 {
@@ -129,8 +132,9 @@ impl End {
     ghost use Rattle.clap.specs.declared.error.kind.ErrorKind.TheVariants as kind;
     ghost use Rattle.mc_host.specs.Ends.{status_of, text_of, EndsUnboundAt};
 
-    /// Gives the end where it can't listen at an endpoint, by the system's error: memory ran out, or it says
-    /// where and why.
+    /// Returns the end if it can't listen at an endpoint, by the system's error.
+    ///
+    /// It is want of memory, or the endpoint and the obstacle.
     pub fn without(endpoint: Endpoint, error: &io::Error) -> End
         ensures { EndsUnboundAt endpoint result }
     {
@@ -143,8 +147,9 @@ impl End {
         })
     }
 
-    /// Gives the end where the words of the command line could not be read: memory ran out, or one
-    /// isn't text.
+    /// Returns the end if the words of the command line couldn't be read.
+    ///
+    /// It is want of memory, or a word that isn't text.
     pub fn of_words(error: io::Error) -> End
         ensures memory { error_kind error ≡ io_kind.OutOfMemory → result ≡ End.NoMemory }
         ensures text { error_kind error ≢ io_kind.OutOfMemory → result ≡ End.NotText }
@@ -156,7 +161,7 @@ impl End {
         }
     }
 
-    /// Gives the end where `clap` has no options, by what it says and by whether that was printed.
+    /// Returns the end if `clap` returns an error, given whether its text could be printed.
     pub fn of_options(error: &clap::Error, printed: &io::Result<()>) -> End
         ensures memory { kind_of error.now ≡ kind.OutOfMemory → result ≡ End.NoMemory }
         ensures shown { (kind_of error.now ≡ kind.DisplayHelp)
@@ -179,9 +184,10 @@ impl End {
         }
     }
 
-    /// Gives the status that the shell is told, and what is said on standard error, which is empty
-    /// if there is nothing to say. Of an end that can't listen the address and the reason stand
-    /// behind it. It takes no memory.
+    /// Returns the program's status and its text on standard error, which may be empty.
+    ///
+    /// For an end that can't listen, the address and the obstacle follow the text. It takes no
+    /// memory.
     pub fn ending(&self) -> (u8, &'static str)
         ensures status { result.0 ≡ status_of self.now }
         ensures text { result.1.now ≡ text_of self.now }
@@ -202,8 +208,9 @@ impl End {
     }
 }
 
-/// Gives the program's status and its text on standard error for what a session's service answered:
-/// 0 and nothing at its end, 1 and what is wrong after a fault. It takes no memory.
+/// Returns the program's status and its text for a served session.
+///
+/// They are 0 and nothing at its end, and 1 and the fault after a fault. It takes no memory.
 pub fn ending(answer: &Result<(), ServeFault>) -> (u8, &'static str)
     ensures status { result.0 ≡ status_of (End.Served answer.now) }
     ensures text { result.1.now ≡ text_of (End.Served answer.now) }

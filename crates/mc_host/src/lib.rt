@@ -1,24 +1,24 @@
-//! What the program has of the machine that it runs on: where it listens, its clock, how many
-//! descriptors it may have; and how it ends.
+//! The program's listeners, its clock, its limit of descriptors, and how it ends.
 //!
-//! What goes wrong when a server starts is mostly of the machine: a port that is taken, an address
-//! that it hasn't, too few descriptors, no memory. Each of these is to end with a status and a line
-//! that says what to do about it, the same in every run. So where it listens, its clock and its
-//! descriptors stand here, beside the table of ends; what is done with connections is
-//! `mc_server`'s.
+//! A start mostly fails because of the machine: a port is taken, an address isn't its own, there
+//! are too few descriptors, or no memory. Each of these ends the program with a status and a line
+//! with what to do about it, the same in every run. So listeners, clock and descriptors are here,
+//! beside the table of ends; serving connections is in `mc_server`.
 //!
-//! An [`End`] is how the program ends, with its status and its text (`End::ending`); a [`Refusal`]
-//! says at which endpoint it can't listen, and for which [`Obstacle`]. [`bound_all`] binds the
-//! [`Listeners`], one for each endpoint that is asked for; [`sockets_of`] makes of them what wakes
-//! those who accept, and [`look_for_descriptors`] looks whether there are enough to begin with. A
-//! [`Door`] is a listener for scrapes. [`AskedClock`] is the clock of the command line: it stands
-//! at `--now`, or is the system's.
+//! An [`End`] is how the program ends, with its status and its text (`End::ending`). A [`Refusal`]
+//! is the endpoint at which it can't listen, and the [`Obstacle`]. [`bound_all`] binds the
+//! [`Listeners`], one for each endpoint. [`sockets_of`] returns streams of them, whose shutdown
+//! wakes the threads that accept. [`look_for_descriptors`] checks that there are enough to begin
+//! with. A [`Door`] is a listener for scrapes. [`AskedClock`] is the clock of the command line: it
+//! stands at `--now`, or is the system's.
 //!
-//! Contracts say of each end exactly its status and its text, which end comes of the command line
-//! and of a session that was served, that there is a listener for each endpoint, and which ends a
-//! refusal may be. What the system then does with a listener no contract says.
+//! Contracts state each end's status and text exactly, which end follows from the command line and
+//! from a served session, that there is a listener for each endpoint, and which ends a failure may
+//! have. No contract states what the system does with a listener.
 //!
 //! Begin with `specs/Ends.antt` and `src/end.rt`, then `src/binding.rt`.
+//!
+//! Tests: mc_server, src/tests.rt.
 #![tactic(auto)]
 
 mod binding;

@@ -1,4 +1,4 @@
-//! An item in its chunks: what is written is what it gives back, and what changes in place.
+//! An item in its chunks: it returns what was written, and changes in place.
 
 ghost use Rattle.std.specs.Prelude.{◌≡◌, ◌≤◌, [], length, vec_capacity, IfOk};
 ghost use Rattle.mc_slab.specs.Needs.{size_in};
@@ -12,7 +12,9 @@ use std::mem::size_of;
 use std::process::Abort;
 use std::test::*;
 
-/// Chunks that hold the charge. A run may refuse one allocation, so each call that takes memory is made twice.
+/// Returns chunks that hold the charge.
+///
+/// A run may refuse one allocation, so each call that takes memory is made twice.
 fn chunks_for(rt: &impl Abort, alloc: Global, charge: u64) -> Result<Chunks, Fail>
     ensures { IfOk result (λ chunks. charge ≤ length chunks.bytes) }
 {
@@ -24,7 +26,7 @@ fn chunks_for(rt: &impl Abort, alloc: Global, charge: u64) -> Result<Chunks, Fai
     }
 }
 
-/// An empty vector with room for so many bytes.
+/// Returns an empty vector with room for `count` bytes.
 fn roomy(alloc: Global, count: usize) -> Result<Vec<u8>, AllocError>
     ensures empty { IfOk result (λ bytes. bytes.items ≡ []) }
     ensures room { IfOk result (λ bytes. count ≤ vec_capacity bytes) }
@@ -35,7 +37,7 @@ fn roomy(alloc: Global, count: usize) -> Result<Vec<u8>, AllocError>
     }
 }
 
-/// Bytes that tell their places: each is the remainder of its place by 251.
+/// Returns `count` bytes that identify their places: each is its place modulo 251.
 fn pattern(alloc: Global, count: usize) -> Result<Vec<u8>, AllocError>
     ensures { IfOk result (λ bytes. length bytes.items ≡ count) }
 {
@@ -46,7 +48,7 @@ fn pattern(alloc: Global, count: usize) -> Result<Vec<u8>, AllocError>
     Ok(bytes)
 }
 
-/// What an item has beside its key and its block.
+/// The fields of an item other than its key and its block.
 #[derive(Clone, Copy)]
 struct Numbers {
     hash: u64,
@@ -72,7 +74,7 @@ const SOME: Numbers = Numbers {
     updated: 4,
 };
 
-/// The item of those parts, in the smallest chunks that hold it.
+/// Returns the item of these parts, in the smallest chunks that hold it.
 fn item_of(
     rt: &impl Abort,
     alloc: Global,
@@ -97,13 +99,13 @@ fn item_of(
     Ok(Item::write(chunks, parts))
 }
 
-/// An item of one chunk has that block.
+/// Checks the block of an item of one chunk.
 fn is_block(rt: &impl Abort, item: &Item, block: &[u8]) {
     assert_eq!(rt; item.parts(), 1);
     assert!(rt; item.part(0) == block);
 }
 
-/// An item of any chunks has that block.
+/// Checks the block of an item of any chunks.
 fn joins_to(rt: &impl Abort, alloc: Global, item: &Item, block: &[u8]) -> Result<(), Fail> {
     let mut out = Vec::new(alloc);
     if item.append_to(&mut out).is_err() {
@@ -161,7 +163,7 @@ fn an_item_gives_back_its_parts(rt: HostRuntime) -> Result<(), Fail> {
     Ok(())
 }
 
-/// Numbers at their limits, and such that tell their bytes' places.
+/// Numbers at their limits, and numbers whose bytes all differ.
 const NUMBERS: [Numbers; 4] = [
     ZEROS,
     Numbers {
@@ -196,7 +198,7 @@ fn an_item_gives_back_its_numbers(rt: HostRuntime) -> Result<(), Fail> {
     Ok(())
 }
 
-/// An item of that key and those numbers, with a block of so many bytes that are left to be written.
+/// Returns an item with this key and these numbers, and a block that is still to be written.
 fn begun_of(
     rt: &impl Abort,
     alloc: Global,
@@ -220,7 +222,7 @@ fn begun_of(
     Ok(Item::begin(chunks, head, block_len))
 }
 
-/// How many bytes the chunks have.
+/// Returns how many bytes the chunks have.
 fn room_of(need: Need) -> usize
     ensures { result ≡ size_in need }
 {
@@ -246,7 +248,7 @@ fn write_whole(rt: &impl Abort, item: &mut Item, key: &[u8], block: &[u8], numbe
     item.rewrite(parts);
 }
 
-/// An item has that key and those numbers.
+/// Checks an item's key and numbers.
 fn has_head(rt: &impl Abort, item: &Item, key: &[u8], numbers: Numbers) {
     assert!(rt; item.key() == key);
     assert_eq!(rt; item.hash(), numbers.hash);
@@ -288,7 +290,7 @@ fn other_parts_take_the_place_of_an_item(rt: HostRuntime) -> Result<(), Fail> {
     Ok(())
 }
 
-/// Writes the number at second 9, as the unique number 2.
+/// Writes the number at second 9, with the unique number 2.
 fn rewrite(rt: &impl Abort, item: &mut Item, number: u64) {
     let room = room_of(item.need());
     let key = item.key().len();
@@ -357,7 +359,7 @@ fn an_item_is_one_run_of_its_chunk(rt: HostRuntime) -> Result<(), Fail> {
     Ok(())
 }
 
-/// The parts of an item of three chunks have these lengths.
+/// Checks the lengths of the parts of an item of three chunks.
 fn has_lengths(rt: &impl Abort, item: &Item, lengths: [usize; 3]) {
     assert_eq!(rt; item.class().number(), 40);
     assert_eq!(rt; item.parts(), 3);
@@ -377,7 +379,7 @@ fn a_large_block_lies_in_several_chunks(rt: HostRuntime) -> Result<(), Fail> {
     joins_to(&rt, alloc, &item, block.as_slice())
 }
 
-/// Puts bytes behind an item's block, with other numbers beside it.
+/// Appends bytes to an item's block, with other numbers.
 fn extend(rt: &impl Abort, item: &mut Item, more: &[u8], numbers: Numbers) {
     let room = room_of(item.need());
     let charge = item.charge();
@@ -388,7 +390,7 @@ fn extend(rt: &impl Abort, item: &mut Item, more: &[u8], numbers: Numbers) {
     item.extend(more, numbers.flags, numbers.expiry, numbers.unique, updated);
 }
 
-/// A chunk of 96 bytes is filled to the last one by a block of 45 with a key of 3.
+/// A chunk of 96 bytes is filled exactly by a block of 45 with a key of 3.
 #[test]
 fn bytes_come_behind_a_block(rt: HostRuntime) -> Result<(), Fail> {
     let alloc = rt.alloc();

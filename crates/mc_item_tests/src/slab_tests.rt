@@ -1,4 +1,4 @@
-//! A slab's pages and chunks, and what charges need.
+//! A slab's pages and chunks, and the needs of charges.
 
 ghost use Rattle.std.specs.Prelude.{◌≤◌};
 
@@ -9,12 +9,14 @@ use std::mem::size_of;
 use std::process::Abort;
 use std::test::*;
 
-/// What a charge needs.
+/// Returns the need of a charge.
 fn needed(rt: &impl Abort, charge: u64) -> Need {
     need_of(charge).expect(rt, "a need")
 }
 
-/// The chunks of the need. Refused memory, the slab is as it was, and answers when it is asked again.
+/// Takes the chunks of the need.
+///
+/// If memory is refused the slab must be unchanged, and the second try must succeed.
 fn take(rt: &impl Abort, alloc: Global, slab: &mut Slab, need: Need) -> Result<Chunks, TakeFault> {
     let account = slab.account(need.class());
     let left = slab.pages_left();
@@ -35,8 +37,9 @@ fn give(rt: &impl Abort, slab: &mut Slab, chunks: Chunks) {
     slab.give_all(chunks);
 }
 
-/// Makes the class of the need ready for it once so many chunks came back. A run may refuse one
-/// allocation, so it is asked for twice.
+/// Makes the class of the need ready for it once `back` chunks were given back.
+///
+/// A run may refuse one allocation, so it is called twice.
 fn ready(
     rt: &impl Abort,
     alloc: Global,
@@ -56,7 +59,7 @@ fn ready(
     }
 }
 
-/// A list with room for so many chunks. A run may refuse one allocation, so it is asked for twice.
+/// Returns a list with room for `count` chunks. A run may refuse one allocation, so it tries twice.
 fn list_for(alloc: Global, count: u32) -> Result<Vec<Chunks>, Fail> {
     match Vec::with_capacity(alloc, count as usize) {
         Ok(list) => Ok(list),
@@ -73,7 +76,7 @@ fn put(rt: &impl Abort, chunks: &mut Chunks, at: usize, part: &[u8]) {
     chunks.write_at(at, part);
 }
 
-/// The bytes of the chunk at a place.
+/// Returns the bytes of the chunk at a place.
 fn part<'a>(rt: &impl Abort, chunks: &'a Chunks, at: usize) -> &'a [u8] {
     let need = chunks.need();
     assert!(rt; at < need.count() as usize);
@@ -87,25 +90,25 @@ fn mark(rt: &impl Abort, chunk: &mut Chunks, number: u32) {
     put(rt, chunk, size - 4, &number.to_le_bytes());
 }
 
-/// Returns whether the number stands at both ends of the chunk.
+/// Returns whether the number is at both ends of the chunk.
 fn is_marked(chunk: &Chunks, number: u32) -> bool {
     let mark = number.to_le_bytes();
     chunk.first().starts_with(&mark) && chunk.first().ends_with(&mark)
 }
 
-/// Finds a need refused.
+/// Checks that a need is refused.
 fn is_refused(rt: &impl Abort, alloc: Global, slab: &mut Slab, need: Need) {
     let refused = take(rt, alloc, slab, need).is_err();
     assert!(rt; refused);
 }
 
-/// Finds the class of the need with that account, and so many pages left.
+/// Checks the account of the need's class, and the pages left.
 fn stands(rt: &impl Abort, slab: &Slab, need: Need, account: Account, left: u32) {
     assert!(rt; slab.account(need.class()) == account);
     assert_eq!(rt; slab.pages_left(), left);
 }
 
-/// Finds chunks of the need while its class has that account and so many pages are left, and gives them back.
+/// Takes chunks of the need, checks its class's account and the pages left, and gives them back.
 fn stand_and_go(
     rt: &impl Abort,
     slab: &mut Slab,
@@ -133,7 +136,7 @@ fn take_marked(
     Ok(chunk)
 }
 
-/// Takes so many chunks of the need's class, each with its number at both ends.
+/// Takes some chunks of the need's class, and writes its number at both ends of each.
 fn fill(
     rt: &impl Abort,
     alloc: Global,
@@ -148,7 +151,7 @@ fn fill(
     Ok(held)
 }
 
-/// Finds each chunk's number where it was written, and gives the chunks back.
+/// Checks that each chunk has its number, and gives the chunks back.
 fn empty(rt: &impl Abort, slab: &mut Slab, held: Vec<Chunks>) {
     let mut number = 0u32;
     for chunk in held {
@@ -158,8 +161,10 @@ fn empty(rt: &impl Abort, slab: &mut Slab, held: Vec<Chunks>) {
     }
 }
 
-/// Takes every chunk of the need's class, writes its number at both ends of each, and finds the class full with that account and
-/// each number where it was written, then gives all back.
+/// Takes every chunk of the need's class, and writes its number at both ends of each.
+///
+/// Then it checks that the class is full with this account and each number is where it was written,
+/// and gives all back.
 fn fill_and_empty(
     rt: &impl Abort,
     alloc: Global,
@@ -187,8 +192,9 @@ fn filling_and_emptying_leaves_the_same_account(rt: HostRuntime) -> Result<(), F
     Ok(())
 }
 
-/// Pages of 33 runs of at most 341 chunks, of 38 runs of 2 or 1, of 60 runs of 1, and of one chunk: the size of a chunk, and how
-/// many a page has.
+/// The size of a chunk, and how many a page has.
+///
+/// The pages have 33 runs of at most 341 chunks, 38 runs of 2 or 1, 60 runs of 1, and one chunk.
 const PAGES: [(u64, u32); 4] = [(96, 10922), (13880, 75), (17352, 60), (1048576, 1)];
 
 #[test]
@@ -205,7 +211,7 @@ fn chunks_of_a_page_lie_apart(rt: HostRuntime) -> Result<(), Fail> {
     Ok(())
 }
 
-/// Pages of the class, 1 to 8. A run may refuse one allocation, so they are asked for twice.
+/// Returns 1 to 8 pages of the class. A run may refuse one allocation, so it tries twice.
 fn pages_of(alloc: Global, class: Class, count: u32) -> Result<Pages, Fail>
     requires { (1 ≤ count) × (count ≤ 8) }
 {
@@ -215,7 +221,7 @@ fn pages_of(alloc: Global, class: Class, count: u32) -> Result<Pages, Fail>
     }
 }
 
-/// The chunks of the need, where so many pages of the class are brought, 1 to 8.
+/// Takes the chunks of the need, with 1 to 8 pages of the class.
 fn take_of(
     alloc: Global,
     slab: &mut Slab,
@@ -232,8 +238,9 @@ fn take_of(
     }
 }
 
-/// A page of the class that asks for one, and one of another class, which is let go: the size of a chunk, that of the page's, and
-/// how many a page has.
+/// A page of the class that wants one, and one of another class, which is freed.
+///
+/// The size of a chunk, the size of the page's chunks, and how many a page has.
 const BROUGHT: [(u64, u64, u32); 3] = [(96, 96, 10922), (17352, 17352, 60), (13880, 1048576, 75)];
 
 #[test]
@@ -254,7 +261,7 @@ fn a_page_may_be_brought(rt: HostRuntime) -> Result<(), Fail> {
     Ok(())
 }
 
-/// Takes two pages where so many are brought.
+/// Takes two pages, with `count` pages given.
 fn take_two_of(rt: &impl Abort, alloc: Global, class: Class, count: u32) -> Result<(), Fail>
     requires { (1 ≤ count) × (count ≤ 8) }
 {
@@ -285,7 +292,9 @@ fn a_page_stays_with_its_class(rt: HostRuntime) -> Result<(), Fail> {
     Ok(())
 }
 
-/// Takes the chunks of the need, finds its class with that account and so many pages left, gives them back, and finds none out.
+/// Takes the chunks of the need, checks the class's account and the pages left; gives them back.
+///
+/// None is out afterwards.
 fn come_and_go(
     rt: &impl Abort,
     alloc: Global,
@@ -341,7 +350,7 @@ fn chunks_that_come_back_serve_what_was_made_ready(rt: HostRuntime) -> Result<()
     Ok(())
 }
 
-/// Writes over the border of the first chunk of three and at the end of the last, and finds there what was written.
+/// Writes over the border of the first chunk of three and at the end of the last, and reads both.
 fn write_across(rt: &impl Abort, chunks: &mut Chunks) {
     put(rt, chunks, 1048573, b"abcdefgh");
     put(rt, chunks, 3145724, b"last");
@@ -365,7 +374,7 @@ fn chunks_take_sixteen_bytes(rt: HostRuntime) -> Result<(), Fail> {
     Ok(())
 }
 
-/// What a charge needs: the class, and the count.
+/// The need of a charge: the class, and the count.
 const NEEDS: [(u64, u8, u32); 8] = [
     (0, 1, 1),
     (96, 1, 1),
@@ -387,7 +396,7 @@ fn edges_of_the_needs(rt: HostRuntime) {
     assert!(rt; need_of(8388609).is_none());
 }
 
-/// What class holds a charge: its number, its size, and how many of its chunks a page has.
+/// The class of a charge: its number, its size, and how many of its chunks a page has.
 const CLASSES: [(u64, u8, u32, u32); 6] = [
     (0, 1, 96, 10922),
     (96, 1, 96, 10922),

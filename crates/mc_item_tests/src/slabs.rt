@@ -1,4 +1,4 @@
-//! Slabs to take chunks of.
+//! Slabs to take chunks from.
 
 ghost use Rattle.std.specs.Prelude.{◌≤◌};
 
@@ -6,7 +6,7 @@ use mc_slab::Slab;
 use std::alloc::Global;
 use std::test::Fail;
 
-/// Makes a slab of so many pages. A run may refuse one allocation, so it is asked for twice.
+/// Makes a slab with some pages. A run may refuse one allocation, so it tries twice.
 pub(crate) fn slab_of(alloc: Global, pages: u32) -> Result<Slab, Fail>
     requires { (1 ≤ pages) × (pages ≤ 65536) }
 {

@@ -1,7 +1,7 @@
 //! Laws of the shared store, each the contract of a function that does nothing.
 //!
-//! They speak of every legal history that keeps a caller's past; that there is one is what each
-//! call promises. So they tell what callers read of one another, whichever history it was.
+//! They hold for every legal history that keeps a caller's past; each call promises that there is
+//! one. So they state what callers read of one another's writes, whichever history it was.
 
 ghost use Rattle.std.specs.Prelude.{◌≡◌, ◌+◌, ◌%◌, ◌^◌, ◌<◌, ◌≤◌, ◌⊎◌, ℕ, ℤ};
 ghost use Rattle.std.specs.Prelude.{List, [], ◌∷◌, ◌++◌, Bool, true, false, Some, None};
@@ -29,16 +29,16 @@ ghost use Rattle.mc_laws.specs.Together.{AreAnswered, two_callers, IsMixOf};
 
 use mc_protocol::other_keys_stay;
 
-/// States what all callers have together, in however many threads: one plain store. There is one
-/// list of all calls that a caller's past has, each once, in which each call stands behind all that
-/// its caller knew when it made it; and the plain machine, asked them one after another from what
-/// the store began with, answers each as its caller was answered. Calls by others may stand in the
-/// list too; once all callers are joined it has exactly their calls. A store that is closed has the
-/// state in which such a list leaves the plain machine.
+/// States that all callers, in however many threads, share one plain store.
 ///
-/// So if the first caller made another, each made its calls, and they were joined, there is one
-/// mix of the two, in which the calls of each stand in their order, that the plain machine answers
-/// so.
+/// There is one list of all calls in a caller's past, each once. In it each call comes after all
+/// that its caller knew when it made it. The plain machine, given these calls in order and the
+/// state in which the store began, replies to each as its caller was answered. The list may also
+/// have calls by others; once all callers are joined it has exactly their calls. A closed store has
+/// the state in which such a list leaves the plain machine.
+///
+/// So if the first caller made another, each made its calls, and they were joined, then some
+/// interleaving of the two lists, each in its order, gets these replies from the plain machine.
 pub fn callers_share_a_plain_store()
     ensures one { (began : Beginning) (p : Past) → Agrees began p →
         (calls : List HistoryEntry) × (left : Plain) × AreAnswered began p calls left }
@@ -49,10 +49,11 @@ pub fn callers_share_a_plain_store()
         (mix : List Call) × IsMixOf first second mix × PlainAnswers began.plain mix }
 {}
 
-/// States that calls stand in the history as they were made: what a caller's past had when it made
-/// a call stands before that call. So a caller's own calls stand in their order, what a maker had
-/// done before it made a caller stands before all that this one does, and what was joined stands
-/// before all that follows the join.
+/// States that the history has the calls in the order in which they were made.
+///
+/// All that was in a caller's past when it made a call comes before that call. So a caller's own
+/// calls are in their order. What its maker did before it made the caller comes before all that the
+/// caller does. What was joined comes before all that follows the join.
 pub fn calls_keep_their_order()
     ensures stands { (log : List HistoryEntry) (p : Past) (e : HistoryEntry) →
         KeptBy log p → Has p e → StandsInLog log e }
@@ -65,9 +66,10 @@ pub fn calls_keep_their_order()
         × ((entry_of p first).number < (entry_of q second).number) }
 {}
 
-/// States that a history has of a caller what the past that holds it has, and nothing else: no
-/// entry stands twice, each entry of a caller that a past holds is held by that past, and if the
-/// past is whole each entry at all. So a step takes effect once, and if it isn't taken, never.
+/// States that a history has of a caller exactly what the past that holds the caller has.
+///
+/// No entry occurs twice. If a past holds a caller, it holds each entry of that caller, and if the
+/// past is whole, each entry at all. So a step takes effect once, and never if it isn't taken.
 pub fn a_history_has_nothing_else()
     ensures once { (log : List HistoryEntry) (p : Past) (first second : HistoryEntry) →
         KeptBy log p → StandsBefore log first second → first.by ≡ second.by →
@@ -78,11 +80,12 @@ pub fn a_history_has_nothing_else()
         KeptBy log p → Whole p → StandsInLog log e → StandsInLog (held p) e }
 {}
 
-/// States that a caller reads what it knows to be stored: its own writes, those of its maker before
-/// it was made, and those of callers that were joined into it. If a write was answered Stored, a
-/// read of its key that follows is told what that write left, or a miss once that is dead; or else
-/// another entry stands between the two that may have changed the key's item: a step on that key,
-/// a flush, or a purge of the key's shelf.
+/// States that a caller reads what it knows to be stored.
+///
+/// It knows its own writes, its maker's writes before it was made, and the writes of callers that
+/// were joined into it. Let a write be answered Stored, and a read of its key follow. Then the read
+/// returns the result of that write, or a miss once the item is dead, or an entry between the two
+/// may have changed the key's item: a step on the key, a flush, or a purge of the key's shelf.
 pub fn a_known_write_is_read()
     ensures { (began : Beginning) (log : List HistoryEntry) (p : Past) (now : ℕ) (reply : Reply)
         (step : KeyStep) (then : ℕ) (write : HistoryEntry) →
@@ -95,12 +98,13 @@ pub fn a_known_write_is_read()
     other_keys_stay();
 }
 
-/// States what a caller knows that was told of a key that it is absent, by `Shared::absent`. What
-/// is absent was not there: at that moment of a history that keeps all that the caller knew, its
-/// key had no item. So a key that has an item in each such history is never absent to that caller.
-/// And a key that the caller stored, or knows to be stored (by its maker before it was made, or by
-/// a caller that was joined into it), is absent to it only if another entry of that history, behind
-/// the write, may have changed the key's item: a step on that key, a flush, or a purge of the key's
+/// States what `Shared::absent` proves to a caller: the key had no item.
+///
+/// At that moment of a history that keeps all that the caller knew, the key had no item. So a key
+/// that has an item in each such history is never reported absent to that caller. Let the caller
+/// know that a key was stored: by itself, by its maker before it was made, or by a caller that was
+/// joined into it. Then the key is reported absent only if another entry of that history, after the
+/// write, may have changed the key's item: a step on the key, a flush, or a purge of the key's
 /// shelf.
 pub fn what_is_absent_is_not_there()
     ensures gone { (began : Beginning) (p : Past) (key : List ℕ) → IsShown began p key true →
@@ -118,14 +122,15 @@ pub fn what_is_absent_is_not_there()
     other_keys_stay();
 }
 
-/// States what a caller reads of what it knows: its own calls, those that its maker had before it
-/// made it, and those of the callers that were joined into it. A read is told what one entry left,
-/// and every entry of the caller's past that may have changed the key's item is that one or stands
-/// before it. So a write that a caller knows is read, or something later is; and of two such writes
-/// the later is read, or something later still.
+/// States what a caller reads, given what it knows.
 ///
-/// What an entry left under a key is the item that it stored as it was given, with the unique
-/// number that it drew; of a delete it is nothing.
+/// It knows its own calls, its maker's calls before it was made, and those of callers that were
+/// joined into it. A read returns the result of one entry E. No entry that the caller knows and
+/// that may change the key's item comes after E. So a caller reads a write that it knows, or
+/// something later; and of two such writes the later one, or something later still.
+///
+/// The result of an entry under a key is the item that it stored, as it was given, with its unique
+/// number; the result of a delete is nothing.
 pub fn a_caller_reads_what_it_knows()
     ensures latest { (began : Beginning) (log : List HistoryEntry) (p : Past) (key : List ℕ)
         (now : ℕ) (reply : Reply) (known : HistoryEntry) →
@@ -147,12 +152,14 @@ pub fn a_caller_reads_what_it_knows()
     other_keys_stay();
 }
 
-/// States that no read goes back. If a get or a gat hits, and its caller knows of an earlier hit
-/// of the key (its own, one that its maker had before it made it, or one of a caller that was
-/// joined into it), it is told no smaller unique number; and if it is told the same number, the
-/// same flags and the same block. That holds of any two hits of a key in the history, whoever made
-/// them; and the same number twice says that no entry between them wrote the key. It holds if
-/// the number of each item was drawn, which it was in a new store, and stays so.
+/// States that no read goes back.
+///
+/// If a get or a gat hits, and its caller knows of an earlier hit of the key (its own, one of its
+/// maker before it was made, or one of a caller that was joined into it), then its unique number
+/// isn't smaller; and if the number is the same, so are the flags and the block. The same holds for
+/// any two hits of a key in the history, of any callers; and the same number twice means that no
+/// entry between them wrote the key. The law requires that the number of each item was drawn, which
+/// is so in a new store and stays so.
 pub fn no_read_goes_back()
     ensures known { (began : Beginning) (p : Past) (first second : HistoryEntry) (key : List ℕ)
         (was is : Found) →
@@ -173,9 +180,10 @@ pub fn no_read_goes_back()
     other_keys_stay();
 }
 
-/// States that the first caller, while it is alone, has a plain store: every history that keeps its
-/// past has its calls, in their order, and nothing else; so each reply is the plain machine's, from
-/// the state that the store began with.
+/// States that the first caller, while it is alone, has a plain store.
+///
+/// Every history that keeps its past has its calls, in their order, and nothing else. So each reply
+/// is the plain machine's, from the state in which the store began.
 pub fn a_caller_alone_has_a_plain_store()
     ensures history { (log : List HistoryEntry) (p : Past) →
         IsAlone p → KeptBy log p → log ≡ held p }
@@ -185,9 +193,10 @@ pub fn a_caller_alone_has_a_plain_store()
         Agrees began (with_calls (past.start [] spent) calls) → PlainAnswers began.plain calls }
 {}
 
-/// States that nothing is told that no one stored: an item that a read hits was under the key when
-/// the store began, or one of the entries before the read wrote it, with the unique number that
-/// that entry drew.
+/// States that a read returns only what was stored.
+///
+/// The item of a hit was under the key when the store began, or an entry before the read wrote it
+/// with that unique number.
 pub fn nothing_is_made_up()
     ensures { (began : Beginning) (log front rest : List HistoryEntry) (read : HistoryEntry)
         (step : KeyStep) (now flags unique : ℕ) (block : List ℕ) →
@@ -199,9 +208,10 @@ pub fn nothing_is_made_up()
     other_keys_stay();
 }
 
-/// States what a cas is for: one that was answered Stored wrote over the very item that a retrieval
-/// told with the cas's unique number: no entry between the two wrote the key. That holds if the
-/// number of each item was drawn, which it was in a new store, and stays so.
+/// States that a cas that was answered Stored replaced the item whose unique number it names.
+///
+/// No entry wrote the key between the retrieval that returned this number and the cas. The law
+/// requires that the number of each item was drawn, which is so in a new store and stays so.
 pub fn a_cas_is_of_what_was_read()
     ensures new { (pages greatest : ℕ) → HasDrawnNumbers (opening pages greatest) }
     ensures stays { (began : Beginning) (log : List HistoryEntry) →
@@ -220,9 +230,11 @@ pub fn a_cas_is_of_what_was_read()
     other_keys_stay();
 }
 
-/// States that no count is lost. If a key's item is a number, and from then on each entry that
-/// may change it is an incr that was told a number, it grows by what they counted, each count once,
-/// and wraps at 2^64. So once all callers are joined it is the first number and all their counts.
+/// States that no count is lost.
+///
+/// Let a key's item be a number, and let each later entry that may change it be an incr that was
+/// answered with a number. Then it grows by the sum of their counts, each once, and wraps at 2^64.
+/// So once all callers are joined it is the first number plus all counts.
 pub fn no_count_is_lost()
     ensures counted { (began : Beginning) (front log : List HistoryEntry) (key : List ℕ) (n : ℕ) →
         IsLegal began began.plain (front ++ log) →

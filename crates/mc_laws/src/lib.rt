@@ -1,13 +1,14 @@
 //! Laws of the store for many threads.
 //!
-//! Each call of `mc_shared` promises that there is a legal history which keeps its caller's past.
-//! The laws say what follows for those who call: that all callers share one plain store, that a
-//! caller reads what it stored, that no read goes back, that nothing is made up, that no count is
-//! lost. Each is the contract of a function that does nothing; none is cited by the code of another
-//! crate, so no program waits for their proofs.
+//! Each call of `mc_shared` promises that there is a legal history that keeps its caller's past.
+//! The laws state what follows for callers: all callers share one plain store, a caller reads what
+//! it stored, no read goes back, a read returns only what was stored, and no count is lost. Each
+//! law is the contract of a function that does nothing. No code of another crate uses them, so no
+//! program waits for their proofs.
 //!
-//! Begin with `specs/Laws.antt` and `src/laws.rt`; the tests (`mc_shared_tests`) tell the laws of callers
-//! that meet.
+//! Begin with `specs/Laws.antt` and `src/laws.rt`. The tests check the laws with callers that meet.
+//!
+//! Tests: mc_shared_tests, src/law_tests.rt.
 #![tactic(auto)]
 
 mod laws;

@@ -5,41 +5,41 @@ ghost use Rattle.mc_metrics.specs.Scrapes.{response_text, status_line_of, fields
 use itoa::Buffer;
 use std::alloc::{AllocError, Global};
 
-/// What is answered if there is no memory for an answer.
+/// The answer if memory for an answer is refused.
 pub const NO_MEMORY: &[u8] =
     b"HTTP/1.1 503 Service Unavailable\r\nConnection: close\r\nContent-Length: 0\r\n\r\n";
 
-/// How a request is answered.
+/// The answer to a request.
 #[derive(Clone, Copy)]
 pub enum Answer {
     /// The page of metrics.
     Metrics,
-    /// That it serves.
+    /// It serves.
     Healthy,
     /// There is no such page.
     NotFound,
-    /// Pages are there to be got, and for nothing else.
+    /// The method isn't `GET`.
     NotAllowed,
     /// The server is about to end.
     Stopping,
-    /// It is asked to end, and can't be called.
+    /// The server is asked to end, and can't be called.
     CannotStop,
-    /// It is asked to end by a peer that may not.
+    /// The peer may not end the server.
     Forbidden,
-    /// It ends by `POST`, and by nothing else.
+    /// The server ends only by `POST`.
     NotPosted,
-    /// It is no request.
+    /// It isn't a request.
     Bad,
-    /// It didn't come whole in time.
+    /// The request wasn't complete in time.
     TooSlow,
-    /// It is longer than is read.
+    /// The request is too long.
     TooLong,
-    /// There is no memory for the page.
+    /// Memory for the page was refused.
     NoMemory,
 }
 
 impl Answer {
-    /// Gives the status line.
+    /// Returns the status line.
     fn status_line(self) -> &'static [u8]
         ensures { result.now ≡ status_line_of self }
     {
@@ -55,7 +55,7 @@ impl Answer {
         }
     }
 
-    /// Gives the fields that it has beside those of all.
+    /// Returns the fields that it has besides the common ones.
     fn fields(self) -> &'static [u8]
         ensures { result.now ≡ fields_of self }
     {
@@ -77,8 +77,9 @@ impl Answer {
     }
 }
 
-/// Makes the text of an answer with this body, after which the connection is closed. The one error is a
-/// refused allocation.
+/// Returns the text of an answer with this body, after which the connection is closed.
+///
+/// The only error is a refused allocation.
 pub fn response(alloc: Global, answer: Answer, body: &[u8]) -> Result<Vec<u8>, AllocError>
     ensures { IfOk result (λ text. text.items ≡ response_text answer body.now) }
 {

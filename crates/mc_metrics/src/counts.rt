@@ -1,16 +1,16 @@
-//! What a worker counts.
+//! The counters of a worker.
 
 use std::array;
 use std::sync::atomic::{AtomicU64, Ordering};
 
-/// What is counted. A step counts as one of them, or as none.
+/// A counter. A step increments one of them, or none.
 #[derive(Clone, Copy)]
 pub enum Counted {
-    /// An item was read.
+    /// A read found an item.
     GetHit,
-    /// None was there to be read.
+    /// A read found none.
     GetMiss,
-    /// An item was stored by any storage command but `cas`.
+    /// A storage command other than `cas` stored an item.
     SetStored,
     /// The condition of such a command failed.
     SetNotStored,
@@ -38,7 +38,7 @@ impl Counted {
     ghost use Rattle.std.specs.Prelude.{◌≡◌};
     ghost use Rattle.mc_metrics.specs.Places.{place_of};
 
-    /// Gives its place among all.
+    /// Returns its index.
     pub fn place(self) -> usize
         ensures { result ≡ place_of self }
     {
@@ -46,14 +46,15 @@ impl Counted {
     }
 }
 
-/// How many things are counted.
+/// The number of counters.
 pub const COUNTED: usize = 19;
 
-/// How many words stand between what two workers count: those of a line of a cache.
+/// The words between the counters of two workers: a cache line.
 const APART: usize = 8;
 
-/// What one worker counts. It alone writes here, so that no worker waits for another's line of a cache;
-/// whoever asks reads.
+/// The counters of one worker. Only the worker writes them, and any thread reads them.
+///
+/// So no worker waits for another's cache line.
 #[derive(Drop)]
 pub struct Counts {
     _before: [u64; APART],
@@ -62,7 +63,7 @@ pub struct Counts {
 }
 
 impl Counts {
-    /// Has counted nothing. It takes no memory.
+    /// Returns counters at 0. It takes no memory.
     pub fn new() -> Counts {
         Counts {
             _before: [0; APART],
@@ -71,15 +72,14 @@ impl Counts {
         }
     }
 
-    /// Counts so many more.
+    /// Adds `count` to a counter.
     pub fn add(&self, counted: Counted, count: u64) {
         if let Some(cell) = self.cells.get(counted.place()) {
             cell.fetch_add(count, Ordering::SeqCst);
         }
     }
 
-    /// Gives how many were counted at this place among all, modulo 2^64; 0 if there is no such
-    /// place.
+    /// Returns the counter at an index, modulo 2^64, and 0 if there is none.
     pub fn at(&self, place: usize) -> u64 {
         match self.cells.get(place) {
             Some(cell) => cell.load(Ordering::SeqCst),

@@ -12,14 +12,14 @@ pub enum Kind {
 /// The samples of a family.
 #[derive(Clone, Copy)]
 pub enum Samples {
-    /// One, with no label.
+    /// One sample without labels.
     One(Figure),
-    /// One for each of these labels.
+    /// One sample for each of these labels.
     Each(&'static [(&'static str, Figure)]),
-    /// One for each class of chunks that has a page.
+    /// One sample for each class of chunks that has a page.
     Slabs(SlabFigure),
 }
 
-/// A family of samples: its kind, its name, what it tells, and its samples.
+/// A family of samples: its kind, its name, its help, and its samples.
 #[derive(Clone, Copy)]
 pub struct Family(pub Kind, pub &'static str, pub &'static str, pub Samples);

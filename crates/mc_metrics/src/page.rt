@@ -17,10 +17,10 @@ use crate::reading::{Figure, Reading, SlabFigure, SlabReading};
 use itoa::Buffer;
 use std::alloc::{AllocError, Global};
 
-/// How many bytes a page has at most, mostly.
+/// The usual size of a page in bytes, for its first allocation.
 const USUAL: usize = 8192;
 
-/// Makes the page of these families, of what was read. The one error is a refused allocation.
+/// Returns the page of these families, with a reading. The only error is a refused allocation.
 pub fn page_of(alloc: Global, families: &[Family], reading: &Reading) -> Result<Vec<u8>, AllocError>
     ensures { IfOk result (λ page. page.items ≡ families_text reading.now families.now) }
 {
@@ -116,7 +116,7 @@ fn put_head(page: &mut Vec<u8>, kind: Kind, name: &str, help: &str) -> Result<()
 }
 
 impl Kind {
-    /// Gives its name, as it stands at the end of a line.
+    /// Returns its name, as at the end of a line.
     fn name(self) -> &'static [u8]
         ensures { result.now ≡ kind_name self }
     {
@@ -140,7 +140,7 @@ fn put_sample(page: &mut Vec<u8>, name: &str, labels: &str, number: u64) -> Resu
     page.extend_from_slice(b"\n")
 }
 
-/// Appends a sample of the class of chunks that has this number.
+/// Appends a sample of the class of chunks with this number.
 fn put_slab(page: &mut Vec<u8>, name: &str, slab: u8, number: u64) -> Result<(), AllocError>
     ensures { OnOk result (page.new.items
         ≡ page.old.items ++ slab_text name.now slab number) }

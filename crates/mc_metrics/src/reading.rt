@@ -1,52 +1,52 @@
-//! What a scrape reads.
+//! The values of one scrape.
 ghost use Rattle.std.specs.Prelude.{◌≡◌};
 ghost use Rattle.mc_metrics.specs.Pages.{figure_of, slab_figure_of, number_at, bytes_of, together};
 
 use crate::counts::{COUNTED, Counted};
 use mc_slab::{Account, Class};
 
-/// What was read for a page.
+/// The values for a page.
 #[derive(Drop)]
 pub struct Reading {
-    /// What all workers counted, each at its place.
+    /// The sums of all workers' counters, each at its index.
     pub counts: [u64; COUNTED],
-    /// How many connections were closed, for each reason at its place.
+    /// The closed connections, for each reason at its index.
     pub closed: Vec<u64>,
-    /// How many seconds it serves.
+    /// The seconds since the start.
     pub uptime: u64,
-    /// How many connections are open.
+    /// The open connections.
     pub connections: u64,
-    /// How many were accepted.
+    /// The accepted connections.
     pub accepted: u64,
-    /// How many may be open at once.
+    /// The limit of open connections.
     pub most: u64,
-    /// What the tables of all shelves have.
+    /// The size of the tables of all shelves.
     pub tables: TablesReading,
-    /// The bytes of all pages that there may be.
+    /// The bytes of all pages of the limit.
     pub limit: u64,
     pub shelves: u64,
     /// The classes of chunks that have a page, from the smallest up.
     pub slabs: Vec<SlabReading>,
 }
 
-/// What the tables have by which items are found.
+/// The size of the tables by which items are found.
 #[derive(Clone, Copy)]
 pub struct TablesReading {
-    /// The items that have an entry there, which are all that stand.
+    /// The items with an entry in a table or a list: all items.
     pub items: u64,
-    /// The homes of the tables that new entries come to.
+    /// The homes of the newer tables.
     pub homes: u64,
-    /// The growths that began, each of which makes twice the homes.
+    /// The growths that began, each of which doubles the homes.
     pub growths: u64,
     /// The growths that run.
     pub running: u64,
-    /// The entries that these have still to move.
+    /// The entries that these still have to move.
     pub left: u64,
-    /// The entries that stand in a list, as no bucket could be had near their homes.
+    /// The entries in lists, without a bucket near their homes.
     pub strays: u64,
 }
 
-/// What a class of chunks has.
+/// The size of a class of chunks.
 #[derive(Clone, Copy)]
 pub struct SlabReading {
     pub number: u8,
@@ -56,31 +56,31 @@ pub struct SlabReading {
     pub pages: u64,
     /// The chunks of all its pages.
     pub chunks: u64,
-    /// Those that items lie in.
+    /// The chunks that items use.
     pub used: u64,
-    /// The others.
+    /// The other chunks.
     pub free: u64,
 }
 
-/// A number that is told.
+/// A number of a sample.
 #[derive(Clone, Copy)]
 pub enum Figure {
     /// 1.
     One,
     Uptime,
-    /// What was counted as this.
+    /// This counter.
     Count(Counted),
-    /// The storage commands but `cas` that found room, whether their condition held or not.
+    /// The storage commands other than `cas` that found room, whether their condition held or not.
     Sets,
     /// The items that were stored.
     Stored,
     Connections,
     Accepted,
     Most,
-    /// The connections that were closed for the reason at this place.
+    /// The connections that were closed for the reason at this index.
     Closed(usize),
     Items,
-    /// The bytes of the chunks that items lie in.
+    /// The bytes of the chunks that items use.
     Bytes,
     Limit,
     Shelves,
@@ -89,12 +89,12 @@ pub enum Figure {
     Growths,
     /// The growths that run.
     Running,
-    /// The entries that growths have still to move.
+    /// The entries that growths still have to move.
     Left,
     Strays,
 }
 
-/// A number that is told of each class of chunks.
+/// A number of a sample for each class of chunks.
 #[derive(Clone, Copy)]
 pub enum SlabFigure {
     Size,
@@ -106,7 +106,7 @@ pub enum SlabFigure {
 }
 
 impl Reading {
-    /// Gives a number that is told.
+    /// Returns the number of a sample.
     pub fn figure(&self, figure: Figure) -> u64
         ensures { result ≡ figure_of self.now figure }
     {
@@ -137,7 +137,7 @@ impl Reading {
     ghost use Rattle.std.specs.Prelude.{◌≡◌};
     ghost use Rattle.mc_metrics.specs.Pages.{both};
 
-    /// Gives how often the one or the other was counted, modulo 2^64.
+    /// Returns the sum of two counters, modulo 2^64.
     fn both(&self, one: Counted, other: Counted) -> u64
         ensures { result ≡ both self.now.counts one other }
     {
@@ -149,7 +149,7 @@ impl Reading {
 impl TablesReading {
     ghost use Rattle.std.specs.Prelude.{◌≡◌};
 
-    /// Is what no table has.
+    /// The size of no table.
     pub const NONE: TablesReading = TablesReading {
         items: 0,
         homes: 0,
@@ -159,7 +159,7 @@ impl TablesReading {
         strays: 0,
     };
 
-    /// Adds up what tables and others have, each number to 2^64 - 1 at most.
+    /// Returns the sum of two sizes; each number is at most 2^64 - 1.
     pub fn with(self, others: TablesReading) -> TablesReading
         ensures { result ≡ together self others }
     {
@@ -179,8 +179,9 @@ impl SlabReading {
     ghost use Rattle.mc_slab.specs.Classes.{chunks_a_page};
     ghost use Rattle.mc_metrics.specs.Pages.{slab_figure_of};
 
-    /// Gives what a class has by its account: the chunks of its pages, at most 2^64 - 1, those that items
-    /// lie in, and the others.
+    /// Returns the size of a class, given its account.
+    ///
+    /// It has the chunks of its pages, at most 2^64 - 1, the chunks that items use, and the others.
     pub fn of(class: Class, account: Account) -> SlabReading
         ensures pages { result.pages ≡ account.pages }
         ensures used { result.used ≡ account.out }
@@ -202,7 +203,7 @@ impl SlabReading {
         }
     }
 
-    /// Gives a number that is told of it.
+    /// Returns the number of a sample for this class.
     pub fn figure(&self, figure: SlabFigure) -> u64
         ensures { result ≡ slab_figure_of self.now figure }
     {
@@ -217,7 +218,7 @@ impl SlabReading {
     }
 }
 
-/// Adds up the bytes of the chunks that items lie in, to 2^64 - 1 at most.
+/// Returns the bytes of the chunks that items use, at most 2^64 - 1.
 pub fn bytes_of(slabs: &[SlabReading]) -> u64
     ensures { result ≡ bytes_of slabs.now }
 {
@@ -228,7 +229,7 @@ pub fn bytes_of(slabs: &[SlabReading]) -> u64
     bytes
 }
 
-/// Gives the number at a place, and 0 if there is none.
+/// Returns the number at an index, and 0 if there is none.
 pub fn number_at(numbers: &[u64], place: usize) -> u64
     ensures { result ≡ number_at numbers.now place }
 {

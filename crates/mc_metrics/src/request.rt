@@ -1,4 +1,8 @@
-//! What a request over HTTP asks for.
+//! Requests over HTTP, and their answers.
+//!
+//! `httparse` parses a request and its contract is a grammar, so the answer is a function of method
+//! and target. What a refused client still sends is read before its connection is closed: otherwise
+//! the system would discard the answer.
 ghost use Rattle.std.specs.Prelude.{◌≡◌, ◌⊎◌, ◌≤◌, ℕ, List, length, IfSome, Some, None, if◌then◌else◌};
 ghost use Rattle.httparse.specs.Grammar.{RequestHead, ReadsRequest, HasNoRequest};
 ghost use Rattle.httparse.specs.Spans.{RequestOverflows};
@@ -15,7 +19,7 @@ use httparse::Status;
 use httparse::spans::{EMPTY_HEADER_SPAN, parse_request};
 use std::net::IpAddr;
 
-/// How many fields a request may have at most.
+/// The most fields of a request.
 const MOST_FIELDS: usize = 64;
 
 /// Whether a peer may end the server, by a request for the path `/quit`.
@@ -23,7 +27,7 @@ const MOST_FIELDS: usize = 64;
 pub enum QuitAccess {
     /// There is no such path.
     Unoffered,
-    /// It may not.
+    /// The peer may not.
     Refused,
     Granted,
 }
@@ -32,9 +36,10 @@ impl QuitAccess {
     ghost use Rattle.std.specs.Prelude.{◌≡◌, ◌↔◌, true, false};
     ghost use Rattle.std.specs.Net.Addr.{MatchIp, IsLoopbackV4, IsLoopbackV6};
 
-    /// Finds what a peer at this address may, which is in its canonical form: nothing is offered to
-    /// anybody if the path isn't there; else a peer may if its address is of this machine's
-    /// loopback.
+    /// Returns the access of a peer at this address, which is in its canonical form.
+    ///
+    /// Without the path it is `Unoffered` for every peer; with it a peer may end the server if its
+    /// address is of this machine's loopback.
     pub fn of(is_offered: bool, peer: IpAddr) -> QuitAccess
         ensures unoffered { result ≡ QuitAccess.Unoffered ↔ is_offered ≡ false }
         ensures granted { result ≡ QuitAccess.Granted
@@ -51,9 +56,10 @@ impl QuitAccess {
     }
 }
 
-/// Says how the request is answered with which the bytes begin, of a peer that may ask so much;
-/// nothing if it isn't whole yet. One that is none, whatever bytes follow, and one of more than 64
-/// fields, are bad.
+/// Returns the answer to the request at the front of `bytes`, or `None` if it isn't complete.
+///
+/// `access` is the peer's. Bytes that can't begin a request, and a request with more than 64
+/// fields, get `Bad`.
 pub fn read_request(bytes: &[u8], access: QuitAccess) -> Option<Answer>
     ensures found { (head : RequestHead) (rest : List ℕ) → ReadsRequest bytes.now head rest
         → length head.fields ≤ most_fields
@@ -76,7 +82,7 @@ pub fn read_request(bytes: &[u8], access: QuitAccess) -> Option<Answer>
     }
 }
 
-/// Says how a request of this method for this target is answered.
+/// Returns the answer to a request with this method and target.
 fn answer_to(access: QuitAccess, method: &[u8], target: &[u8]) -> Answer
     ensures { result ≡ answer_to access method.now target.now }
 {
@@ -90,7 +96,7 @@ fn answer_to(access: QuitAccess, method: &[u8], target: &[u8]) -> Answer
     }
 }
 
-/// Says how a request of this method is answered for the path by which the server ends.
+/// Returns the answer to a request with this method for the path by which the server ends.
 fn quit_answer(access: QuitAccess, method: &[u8]) -> Answer
     ensures { result ≡ quit_answer access method.now }
 {
@@ -101,7 +107,7 @@ fn quit_answer(access: QuitAccess, method: &[u8]) -> Answer
     }
 }
 
-/// Gives the answer if the method is `POST`, and that it has to be if it isn't.
+/// Returns the answer if the method is `POST`, and `NotPosted` if it isn't.
 fn posted_or(method: &[u8], answer: Answer) -> Answer
     ensures { result ≡ if is_post method.now then answer else Answer.NotPosted }
 {
@@ -112,7 +118,7 @@ fn posted_or(method: &[u8], answer: Answer) -> Answer
     }
 }
 
-/// Says how a target is answered that is to be got.
+/// Returns the answer to a `GET` of a target.
 fn page_at(target: &[u8]) -> Answer
     ensures { result ≡ page_at target.now }
 {

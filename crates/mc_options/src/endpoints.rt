@@ -1,4 +1,7 @@
-//! Where a program listens, and how that is asked for.
+//! Where the program listens, and how the command line gives it.
+//!
+//! `-l` takes addresses and no names: a name may stand for several addresses, or for another one
+//! tomorrow.
 ghost use Rattle.std.specs.Prelude.{◌≡◌, IfOk};
 ghost use Rattle.mc_options.specs.Asked.{IsAddressFor, IsEndpointsFor, endpoint_for, port_for};
 
@@ -6,18 +9,18 @@ use std::alloc::{AllocError, Global};
 use std::fmt::{self, Display, Formatter};
 use std::net::{IpAddr, Ipv4Addr, Ipv6Addr, SocketAddr};
 
-/// The port if the command line says nothing of it.
+/// The default port.
 const PORT: u16 = 11211;
 
-/// An address at which to listen, as it is asked for.
+/// An address of the command line at which to listen.
 #[derive(Clone, Copy)]
 pub struct AskedAddress {
     pub address: IpAddr,
-    /// The port that stands behind it.
+    /// The port behind it.
     pub port: Option<u16>,
 }
 
-/// Where one listens.
+/// An address and a port at which to listen.
 #[derive(Clone, Copy, Debug, Drop)]
 pub struct Endpoint {
     pub address: IpAddr,
@@ -25,7 +28,7 @@ pub struct Endpoint {
     pub port: u16,
 }
 
-/// All that a program listens at: at one endpoint at least.
+/// All endpoints of a program, at least one.
 #[derive(Drop)]
 pub struct Endpoints {
     pub first: Endpoint,
@@ -33,7 +36,8 @@ pub struct Endpoints {
 }
 
 impl AskedAddress {
-    /// Reads an address, alone or with a port: `10.0.0.5`, `10.0.0.5:80`, `::1`, `[::1]`, `[::1]:80`.
+    /// Reads an address, alone or with a port: `10.0.0.5`, `10.0.0.5:80`, `::1`, `[::1]`,
+    /// `[::1]:80`.
     pub fn of(text: &str) -> Option<AskedAddress> {
         // a scope, as in `[fe80::1%2]:80`, would be lost
         if text.contains('%') {
@@ -49,7 +53,7 @@ impl AskedAddress {
     }
 }
 
-/// Reads an address that stands alone: `10.0.0.5`, `::1`, `[::1]`.
+/// Reads an address without a port: `10.0.0.5`, `::1`, `[::1]`.
 fn lone_address(text: &str) -> Option<IpAddr> {
     if let Ok(address) = text.parse::<IpAddr>() {
         return Some(address);
@@ -72,15 +76,16 @@ fn address_and_port(text: &str) -> Option<AskedAddress> {
     }
 }
 
-/// Gives what stands between `[` and `]`.
+/// Returns the text between `[` and `]`.
 fn strip_brackets(text: &str) -> Option<&str> {
     text.strip_prefix('[')?.strip_suffix(']')
 }
 
 impl Endpoints {
-    /// Makes one endpoint of each address that is asked for, in their order, and one at 127.0.0.1
-    /// if none is. Its port is the one behind the address, else the one that is asked for beside,
-    /// else 11211; for 0, which is refused before, it is 1. The one error is a refused allocation.
+    /// Returns one endpoint for each address of `-l`, in order; without any, one at 127.0.0.1.
+    ///
+    /// Its port is the one behind the address, else that of `-p`, else 11211. The port 0, which is
+    /// refused before, becomes 1. The only error is a refused allocation.
     pub fn new(
         alloc: Global,
         asked: &[AskedAddress],
@@ -123,7 +128,7 @@ impl Display for Endpoints {
     }
 }
 
-/// Gives the endpoint of this machine if no address is asked for.
+/// Returns the endpoint at 127.0.0.1.
 fn own_endpoint(port: Option<u16>) -> Endpoint
     ensures address { IsAddressFor None result.address }
     ensures port { result.port ≡ port_for None port }
@@ -134,7 +139,7 @@ fn own_endpoint(port: Option<u16>) -> Endpoint
     }
 }
 
-/// Gives the endpoint of an address that is asked for, and the port that is beside it.
+/// Returns the endpoint of an address of `-l`, given the port of `-p`.
 fn endpoint_of(port: Option<u16>, asked: AskedAddress) -> Endpoint
     ensures { result ≡ endpoint_for port asked }
 {
@@ -144,7 +149,7 @@ fn endpoint_of(port: Option<u16>, asked: AskedAddress) -> Endpoint
     }
 }
 
-/// Gives the port behind an address, else the one that is asked for beside, else the usual one.
+/// Returns the port behind an address, else that of `-p`, else the default.
 fn port_of(behind: Option<u16>, asked: Option<u16>) -> u16
     ensures { result ≡ port_for behind asked }
 {
@@ -154,7 +159,7 @@ fn port_of(behind: Option<u16>, asked: Option<u16>) -> u16
     }
 }
 
-/// Gives the address that is asked for, and 127.0.0.1 if none is.
+/// Returns the address, or 127.0.0.1 if there is none.
 pub fn address_of(asked: Option<IpAddr>) -> IpAddr
     ensures { IsAddressFor asked result }
 {

@@ -1,20 +1,22 @@
 //! The command line of the program.
 //!
-//! Options are memcached's where it has them, so that its command lines can be taken over, and what
-//! isn't served is refused by words that say what to do in its place (`src/unserved.rt`): an option
-//! that was passed over in silence would leave who set it with less than was asked for. What is
-//! served is a table, too (`src/served.rt`). `clap` reads the words, and makes the texts of help and mistakes.
+//! Options follow memcached, so that its command lines can be reused. An unsupported option is
+//! refused, and the error names the alternative (`src/unserved.rt`): ignoring it would leave the
+//! operator with less than was requested. The supported options are a table too (`src/served.rt`).
+//! `clap` reads the words, and makes the texts of help and mistakes.
 //!
-//! [`parsed`] goes from words to [`Options`], or says why not ([`Unfit`]). Between them is
-//! [`Asked`], which is just what `clap` found: each number if it was given. [`Asked::settings`]
-//! makes the store's settings of it, and `Options::new` all the rest; [`Endpoints`] are where the
-//! program listens, by `-l` and `-p`. So each usual value stands once in code.
+//! [`parse_options`] turns words into [`Options`], or returns why not ([`Unfit`]). In between is
+//! [`Asked`], exactly what `clap` found: each number if it was given. [`Asked::settings`] makes the
+//! store's settings of it, and `Options::new` all the rest. [`Endpoints`] are where the program
+//! listens, by `-l` and `-p`. So each default is in the code once.
 //!
-//! Contracts say of each number that it is what was asked for, if that is in range, and the usual
-//! one if nothing was; so nobody above tests a range again. Which word goes to which field, and
-//! what `clap` prints, is tested (tests/rows); docs/PROTOCOL.md and the manual have the table.
+//! Contracts state for each number that it is the given one, if that is in range, and the default
+//! if none was given; so no caller checks a range again. Which word sets which field, and what
+//! `clap` prints, is tested (tests/rows); docs/PROTOCOL.md and the manual have the table.
 //!
 //! Begin with `specs/Asked.antt` and `src/options.rt`.
+//!
+//! Tests: mc_server, src/tests.rt.
 #![tactic(auto)]
 
 mod endpoints;

@@ -1,4 +1,4 @@
-//! What the command line asks for.
+//! The options of the command line.
 ghost use Rattle.std.specs.Prelude.{◌≡◌, ◌≤◌, ◌^◌, min, option_map, IfOk, IfSome, None};
 ghost use Rattle.mc_options.specs.Asked.{
   IsUpTo,
@@ -19,53 +19,52 @@ use mc_time::Moment;
 use std::alloc::{AllocError, Global};
 use std::net::IpAddr;
 
-/// The program's own version, and that of memcached's protocol that is spoken, as `version` answers
-/// it.
+/// The program's version, and the version of memcached's protocol, which `version` returns.
 const VERSION: &str = "0.9.0 (memcached's protocol 1.6.0)";
 
-/// The most workers that there may be.
+/// The most workers.
 pub const MOST_WORKERS: u32 = 64;
 
-/// The most connections that may be open at once, at most.
+/// The largest limit of open connections.
 pub const MOST_CONNECTIONS: u32 = 65536;
 
-/// The longest time after which a connection that is idle may be closed, in seconds: 30 days.
+/// The longest idle timeout, in seconds: 30 days.
 pub const LONGEST_TIMEOUT: u32 = 2_592_000;
 
-/// The connections that may be open at once if the command line says nothing of them.
+/// The default limit of open connections.
 const CONNECTIONS: u32 = 1024;
 
-/// The most MiB that connections may be meant to hold together.
+/// The largest limit of connection buffers, in MiB.
 pub const MOST_BUFFERS: u32 = 65536;
 
-/// The MiB that connections are meant to hold together if the command line says nothing of them.
+/// The default limit of connection buffers, in MiB.
 const BUFFERS: u32 = 64;
 
-/// The workers if the command line says nothing of them.
+/// The default number of workers.
 const WORKERS: u32 = 4;
 
-/// The pages of a store if the command line says nothing of them.
+/// The default number of pages of a store.
 const PAGES: u32 = 64;
 
-/// The shelves of a store if the command line says nothing of them.
+/// The default number of shelves of a store.
 const SHELVES: u32 = 64;
 
-/// What is said of a UDP port.
+/// The error for a UDP port.
 const NO_UDP: &str = "'-U' ('--udp-port') takes 0 alone: there is no UDP; clients reach it by TCP";
 
-/// What is said of a place for scrapes that is none.
+/// The error for a bad place of scrapes.
 const NO_PLACE: &str = "a port, 1 to 65535, before which an IP address may stand, \
 as in 9150, 10.0.0.5:9150 and [::1]:9150";
 
-/// What is said of an address that is none.
+/// The error for a bad address.
 const NO_ADDRESS: &str =
     "invalid IP address syntax; names aren't looked up, and a port may follow, \
 as in 10.0.0.5, ::1, 10.0.0.5:11211 and [::1]:11211";
 
-/// What is said of the greatest charge of an item if it is none.
+/// The error for a bad greatest charge of an item.
 const NO_SIZE: &str = "1048576 to 8388608 bytes, as in 2097152, 2048k and 2m";
 
-/// What stands below the options in the help.
+/// The text below the options in the help.
 const STATUSES: &str = "\
 Exit status:
   0  the input is at its end, or the session was closed by quit or by a line that is too long;
@@ -102,46 +101,46 @@ pub struct Asked {
     pub verbose: bool,
 }
 
-/// Where scrapes are to be answered, as it is asked for.
+/// Where scrapes are answered, as on the command line.
 #[derive(Clone, Copy)]
 pub struct AskedPlace {
     pub address: Option<IpAddr>,
     pub port: u16,
 }
 
-/// What the command line asks for.
+/// The options of the program.
 #[derive(Drop)]
 pub struct Options {
-    /// One session over standard input and output is wanted.
+    /// It serves one session over standard input and output.
     pub stdin: bool,
-    /// Where the clock stands; with none the system's clock is read.
+    /// The moment of a standing clock; without one it reads the system's clock.
     pub now: Option<Moment>,
-    /// How the store is set up.
+    /// The settings of the store.
     pub settings: Settings,
     /// Where it listens.
     pub endpoints: Endpoints,
-    /// How many workers serve the connections, 1 to 64.
+    /// The number of workers, 1 to 64.
     pub workers: u32,
-    /// How many connections may be open at once, 1 to 65536.
+    /// The limit of open connections, 1 to 65536.
     pub connections: u32,
-    /// After how many seconds a connection that is idle is closed, at most 2592000; with 0 never.
+    /// Idle timeout of a connection in seconds, at most 2592000; 0 disables it.
     pub idle_timeout: u32,
-    /// How many MiB connections are meant to hold together of what they send and are told, 1 to 65536.
+    /// The limit of connection buffers (input and output) in MiB, 1 to 65536.
     pub buffers: u32,
-    /// Where scrapes are answered; nowhere if that isn't asked for.
+    /// Where scrapes are answered, if anywhere.
     pub scrapes: Option<Endpoint>,
-    /// Peers of this machine may end it, where scrapes are answered.
+    /// Peers on this machine may end it, where scrapes are answered.
     pub may_quit: bool,
-    /// Each connection that opens or closes is told of.
+    /// It logs each connection that opens or closes.
     pub verbose: bool,
 }
 
-/// Why the command line asks for nothing that can be done.
+/// Why the command line has no options.
 #[derive(Drop)]
 pub enum Unfit {
-    /// What `clap` says of it; help and the version are such, too.
+    /// The error of `clap`; help and the version are errors too.
     Told(Error),
-    /// The number of shelves is no power of two.
+    /// The number of shelves isn't a power of two.
     Shelves,
 }
 
@@ -152,10 +151,10 @@ impl From<Error> for Unfit {
 }
 
 impl Asked {
-    /// Gives the settings of the store that is asked for. If nothing is asked for it has 64 pages,
-    /// items of at most 1048576 bytes, and 64 shelves. What is out of range, which is refused
-    /// before, is brought into it. There are none if the number of shelves that is asked for is no
-    /// power of two.
+    /// Returns the settings of the store, or `None` if the number of shelves isn't a power of two.
+    ///
+    /// The defaults are 64 pages, items of at most 1048576 bytes, and 64 shelves. A number out of
+    /// range, which is refused before, is brought into its range.
     pub fn settings(self) -> Option<Settings>
         ensures pages { IfSome result (λ settings. IsAskedFor self.pages 64 65536 settings.pages) }
         ensures greatest { IfSome result (λ settings.
@@ -171,10 +170,11 @@ impl Asked {
 }
 
 impl Options {
-    /// Makes options of what `clap` found, and of the settings and the endpoints of it. Where they aren't
-    /// asked for there are 4 workers, at most 1024 connections are open at once, none is closed for being
-    /// idle, they are meant to hold 64 MiB together, and scrapes are answered nowhere, or at 127.0.0.1. What is out of range, which is refused
-    /// before, is brought into it.
+    /// Returns the options, given what `clap` found, the settings and the endpoints.
+    ///
+    /// The defaults are 4 workers, 1024 connections, no idle timeout, 64 MiB of connection buffers,
+    /// and no scrapes, or scrapes at 127.0.0.1 if only a port is given. A number out of range,
+    /// which is refused before, is brought into its range.
     pub fn new(asked: Asked, settings: Settings, endpoints: Endpoints) -> Options
         ensures stdin { result.stdin ≡ asked.stdin }
         ensures now { result.now ≡ option_map (min (2 ^ 62)) asked.now }
@@ -204,8 +204,7 @@ impl Options {
     }
 }
 
-/// Gives where scrapes are answered, by the place that is asked for: nowhere if none is, and at
-/// 127.0.0.1 if it has no address.
+/// Returns where scrapes are answered, or `None`; without an address it is 127.0.0.1.
 fn scrape_place(asked: Option<AskedPlace>) -> Option<Endpoint>
     ensures { IsScrapePlaceFor asked result }
 {
@@ -218,7 +217,7 @@ fn scrape_place(asked: Option<AskedPlace>) -> Option<Endpoint>
     }
 }
 
-/// Gives the number that is asked for, brought into 1 to `most`, and the usual one if none is.
+/// Returns the number, brought into 1 to `most`, or the default if there is none.
 fn asked_or_usual(asked: Option<u32>, usual: u32, most: u32) -> u32
     requires { IsUpTo most usual }
     ensures { IsAskedFor asked usual most result }
@@ -229,8 +228,7 @@ fn asked_or_usual(asked: Option<u32>, usual: u32, most: u32) -> u32
     }
 }
 
-/// Gives the greatest charge of an item that is asked for, brought into 1 to 8 pages, and 1 page if
-/// none is.
+/// Returns the greatest charge of an item, brought into 1 to 8 pages, or 1 page if there is none.
 fn greatest_of(asked: Option<u64>) -> u64
     ensures { IsGreatestFor asked result }
 {
@@ -240,7 +238,7 @@ fn greatest_of(asked: Option<u64>) -> u64
     }
 }
 
-/// Gives the seconds that are asked for, at most so many, and 0 if none are.
+/// Returns the seconds, at most `longest`, or 0 if there are none.
 fn timeout(asked: Option<u32>, longest: u32) -> u32
     ensures { IsTimeoutFor asked longest result }
 {
@@ -250,7 +248,7 @@ fn timeout(asked: Option<u32>, longest: u32) -> u32
     }
 }
 
-/// Reads the words of the command line, the program's own name first.
+/// Reads the words of the command line, which begin with the program's name.
 pub fn parse_options(alloc: Global, words: &[String]) -> Result<Options, Unfit>
     ensures workers { IfOk result (λ options. 1 ≤ options.workers × options.workers ≤ 64) }
     ensures connections { IfOk result (λ options.
@@ -265,14 +263,14 @@ pub fn parse_options(alloc: Global, words: &[String]) -> Result<Options, Unfit>
     }
 }
 
-/// Reads what is asked for and where to listen, of the words of the command line.
+/// Reads what is given and where to listen, from the words of the command line.
 fn read_words(alloc: Global, words: &[String]) -> Result<(Asked, Endpoints), Error> {
     let mut command = command(alloc)?;
     let matches = command.try_get_matches_from_mut(words)?;
     read_matches(alloc, &mut command, &matches)
 }
 
-/// Reads what is asked for and where to listen, of what `clap` found.
+/// Reads what is given and where to listen, from what `clap` found.
 fn read_matches(
     alloc: Global,
     command: &mut Command<'_>,
@@ -285,7 +283,7 @@ fn read_matches(
     Ok((asked, endpoints))
 }
 
-/// Reads what is asked for, but for where to listen.
+/// Reads what is given, except where to listen.
 fn asked_in(
     alloc: Global,
     command: &mut Command<'_>,
@@ -296,7 +294,7 @@ fn asked_in(
     Ok(asked_of(matches, scrapes, greatest))
 }
 
-/// Gives what is asked for, of which `clap` has found all but the place for scrapes and the greatest charge.
+/// Returns what is given; the place for scrapes and the greatest charge were read before.
 fn asked_of(matches: &ArgMatches<'_>, scrapes: Option<AskedPlace>, greatest: Option<u64>) -> Asked {
     Asked {
         stdin: matches.get_flag("stdin"),
@@ -314,7 +312,7 @@ fn asked_of(matches: &ArgMatches<'_>, scrapes: Option<AskedPlace>, greatest: Opt
     }
 }
 
-/// Refuses what memcached has and this program doesn't, in words that say what to do in its place.
+/// Refuses an unsupported option of memcached, with an error that names the alternative.
 fn refuse_unserved(
     alloc: Global,
     command: &mut Command<'_>,
@@ -331,7 +329,7 @@ fn refuse_unserved(
     Ok(())
 }
 
-/// Refuses a UDP port that isn't 0.
+/// Refuses a UDP port other than 0.
 fn refuse_udp(command: &mut Command<'_>, matches: &ArgMatches<'_>) -> Result<(), Error> {
     match matches.get_one::<u32>("udp-port") {
         None | Some(0) => Ok(()),
@@ -339,7 +337,7 @@ fn refuse_udp(command: &mut Command<'_>, matches: &ArgMatches<'_>) -> Result<(),
     }
 }
 
-/// Reads where to listen, of `-l` and `-p`.
+/// Reads where to listen, from `-l` and `-p`.
 fn endpoints_in(
     alloc: Global,
     command: &mut Command<'_>,
@@ -359,7 +357,7 @@ fn endpoints_in(
     Ok(Endpoints::new(alloc, addresses.as_slice(), port)?)
 }
 
-/// Reads where scrapes are to be answered, of `--metrics`.
+/// Reads where scrapes are answered, from `--metrics`.
 fn scrapes_in(
     alloc: Global,
     command: &mut Command<'_>,
@@ -380,7 +378,7 @@ fn scrapes_in(
     }
 }
 
-/// Reads the greatest charge of an item, of `-I`.
+/// Reads the greatest charge of an item, from `-I`.
 fn greatest_in(
     alloc: Global,
     command: &mut Command<'_>,
@@ -403,7 +401,7 @@ fn greatest_in(
     }
 }
 
-/// Reads a number of bytes, or of KiB or MiB, if it ends with `k` or `m`: `2097152`, `2048k`, `2m`.
+/// Reads a number of bytes, or of KiB or MiB if it ends with `k` or `m`: `2097152`, `2048k`, `2m`.
 fn bytes_of(text: &str) -> Option<u64> {
     if let Some(number) = text.strip_suffix('k').or(text.strip_suffix('K')) {
         return number.parse::<u64>().ok()?.checked_mul(1 << 10);
@@ -431,13 +429,13 @@ fn scrapes_of(text: &str) -> Option<AskedPlace> {
     })
 }
 
-/// The options that there are.
+/// Returns the command with all options.
 fn command<'a>(alloc: Global) -> Result<Command<'a>, Error> {
     let command = with_served(alloc, described(alloc)?, &SERVED)?;
     Ok(with_unserved(alloc, command, &UNSERVED)?)
 }
 
-/// Makes the command that has no options yet.
+/// Returns the command without options.
 fn described<'a>(alloc: Global) -> Result<Command<'a>, AllocError> {
     let command = Command::new(alloc, "mcserver").bin_name("mcserver")?;
     Ok(

@@ -1,4 +1,4 @@
-//! Options that this program serves.
+//! The options that this program supports.
 
 use crate::options::{LONGEST_TIMEOUT, MOST_BUFFERS, MOST_CONNECTIONS, MOST_WORKERS};
 use clap::builder::ValueParser;
@@ -7,33 +7,33 @@ use mc_shelf::Settings;
 use mc_time::Moment;
 use std::alloc::{AllocError, Global};
 
-/// An option that is served.
+/// An option that is supported.
 pub struct Served {
     pub short: Option<char>,
-    /// Its long name, by which what was found is asked for, too.
+    /// Its long name, by which its value is read too.
     pub long: &'static str,
     pub takes: Takes,
-    /// What the help says of it.
+    /// Its line in the help.
     pub help: &'static str,
 }
 
-/// What an option takes. The first text of a word or number is what the help calls it.
+/// The value of an option. The first text of a word or number is its name in the help.
 pub enum Takes {
-    /// Nothing: it is there, or it isn't.
+    /// None: the option is there, or it isn't.
     Nothing,
-    /// Nothing, and this option has to be there as well.
+    /// None, and the named option must be there too.
     NothingBeside(&'static str),
-    /// Nothing, and it counts how often it is there.
+    /// None, and the option is counted.
     NothingCounted,
     /// A word, which is read later.
     Word(&'static str),
-    /// Words with commas between, which are read later.
+    /// Words separated by commas, which are read later.
     Words(&'static str),
     /// A number in a range.
     Number(&'static str, ValueParser<'static>),
 }
 
-/// The options that are served, in the order in which the help shows them.
+/// The supported options, in the order of the help.
 pub const SERVED: [Served; 16] = [
     Served {
         short: None,
@@ -133,7 +133,7 @@ pub const SERVED: [Served; 16] = [
     },
 ];
 
-/// Adds the options of these rows, in their order.
+/// Adds the options of these rows, in order.
 pub fn with_served<'a>(
     alloc: Global,
     command: Command<'a>,
@@ -146,7 +146,7 @@ pub fn with_served<'a>(
     Ok(command)
 }
 
-/// Makes the argument of an option.
+/// Returns the argument of an option.
 fn argument_of<'a>(alloc: Global, option: &Served) -> Result<Arg<'a>, AllocError> {
     let argument = Arg::new(alloc, option.long)
         .long(option.long)
@@ -154,7 +154,7 @@ fn argument_of<'a>(alloc: Global, option: &Served) -> Result<Arg<'a>, AllocError
     taking(named(argument, option.short), &option.takes)
 }
 
-/// Gives an argument its short name, if there is one.
+/// Returns an argument with its short name, if there is one.
 fn named<'a>(argument: Arg<'a>, short: Option<char>) -> Arg<'a> {
     match short {
         Some(letter) => argument.short(letter),
@@ -162,7 +162,7 @@ fn named<'a>(argument: Arg<'a>, short: Option<char>) -> Arg<'a> {
     }
 }
 
-/// Lets an argument take what its option takes.
+/// Returns an argument that takes its option's value.
 fn taking<'a>(argument: Arg<'a>, takes: &Takes) -> Result<Arg<'a>, AllocError> {
     match takes {
         Takes::Nothing => Ok(argument.action(ArgAction::SetTrue)),

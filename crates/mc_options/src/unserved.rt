@@ -1,20 +1,23 @@
-//! Options of memcached's that this program doesn't serve.
+//! Options of memcached that this program doesn't support.
+//!
+//! Each is known by name and refused with its alternative: ignoring `-S`, `-Z` or `-u` silently
+//! would leave the operator with less than was requested.
 
 use clap::{Arg, ArgAction, ArgMatches, Command};
 use std::alloc::{AllocError, Global};
 
-/// An option of memcached's that isn't served.
+/// An option of memcached that isn't supported.
 pub struct Unserved {
     pub short: char,
     /// Its long name, or one of this program's own if memcached has none.
     pub long: &'static str,
-    /// A word follows it.
+    /// Whether a word follows it.
     pub takes_value: bool,
-    /// What to do in its place.
+    /// The alternative.
     pub instead: &'static str,
 }
 
-/// The options that aren't served.
+/// The unsupported options.
 pub const UNSERVED: [Unserved; 26] = [
     Unserved {
         short: 'u',
@@ -175,7 +178,7 @@ pub const UNSERVED: [Unserved; 26] = [
 ];
 
 impl Unserved {
-    /// Returns whether it stands on the command line.
+    /// Returns whether it is on the command line.
     pub fn is_in(&self, matches: &ArgMatches<'_>) -> bool {
         if self.takes_value {
             matches.contains_id(self.long)
@@ -185,7 +188,7 @@ impl Unserved {
     }
 }
 
-/// Adds them, so that each is known, and is refused by what to do in its place. Help doesn't show them.
+/// Adds the unsupported options, hidden from the help. Each is refused with its alternative.
 pub fn with_unserved<'a>(
     alloc: Global,
     command: Command<'a>,
@@ -198,7 +201,7 @@ pub fn with_unserved<'a>(
     Ok(command)
 }
 
-/// Makes the argument of an option that help doesn't show.
+/// Returns the argument of an option that is hidden from the help.
 fn hidden_argument<'a>(alloc: Global, option: &Unserved) -> Arg<'a> {
     let action = if option.takes_value {
         ArgAction::Set

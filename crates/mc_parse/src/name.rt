@@ -7,7 +7,7 @@ ghost use Rattle.mc_parse.specs.Lines.{name_of, named};
 use mc_protocol::{Lone, Verb};
 
 /// The commands by their first word.
-#[derive(Clone, Copy, Debug, PartialEq, Eq)]
+#[derive(Clone, Copy)]
 pub enum Name {
     /// set, add, replace, append, prepend
     Store(Verb),

@@ -15,7 +15,7 @@ use crate::step::{KeyStep, Verb};
 use mc_time::{Expiry, Moment, expiry_of};
 
 /// Why a step leaves the key's item as it is (protocol.txt, the replies of each command).
-#[derive(Clone, Copy, Debug, PartialEq, Eq)]
+#[derive(Clone, Copy)]
 pub enum Refusal {
     /// The condition of add, replace, append or prepend failed.
     NotStored,
@@ -45,7 +45,7 @@ impl Refusal {
 }
 
 /// How the block of a write is made.
-#[derive(Clone, Copy, Debug, PartialEq, Eq)]
+#[derive(Clone, Copy)]
 pub enum Body {
     /// The step's own block.
     Given,
@@ -70,7 +70,7 @@ impl Body {
 }
 
 /// What a write stores under the key, without its unique number and its moment.
-#[derive(Clone, Copy, Debug, PartialEq, Eq)]
+#[derive(Clone, Copy)]
 pub struct Draft {
     pub flags: u32,
     pub expiry: Expiry,
@@ -78,7 +78,7 @@ pub struct Draft {
 }
 
 /// What a step does at its key.
-#[derive(Clone, Copy, Debug, PartialEq, Eq)]
+#[derive(Clone, Copy)]
 pub enum Row {
     /// Replies with this refusal, and leaves the item as it is.
     Refuses(Refusal),

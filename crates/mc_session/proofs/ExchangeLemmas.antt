@@ -91,19 +91,19 @@ module _ {E S : Type 0} {relations : Relations E S} {may_give : ℕ → Type 0} 
   }
 
   -- a read
-  pub then_read : {most : ℕ} {first : Scene E S} {old new : E} {before after : S} {a b writer : Option (List ℕ)} → relations.is_idle old before
+  pub then_read : {most : ℕ} {first : Scene E S} {old new : E} {before after : S} {a b writer : Option (List ℕ)} → relations.is_idle old before → relations.waits old before ≡ []
       → Reads relations old before a b new after → Exchanges relations may_give most first (scene old before a writer)
       → Exchanges relations may_give most first (scene new after b writer)
-  then_read {first = first} {a = a} {b = b} idle (read_piece bytes consumes takes) so_far = record {
+  then_read {first = first} {a = a} {b = b} idle all_written (read_piece bytes consumes takes) so_far = record {
     turns = so_far.turns;
     few = so_far.few;
     read = so_far.read ++ bytes;
     written = so_far.written;
-    exchange = piece bytes so_far.exchange idle takes;
+    exchange = piece bytes so_far.exchange idle all_written takes;
     consumes = Consumes-trans first.reader a b so_far.read bytes so_far.consumes consumes;
     appends = so_far.appends;
   }
-  then_read {first = first} {a = a} {b = b} idle (read_nothing consumes) so_far = record {
+  then_read {first = first} {a = a} {b = b} idle all_written (read_nothing consumes) so_far = record {
     turns = so_far.turns;
     few = so_far.few;
     read = so_far.read;

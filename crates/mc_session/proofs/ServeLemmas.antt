@@ -44,9 +44,9 @@ module _ {S : Type 0} (relations : Relations S) (may_give : ℕ → Type 0) wher
   course_of (exchanges.turn now exchange small gives (inr (none, same, stays))) =
       let so_far = course_of exchange in
       (so_far.0, course_at same stays (serving.takes_none so_far.1 small none))
-  course_of (exchanges.piece bytes exchange (is_open, none) (same, stays)) =
+  course_of (exchanges.piece bytes exchange (is_open, none) all_written (same, stays)) =
       let so_far = course_of exchange in
-      (so_far.0, course_at same stays (serving.piece_comes bytes so_far.1 is_open none))
+      (so_far.0, course_at same stays (serving.piece_comes bytes so_far.1 is_open none all_written))
   course_of {last = last} (exchanges.write bytes exchange writes) =
       let so_far = course_of exchange in
       let (parts, kept, stays) = was_front writes in

@@ -1,5 +1,5 @@
 -- What is done with one end of a connection over a reader and a writer.
-use Rattle.std.specs.Prelude.{◌⊎◌, ℕ, ◌+◌, ◌^◌, ◌<◌, ◌≤◌, List, [], ◌++◌, length, take, Option}
+use Rattle.std.specs.Prelude.{◌≡◌, ◌⊎◌, ℕ, ◌+◌, ◌^◌, ◌<◌, ◌≤◌, List, [], ◌++◌, length, take, Option}
 use Rattle.std.specs.Io.KnownBytes.{Appends, Consumes, IsAtEnd}
 use Rattle.mc_session.specs.declared.endpoint.Endpoint.{Ghosts as Relations}
 use Rattle.mc_session.specs.declared.rounds.TheConstants.{WRITE_AT}
@@ -39,7 +39,7 @@ module _ {E S : Type 0} (relations : Relations E S) where
 module _ {E S : Type 0} (relations : Relations E S) (may_give : ℕ → Type 0) where
   -- What was done with an endpoint: how many turns were given, what was read and what was written.
   -- Each turn was given at a moment that the clock may give, while less than 64 KiB of output were
-  -- waiting, and pieces came only while no turn was due.
+  -- waiting. Pieces came only while no turn was due and no output was waiting.
   pub data Exchange (first : E) (before : S) : (turns : ℕ) → (read written : List ℕ) → E → S
       → Type 0 where
     begins : Exchange first before 0 [] [] first before
@@ -50,7 +50,8 @@ module _ {E S : Type 0} (relations : Relations E S) (may_give : ℕ → Type 0) 
         → Exchange first before (turns + 1) read written last after
     piece : {turns : ℕ} {read written : List ℕ} {mid last : E} {between after : S}
         (bytes : List ℕ) → Exchange first before turns read written mid between
-        → relations.is_idle mid between → relations.takes bytes mid between last after
+        → relations.is_idle mid between → relations.waits mid between ≡ []
+        → relations.takes bytes mid between last after
         → Exchange first before turns (read ++ bytes) written last after
     write : {turns : ℕ} {read written : List ℕ} {mid last : E} {between after : S}
         (bytes : List ℕ) → Exchange first before turns read written mid between

@@ -46,11 +46,11 @@ module _ {S : Type 0} (relations : Relations S) (may_give : ℕ → Type 0) wher
         → length session.out < WRITE_AT
         → IsFalse session.is_open ⊎ NoTurnDue session
         → Course greatest before (calls + 1) read written taken session store
-    -- a piece that came
+    -- a piece that came: all output was written before it was read
     piece_comes : {calls : ℕ} {read written : List ℕ} {taken : List (ProtocolUnit × ℕ)}
         {session : SessionState} {store : S} (bytes : List ℕ)
         → Course greatest before calls read written taken session store → IsTrue session.is_open
-        → NoTurnDue session
+        → NoTurnDue session → session.out ≡ []
         → Course greatest before calls (read ++ bytes) written taken (fed session bytes) store
     -- a part of the output that was written
     part_goes : {calls : ℕ} {read written : List ℕ} {taken : List (ProtocolUnit × ℕ)}

@@ -1,5 +1,5 @@
 /// What comes after a turn.
-#[derive(Clone, Copy, Debug, PartialEq, Eq)]
+#[derive(Clone, Copy)]
 pub enum AfterTurn {
     /// The next turn of the same unit.
     Step,

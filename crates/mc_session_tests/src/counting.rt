@@ -1,11 +1,11 @@
-//! A store that counts what it is asked for.
+//! A store that counts its steps.
 
 use mc_command::PlainStore;
 use mc_protocol::{KeyStep, Reply, StepFault, Steps};
 use mc_time::Moment;
 use std::alloc::{AllocError, Global};
 
-/// A plain store that counts the steps that it is asked for, and may be refused memory for each.
+/// A plain store that counts the steps it is called for, and can refuse memory for each.
 #[derive(Drop)]
 pub(crate) struct Counting {
     pub(crate) store: PlainStore,
@@ -14,7 +14,7 @@ pub(crate) struct Counting {
 }
 
 impl Counting {
-    /// Makes a store of no items, which is refused no memory, or all.
+    /// Returns an empty store, which refuses no step memory, or every one.
     pub fn new(alloc: Global, is_refused: bool) -> Result<Counting, AllocError> {
         Ok(Counting {
             store: PlainStore::new(alloc, 64, 1_048_576)?,

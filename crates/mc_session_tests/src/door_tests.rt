@@ -1,4 +1,4 @@
-//! How many links are let in between two rounds.
+//! How many links are admitted between two rounds.
 
 use mc_guests::{Budget, Door, Got, Guests, Link, LinkFault, Links, Next, Took, WorkEnd};
 use std::alloc::Global;
@@ -30,7 +30,7 @@ impl Link for Silent {
     }
 }
 
-/// So many links wait, and no more come. It is seen how often it was rested.
+/// A number of waiting links, and no more. It counts how often it was rested.
 #[derive(Drop)]
 struct Crowd {
     waiting: u64,
@@ -55,17 +55,17 @@ impl Links<Silent> for Crowd {
     }
 }
 
-/// What came of a crowd before each of two rounds.
+/// What was admitted of a crowd before each of two rounds.
 #[derive(Clone, Copy, Debug, PartialEq, Eq)]
 struct Course {
     waiting: u64,
-    /// How many were let in before the first round, and before the second.
+    /// The links admitted before the first round, and before the second.
     first: u64,
     second: u64,
     rests: u64,
 }
 
-/// Lets a crowd in, so many as may be, as before two rounds.
+/// Admits a crowd, as much as may be, before two rounds.
 fn course_of(alloc: Global, waiting: u64) -> Course {
     let mut crowd = Crowd { waiting, rests: 0 };
     let mut door = Door::new(1048576);
@@ -86,7 +86,7 @@ fn course_of(alloc: Global, waiting: u64) -> Course {
     }
 }
 
-/// Nobody is visited here, so those that were let in are awake, and it isn't rested beside them.
+/// Nobody is visited here, so admitted links are awake, and nothing is rested beside them.
 const COURSES: [Course; 4] = [
     Course {
         waiting: 0,

@@ -1,5 +1,6 @@
-//! Links that gather, over a link in memory that takes few bytes at a time, takes none at every other
-//! call, and may fail at one.
+//! Links that gather output, over a link in memory.
+//!
+//! That link takes a few bytes at a time and none at every other call, and may fail at one call.
 
 use mc_guests::{Gathering, Got, Link, LinkFault, Took};
 use mc_testing::{Call, Calls};
@@ -7,7 +8,7 @@ use std::alloc::{AllocError, Global};
 use std::marker::Model;
 use std::test::*;
 
-/// A link in memory, which takes at most `width` bytes at once, and of which a read gives the end.
+/// A link in memory that takes at most `width` bytes at once, and whose reads return the end.
 #[derive(Drop)]
 struct Narrow {
     width: usize,
@@ -78,16 +79,16 @@ impl Link for Narrow {
     }
 }
 
-/// How often a call is tried at most.
+/// The most tries of a call.
 const TRIES: usize = 1_000_000;
 
-/// How many bytes are written, one text after another: some that are gathered, some that aren't.
+/// The lengths of the texts that are written in order: some are gathered, some aren't.
 const LENGTHS: [usize; 8] = [10, 0, 5000, 40000, 3, 33000, 70000, 1];
 
-/// How many bytes those are.
+/// The sum of these lengths.
 const ALL: usize = 148_014;
 
-/// Makes so many bytes, which differ by their places.
+/// Returns `length` bytes that differ by their places.
 fn text_of(alloc: Global, length: usize) -> Result<Vec<u8>, AllocError> {
     let mut text = Vec::new(alloc);
     for at in 0..length {
@@ -96,14 +97,14 @@ fn text_of(alloc: Global, length: usize) -> Result<Vec<u8>, AllocError> {
     Ok(text)
 }
 
-/// Gives at most so many bytes from a place on.
+/// Returns at most `length` bytes from a place on.
 fn part_of(text: &[u8], at: usize, length: usize) -> &[u8] {
     let (_, rest) = text.split_at(at.min(text.len()));
     let (part, _) = rest.split_at(length.min(rest.len()));
     part
 }
 
-/// Writes a front of the bytes once, and says how many were taken. A fault is counted.
+/// Writes a front of the bytes once, and returns how many were taken. A fault is counted.
 fn write_once(gathering: &mut Gathering<Narrow>, bytes: &[u8], faults: &mut u64) -> usize {
     match gathering.try_write(bytes) {
         Ok(Took::Bytes(count)) => count,
@@ -128,7 +129,7 @@ fn write_all(gathering: &mut Gathering<Narrow>, bytes: &[u8], faults: &mut u64) 
     false
 }
 
-/// Reads until the end comes, and returns whether nothing was gathered then.
+/// Reads until the end, and returns whether nothing was gathered then.
 fn read_end(gathering: &mut Gathering<Narrow>, faults: &mut u64) -> bool {
     let mut piece: [u8; 1] = [0];
     for _try in 0..TRIES {
@@ -142,8 +143,10 @@ fn read_end(gathering: &mut Gathering<Narrow>, faults: &mut u64) -> bool {
     false
 }
 
-/// Writes the texts through a link that gathers, and returns whether the link below took them all,
-/// each byte once and in its order, and each of its faults was told once.
+/// Writes the texts through a link that gathers, and returns whether that was right.
+///
+/// The link below must take every byte once and in order, and each of its faults must be reported
+/// once.
 fn goes_through(alloc: Global, width: usize, fails_at: u64) -> Result<bool, AllocError> {
     let text = text_of(alloc, ALL)?;
     let link = Narrow {

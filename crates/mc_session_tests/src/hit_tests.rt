@@ -1,4 +1,4 @@
-//! Sessions over a store that tells a hit from where its block lies.
+//! Sessions over a store that delivers a hit from where its block lies.
 
 ghost use Rattle.std.specs.Prelude.{◌≡◌, OnOk, OnErr};
 ghost use Rattle.mc_protocol.specs.declared.reply.Reply.{Reply as Told};
@@ -15,23 +15,23 @@ use std::test::Fail;
 /// The greatest charge: a block of 51 bytes under a key of one byte.
 const GREATEST: u64 = 100;
 
-/// More turns than a test takes.
+/// More turns than any test takes.
 const TURNS: u64 = 1000;
 
-/// How hits are told.
+/// How hits are delivered.
 #[derive(Clone, Copy, PartialEq)]
 enum Telling {
     /// With a block in one part.
     Whole,
-    /// With a block in three, of which the middle one is empty.
+    /// With a block in three parts; the middle one is empty.
     InParts,
     /// With a block of two bytes, two bytes and the rest, and once more if memory is refused.
     Again,
-    /// Not at all, as memory for each is refused.
+    /// Not at all: memory for each is refused.
     Refused,
 }
 
-/// A plain store that tells a hit from where its block lies.
+/// A plain store that delivers a hit from where its block lies.
 #[derive(Drop)]
 struct Lending {
     store: PlainStore,
@@ -68,7 +68,7 @@ impl Steps for Lending {
     }
 }
 
-/// Tells a reply: a hit from where its block lies, if none is refused.
+/// Delivers a reply; a hit from where its block lies, unless hits are refused.
 fn tell<A: Answer>(reply: &Reply, telling: Telling, answer: &mut A) -> Result<(), Unanswered>
     ensures told { OnOk result (A.told answer.old reply.now answer.new) }
     ensures err { OnErr result (answer.new ≡ answer.old) }
@@ -87,7 +87,7 @@ fn tell<A: Answer>(reply: &Reply, telling: Telling, answer: &mut A) -> Result<()
     }
 }
 
-/// Tells a hit, with a block that is cut in three if it lies in parts.
+/// Delivers a hit, with its block cut in three for `InParts`.
 fn tell_hit<A: Answer>(
     flags: u32,
     unique: u64,
@@ -118,7 +118,7 @@ fn tell_hit<A: Answer>(
     }
 }
 
-/// A store of no items.
+/// Returns an empty store.
 fn new_store(alloc: Global, telling: Telling) -> Result<Lending, AllocError> {
     Ok(Lending {
         store: PlainStore::new(alloc, 64, 1_048_576)?,
@@ -126,7 +126,7 @@ fn new_store(alloc: Global, telling: Telling) -> Result<Lending, AllocError> {
     })
 }
 
-/// Takes the turns that are due of a piece. A refused turn closes the session.
+/// Feeds a piece and takes the turns that are due. A refused turn closes the session.
 fn take_turns(
     rt: &impl Abort,
     alloc: Global,
@@ -148,7 +148,7 @@ fn take_turns(
     Ok(())
 }
 
-/// A session of its own is answered so.
+/// Checks the output of a session of its own.
 fn is_told(
     rt: &impl Abort,
     alloc: Global,
@@ -173,7 +173,7 @@ fn session_is_told(
     is_told(rt, alloc, &mut store, input, output)
 }
 
-/// Sessions are answered as from replies, if hits are told so.
+/// Checks that sessions get the same output as from replies, with hits delivered this way.
 fn sessions_are_told(rt: &impl Abort, alloc: Global, telling: Telling) -> Result<(), TurnFault> {
     for (input, output) in &SESSIONS {
         if session_is_told(rt, alloc, telling, input, output).is_err() {
@@ -193,8 +193,10 @@ fn sessions_are_answered_from_parts_as_from_replies(rt: HostRuntime) -> Result<(
     Ok(sessions_are_told(&rt, rt.alloc(), Telling::InParts)?)
 }
 
-/// A hit is asked for behind another turn. If its text is refused memory the session closes with
-/// the text of the other, nothing is decided, and the store answers another session as before.
+/// Checks a hit that comes after another turn.
+///
+/// If memory for its text is refused, the session closes with the text of the other turn, nothing
+/// is decided, and the store answers another session as before.
 fn hit_is_told(rt: &impl Abort, alloc: Global, telling: Telling) -> Result<(), TurnFault> {
     let mut store = new_store(alloc, Telling::Whole)?;
     is_told(rt, alloc, &mut store, "set a 5 0 2\r\n12\r\n", "STORED\r\n")?;
@@ -236,8 +238,9 @@ fn a_refused_hit_decides_nothing(rt: HostRuntime) -> Result<(), Fail> {
     Ok(())
 }
 
-/// A hit in three parts, of the flags 5 and the unique number 7, is told behind another turn. Where
-/// memory for it is refused the output stays as it was, and the hit is told again.
+/// Checks a hit in three parts, with the flags 5 and the unique number 7, after another turn.
+///
+/// If memory for it is refused the output is unchanged, and the hit is delivered again.
 fn parts_are_one_text(rt: &impl Abort, alloc: Global) -> Result<(), TurnFault> {
     let mut store = Lending {
         store: PlainStore::starting(alloc, 64, 1_048_576, 7)?,

@@ -1,12 +1,13 @@
-//! Tests of what reads and answers the protocol: of `mc_protocol`'s plain store, the lines and feeds
-//! of `mc_parse`, the texts of `mc_reply`, the sessions of `mc_session`, the guests of `mc_guests`,
-//! and the rows of `mc_rows` over the plain store.
+//! Tests of the protocol: the plain store, lines and feeds, texts, sessions and guests.
 //!
-//! It is a crate of its own so that no library is proved a second time with its tests. A test makes
-//! public calls alone. No program uses it.
+//! They test `mc_command`'s plain store, the lines and feeds of `mc_parse`, the texts of
+//! `mc_reply`, the sessions of `mc_session`, the guests of `mc_guests`, and the rows of `mc_rows`
+//! over the plain store.
 //!
-//! What two files share stands beside them: a store that counts what it is asked for
-//! (`src/counting.rt`).
+//! It is a crate of its own so that no library is proved a second time with its tests. Tests use
+//! only public calls. No program uses this crate.
+//!
+//! What two files share is a store that counts its steps (`src/counting.rt`).
 #![tactic(auto)]
 
 #[cfg(test)]

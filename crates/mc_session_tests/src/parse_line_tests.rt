@@ -1,4 +1,4 @@
-//! What lines say, and their first faults.
+//! The commands of lines, and their first faults.
 
 use mc_parse::{Noted, lend, line_of};
 use mc_protocol::{Command, CommandOf, LineFault};
@@ -73,7 +73,7 @@ fn the_first_fault_of_a_line(rt: HostRuntime) {
     }
 }
 
-/// Lines of numbers at their limits, and whether each is well formed.
+/// Lines with numbers at their limits, and whether each is well formed.
 const LIMITS: [(&[u8], bool); 12] = [
     (b"set a 4294967295 0 1", true),
     (b"set a 4294967296 0 1", false),
@@ -102,7 +102,7 @@ fn keys_of_250_and_of_251_bytes(rt: HostRuntime) {
     get[..4].copy_from_slice(b"get ");
     assert!(rt; line_of(GREATEST, &get[..254]).is_ok());
     assert!(rt; line_of(GREATEST, &get[..255]).err() == Some(LineFault::BadFormat));
-    // One malformed key of two.
+    // One of two keys is malformed.
     get[255..].copy_from_slice(b" a");
     assert!(rt; line_of(GREATEST, &get).err() == Some(LineFault::BadFormat));
     // The key's fault comes before the delta's.
@@ -114,7 +114,7 @@ fn keys_of_250_and_of_251_bytes(rt: HostRuntime) {
     assert!(rt; line_of(GREATEST, &incr).err() == Some(LineFault::BadDelta));
 }
 
-/// A cas line was read so.
+/// Checks the command of a cas line.
 fn is_a_cas(rt: &impl Abort, noted: &Noted, text: &[u8]) {
     match noted {
         CommandOf::Cas {
@@ -133,7 +133,7 @@ fn is_a_cas(rt: &impl Abort, noted: &Noted, text: &[u8]) {
     }
 }
 
-/// A gats line was read so.
+/// Checks the command of a gats line.
 fn is_a_gats(rt: &impl Abort, command: Command<'_>) {
     match command {
         Command::GetTouch {

@@ -1,4 +1,4 @@
-//! Queues and feeds: what unread bytes begin with, and what is held of them.
+//! Queues and feeds: what unread bytes begin with, and what is held.
 
 ghost use Rattle.std.specs.Prelude.{◌≡◌, ◌∷◌, []};
 ghost use Rattle.std.specs.Option.{option_map};
@@ -11,7 +11,7 @@ use std::test::*;
 
 const GREATEST: u64 = 1048576;
 
-/// A line of `len` bytes without its end: version, and spaces behind it.
+/// Returns a line of `len` bytes without its end: version, and spaces behind it.
 fn long_line(alloc: Global, len: usize) -> Result<Vec<u8>, AllocError> {
     let mut line = Vec::new(alloc);
     line.extend_from_slice(b"version")?;
@@ -19,7 +19,7 @@ fn long_line(alloc: Global, len: usize) -> Result<Vec<u8>, AllocError> {
     Ok(line)
 }
 
-/// Returns whether it is a gats with exptime 60 that has so many keys left, and this one first if any.
+/// Returns whether it is a gats with exptime 60 and `left` keys left, `first` first if any.
 fn is_gats_60(peek: Peek<'_>, left: usize, first: &[u8]) -> bool {
     let Peek::Whole(command, 25) = peek else {
         return false;
@@ -37,7 +37,7 @@ fn is_gats_60(peek: Peek<'_>, left: usize, first: &[u8]) -> bool {
     }
 }
 
-/// What is seen of what was found, and how many bytes spelled it.
+/// What a peek found, and its length in bytes.
 #[derive(Clone, Copy, PartialEq, Eq)]
 enum Seen {
     Lone(Lone, usize),
@@ -49,10 +49,10 @@ enum Seen {
     TooLong,
 }
 
-/// A version line as it is mostly written.
+/// A version line with CR LF.
 const VERSION: Seen = Seen::Lone(Lone::Version, 9);
 
-/// What is seen of a command that so many bytes spelled.
+/// Returns what a test sees of a command of `len` bytes.
 fn seen_of(command: Command<'_>, len: usize) -> Seen {
     match command {
         Command::Lone(lone) => Seen::Lone(lone, len),
@@ -61,7 +61,7 @@ fn seen_of(command: Command<'_>, len: usize) -> Seen {
     }
 }
 
-/// Returns whether this is seen of what was found.
+/// Returns whether a peek found this.
 fn shows(found: Peek<'_>, seen: Seen) -> bool {
     match found {
         Peek::Whole(command, len) => seen_of(command, len) == seen,
@@ -71,7 +71,7 @@ fn shows(found: Peek<'_>, seen: Seen) -> bool {
     }
 }
 
-/// How many bytes spell what was found.
+/// Returns the length in bytes of the unit that was found.
 fn len_of(peek: Peek<'_>) -> Option<usize>
     ensures { result ≡ option_map (λ found. found.1) (unit_of peek.entry) }
 {
@@ -82,14 +82,14 @@ fn len_of(peek: Peek<'_>) -> Option<usize>
     }
 }
 
-/// Passes over the unit that the unread bytes begin with, and says how many bytes spelled it.
+/// Skips the first unit, and returns its length.
 fn pass_unit(feed: &mut Feed) -> Option<usize> {
     let len = len_of(feed.peek())?;
     feed.done(len);
     Some(len)
 }
 
-/// Pushes a piece. Returns whether the feed was as before if that was refused, and pushes it then.
+/// Pushes a piece. After an error it pushes it again; returns whether the feed was unchanged then.
 fn push_at_last(feed: &mut Feed, piece: &[u8]) -> Result<bool, AllocError> {
     let held = feed.held();
     let found = len_of(feed.peek());
@@ -101,13 +101,14 @@ fn push_at_last(feed: &mut Feed, piece: &[u8]) -> Result<bool, AllocError> {
     Ok(is_same)
 }
 
-/// Pushes a piece. Returns whether a refusal left the feed as it was, and this is found behind it, and so many bytes are held.
+/// Pushes a piece. Returns whether an error left the feed unchanged, the peek is this and this much
+/// is held.
 fn takes(feed: &mut Feed, piece: &[u8], seen: Seen, held: usize) -> Result<bool, AllocError> {
     let is_same = push_at_last(feed, piece)?;
     Ok(is_same && shows(feed.peek(), seen) && feed.held() == held)
 }
 
-/// Passes over the first unit. Returns whether so many bytes spelled it, and so many are held then.
+/// Skips the first unit. Returns whether it had this length, and this many bytes are held then.
 fn passes(feed: &mut Feed, len: usize, held: usize) -> bool {
     pass_unit(feed) == Some(len) && feed.held() == held
 }
@@ -126,7 +127,7 @@ impl Append for Pair {
     }
 }
 
-/// A source of so many bytes, which gives as many at once as there is room for. It answers for how many that is.
+/// A source that writes as many bytes at once as there is room for, and returns their number.
 #[derive(Drop)]
 struct Well {
     left: usize,
@@ -146,8 +147,9 @@ impl Source for Well {
     }
 }
 
-/// Takes a piece from a source. Returns whether the feed and the source were as before if that was refused, and takes it
-/// then.
+/// Reads a piece from a source. After an error it reads it again.
+///
+/// Returns whether the feed and the source were unchanged after the error.
 fn take_at_last(feed: &mut Feed, well: &mut Well, room: usize) -> Result<bool, AllocError> {
     let held = feed.held();
     let left = well.left;
@@ -159,13 +161,13 @@ fn take_at_last(feed: &mut Feed, well: &mut Well, room: usize) -> Result<bool, A
     Ok(is_same)
 }
 
-/// Takes up to `n` bytes away. Returns whether what is left is this, and what is held at most twice as much.
+/// Consumes up to `n` bytes. Returns whether this is left, with at most twice as much held.
 fn consume_to(queue: &mut Queue<65536>, n: usize, left: &[u8]) -> bool {
     queue.consume(queue.len().min(n));
     queue.as_slice() == left && queue.len() == left.len() && queue.filled_bytes() <= 2 * left.len()
 }
 
-/// How many bytes are taken away, and what is left then.
+/// The number of bytes to consume, and what is left then.
 const TAKEN: [(usize, &[u8]); 5] = [
     (0, b"abcdefgh"),
     (3, b"defgh"),
@@ -254,7 +256,7 @@ fn a_source_has_the_room_that_is_asked_for(rt: HostRuntime) -> Result<(), AllocE
     Ok(())
 }
 
-/// An idle queue keeps the room that its source has, and no more.
+/// An idle queue keeps the room for its source, and no more.
 #[test]
 fn room_that_is_lent_again_is_kept(rt: HostRuntime) -> Result<(), AllocError> {
     let mut queue: Queue<65536> = Queue::new(rt.alloc());
@@ -267,7 +269,7 @@ fn room_that_is_lent_again_is_kept(rt: HostRuntime) -> Result<(), AllocError> {
     Ok(())
 }
 
-/// Takes so many pieces of 16384 bytes of a text of 1048576. Returns whether it lies where it lay.
+/// Reads pieces of 16384 bytes of a text of 1048576. Returns whether the buffer didn't move.
 fn stays_for(queue: &mut Queue<65536>, pieces: usize) -> Result<bool, AllocError> {
     let reserved = queue.capacity();
     let mut well = Well { left: usize::MAX };
@@ -277,7 +279,8 @@ fn stays_for(queue: &mut Queue<65536>, pieces: usize) -> Result<bool, AllocError
     Ok(queue.capacity() == reserved)
 }
 
-/// The first 4 pieces are a sixteenth; room for the text comes with the fifth, and for one more piece.
+/// The first 4 pieces are a sixteenth; room for the text comes with the fifth, and for one more
+/// piece.
 #[test]
 fn a_text_from_a_source_stays_where_it_is_after_a_sixteenth(
     rt: HostRuntime,
@@ -317,7 +320,7 @@ fn a_set_and_what_follows(rt: HostRuntime) {
     }
 }
 
-/// Unread bytes, and what is seen of what they begin with.
+/// Unread bytes, and what a peek finds in them.
 const FRONTS: [(&[u8], Seen); 12] = [
     (
         b"set a 0 0 3\r\nabcdef\r\n",
@@ -335,7 +338,7 @@ const FRONTS: [(&[u8], Seen); 12] = [
         Seen::Bad(LineFault::BadFormat, 22),
     ),
     (b"  version  \r\n", Seen::Lone(Lone::Version, 13)),
-    // A line feed ends a line by itself, and one carriage return before it says nothing.
+    // A line feed alone ends a line, and one carriage return before it is ignored.
     (b"version\n", Seen::Lone(Lone::Version, 8)),
     (b"version\r\r\n", Seen::Bad(LineFault::Unknown, 10)),
     (b"set a 0 0 5\r\nab", Seen::More),
@@ -386,7 +389,7 @@ fn a_block_that_is_passed_over(rt: HostRuntime) -> Result<(), AllocError> {
     Ok(())
 }
 
-/// As long a block as this is passed over in pieces, none of which is held.
+/// A block of this length is skipped in pieces, none of which is held.
 #[test]
 fn what_is_passed_over_is_never_held(rt: HostRuntime) -> Result<(), AllocError> {
     let mut feed = Feed::new(rt.alloc(), GREATEST);
@@ -417,7 +420,7 @@ fn what_is_passed_over_of_a_source_is_never_held(rt: HostRuntime) -> Result<(), 
     Ok(())
 }
 
-/// A block of 1000000 bytes in pieces of 16384, of which the last is shorter.
+/// A block of 1000000 bytes in pieces of 16384; the last piece is shorter.
 #[test]
 fn a_block_is_announced_by_its_line(rt: HostRuntime) -> Result<(), AllocError> {
     let mut feed = Feed::new(rt.alloc(), GREATEST);
@@ -447,7 +450,7 @@ fn a_block_comes_from_a_source(rt: HostRuntime) -> Result<(), AllocError> {
     Ok(())
 }
 
-/// How many turns were taken, the next key, and how many keys are left.
+/// The number of turns taken, the next key, and how many keys are left.
 const TURNS: [(usize, &[u8], usize); 3] = [(0, b"one", 3), (1, b"two", 2), (2, b"three", 1)];
 
 #[test]
@@ -455,12 +458,12 @@ fn a_retrieval_in_turns(rt: HostRuntime) -> Result<(), AllocError> {
     let mut feed = Feed::new(rt.alloc(), GREATEST);
     assert!(rt; push_at_last(&mut feed, b"gats 60 one  two three \r\nquit\r\n")?);
     for (taken, key, left) in &TURNS {
-        // Found by reading the line from its beginning, and then by the note.
+        // Found first by reading the line from its beginning, and then by the mark.
         for _ in 0..2 {
             assert!(rt; is_gats_60(feed.peek_after(*taken), *left, key));
             feed.mark(*taken);
         }
-        // What comes behind changes nothing.
+        // What comes behind it changes nothing.
         assert!(rt; push_at_last(&mut feed, b"version\r\n")?);
     }
     assert!(rt; is_gats_60(feed.peek_after(usize::MAX), 0, b""));
@@ -469,7 +472,7 @@ fn a_retrieval_in_turns(rt: HostRuntime) -> Result<(), AllocError> {
     Ok(())
 }
 
-/// A stream in pieces, of which none but the last ends a unit.
+/// A stream in pieces. Only the last piece ends a unit.
 const PIECES: [&[u8]; 4] = [
     b"set a 0 0 100\r\nxyz",
     b"0123456789012345678901234567890123456789012345678901234567890123456789",

@@ -1,5 +1,7 @@
-//! The plain store when its unique numbers are spent: it answers at once, even if an allocation would
-//! be refused. What else it answers is in `rows_tests`, by rows that any store can be held to.
+//! The plain store with used-up unique numbers: it replies at once, even if memory would be
+//! refused.
+//!
+//! The rest of its replies is in `rows_tests`, by rows for any store.
 
 ghost use Rattle.std.specs.Prelude.{◌≤◌, length};
 ghost use Rattle.mc_protocol.specs.Commands.{key_of};
@@ -10,7 +12,7 @@ use mc_time::Moment;
 use std::alloc::Global;
 use std::test::Fail;
 
-/// A storage command's step on `n`.
+/// Returns a storage command's step on `n`.
 fn storing<'a>(verb: Verb, block: &'a [u8]) -> KeyStep<'a>
     ensures { length (key_of result) ≤ 250 }
 {
@@ -30,8 +32,7 @@ fn asked(store: &mut PlainStore, alloc: Global, step: KeyStep<'_>) -> Result<Rep
     store.step(alloc, &step, Moment::from_seconds_at_most(1000))
 }
 
-/// A store of the greatest charge 100 that holds a number under `n`, for which it drew the last
-/// unique number.
+/// Returns a store with greatest charge 100, and a number under `n` with the last unique number.
 fn spent(alloc: Global) -> Result<PlainStore, Fail> {
     let mut store = PlainStore::starting(alloc, 64, 100, u64::MAX - 1)?;
     if asked(&mut store, alloc, storing(Verb::Set, b"9")).is_err() {

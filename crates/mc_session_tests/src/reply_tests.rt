@@ -1,4 +1,4 @@
-//! Replies and faults as texts.
+//! The texts of replies and faults.
 
 use mc_protocol::{Block, Bytes, Command, Keys, LineFault, Lone, Reply, Verb, steps_of};
 use mc_reply::{write, write_fault, write_hit, write_plain, write_spent, write_too_long};
@@ -6,10 +6,10 @@ use std::alloc::{AllocError, Global};
 use std::process::Abort;
 use std::test::Fail;
 
-/// What stands in the vector before each call.
+/// The content of the vector before each call.
 const BEFORE: &[u8] = b"END\r\n";
 
-/// What the reply to step `at` of a retrieval found, and what is told of it.
+/// The reply to step `at` of a retrieval, and its text.
 #[derive(Clone, Copy, Drop)]
 struct Found {
     with_unique: bool,
@@ -48,7 +48,7 @@ fn call_once(rt: &impl Abort, call: &Call<'_>, out: &mut Vec<u8>) -> Result<(), 
     }
 }
 
-/// A vector of these bytes with no room for more. A run may refuse one allocation, so it is asked for twice.
+/// Returns a vector of these bytes without room for more. It allocates twice if memory is refused.
 fn filled(alloc: Global, bytes: &[u8]) -> Result<Vec<u8>, AllocError> {
     match Vec::from_slice(alloc, bytes) {
         Ok(vector) => Ok(vector),
@@ -56,7 +56,9 @@ fn filled(alloc: Global, bytes: &[u8]) -> Result<Vec<u8>, AllocError> {
     }
 }
 
-/// The call appends this text. Refused, it leaves the vector as it was and succeeds when it is made again.
+/// Checks that the call appends this text.
+///
+/// After an error the vector must be unchanged, and the call must succeed the second time.
 fn expect(rt: &impl Abort, alloc: Global, call: Call<'_>, want: &str) -> Result<(), Fail> {
     let mut out = filled(alloc, BEFORE)?;
     let mut result = call_once(rt, &call, &mut out);
@@ -113,7 +115,7 @@ fn a_reply_is_a_line(rt: HostRuntime) -> Result<(), Fail> {
     Ok(())
 }
 
-/// Each command that can end in `noreply`, which it did.
+/// Returns each command that can end in `noreply`, with it.
 fn quiet_commands() -> [Command<'static>; 6] {
     [
         store(true),
@@ -165,7 +167,7 @@ fn a_quiet_command_is_told_of_no_spent_numbers(rt: HostRuntime) -> Result<(), Fa
     Ok(())
 }
 
-/// A retrieval of two keys, by get or gets and by gat or gats.
+/// Returns a retrieval of two keys by get or gets, and one by gat or gats.
 fn retrievals(with_unique: bool) -> [Command<'static>; 2] {
     [
         Command::Get {
@@ -227,7 +229,7 @@ fn found_in_parts(
     expect(rt, alloc, call, found.text)
 }
 
-/// A hit is told the same from a reply and from where its block lies, in one part or in more.
+/// Checks that a hit has the same text from a reply and from its block in one part or more.
 fn found_is_told(rt: &impl Abort, alloc: Global, found: &Found) -> Result<(), Fail> {
     let reply = Reply::Hit {
         flags: found.flags,

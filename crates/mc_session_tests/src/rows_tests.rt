@@ -1,6 +1,6 @@
 //! The plain store: the protocol's worked examples at their moments, and each kind of step once.
-//! If an allocation is refused the store answers as before, and takes the step when it is asked
-//! again.
+//!
+//! If memory is refused the store is unchanged, and takes the step at the second try.
 
 ghost use Rattle.std.specs.Prelude.{◌≤◌};
 
@@ -12,7 +12,7 @@ use std::alloc::{AllocError, Global};
 use std::process::Abort;
 use std::test::Fail;
 
-/// A new store of so many pages and that greatest charge answers each row as it wants.
+/// Checks that a new store with these pages and this greatest charge answers each row as expected.
 fn answers(
     rt: &impl Abort,
     alloc: Global,
@@ -138,7 +138,7 @@ fn counts_wrap_up_and_stop_at_zero(rt: HostRuntime) -> Result<(), Fail> {
 
 #[test]
 fn what_is_too_large_is_not_written(rt: HostRuntime) -> Result<(), Fail> {
-    // A charge is 48 bytes beside the key and the block.
+    // A charge is 48 bytes, the key and the block.
     let rows: [Row<'_>; 3] = [
         set(1000, b"a", 0, b"x", "stored"),
         (
@@ -152,7 +152,7 @@ fn what_is_too_large_is_not_written(rt: HostRuntime) -> Result<(), Fail> {
     answers(&rt, rt.alloc(), 64, 50, &rows)
 }
 
-// A page has one chunk that holds a charge of more than 493552 bytes, and here there is one page.
+// A page has one chunk for a charge above 493552 bytes, and this store has one page.
 
 #[test]
 fn a_full_chunk_is_not_written_over(rt: HostRuntime) -> Result<(), Fail> {
@@ -179,7 +179,7 @@ fn the_dead_hold_their_chunks_until_they_are_dropped(rt: HostRuntime) -> Result<
         set(1010, b"b", 0, large, "no chunk"),
         set(1010, b"a", 10, large, "stored"),
         (1010, b"a", Ask::Get, Want::Hit(2, large)),
-        // What finds no chunk for its own class drops the key's dead item all the same.
+        // A write without a chunk for its class also drops the key's dead item.
         set(1020, b"a", 0, b"x", "no chunk"),
         set(1020, b"b", 0, large, "stored"),
         (1020, b"b", Ask::Flush(0), Want::Told("flushed")),
@@ -190,7 +190,7 @@ fn the_dead_hold_their_chunks_until_they_are_dropped(rt: HostRuntime) -> Result<
 
 #[test]
 fn a_number_asks_room_where_its_class_changes(rt: HostRuntime) -> Result<(), Fail> {
-    // 48 bytes, a key of 47 and a block of 1 are the 96 of the first class's chunks.
+    // 48 bytes, a key of 47 and a block of 1 are the 96 bytes of the first class's chunks.
     let key = b"a key of as many bytes as leave room for one, 0";
     let rows: [Row<'_>; 5] = [
         set(1000, key, 0, b"9", "stored"),
@@ -202,7 +202,7 @@ fn a_number_asks_room_where_its_class_changes(rt: HostRuntime) -> Result<(), Fai
     answers(&rt, rt.alloc(), 1, 1048576, &rows)
 }
 
-// Above 1048576 bytes an item takes as many whole pages as hold it, up to 8388608.
+// Above 1048576 bytes an item takes the fewest whole pages that hold it, up to 8388608.
 
 #[test]
 fn large_items_take_whole_pages(rt: HostRuntime) -> Result<(), Fail> {
@@ -234,8 +234,8 @@ fn the_largest_item_takes_eight_pages(rt: HostRuntime) -> Result<(), Fail> {
     answers(&rt, rt.alloc(), 8, 8388608, &rows)
 }
 
-/// Makes a number of so many bytes: a 7, and spaces behind it. It is asked for again if memory
-/// is refused.
+/// Returns a number of `len` bytes: a 7, and spaces behind it. It allocates twice if memory is
+/// refused.
 fn spaced(alloc: Global, len: usize) -> Result<Vec<u8>, AllocError> {
     let mut bytes = match vec![in alloc; b' '; len] {
         Err(_) => vec![in alloc; b' '; len]?,

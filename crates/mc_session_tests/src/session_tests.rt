@@ -1,4 +1,4 @@
-//! Sessions: whole runs over a reader and a writer, and turns by themselves.
+//! Sessions: whole runs over a reader and a writer, and single turns.
 
 use mc_command::PlainStore;
 use mc_parse::Source;
@@ -16,16 +16,16 @@ const GREATEST: u64 = 100;
 /// The greatest charge of the stores here, in bytes.
 const PAGE: u64 = 1_048_576;
 
-/// More calls than a test makes.
+/// More calls than any test makes.
 const NEVER: usize = 10000;
 
-/// A block of more than the greatest charge, and what must be written.
+/// A block above the greatest charge, and the expected output.
 const TOO_LARGE: (&str, &str) = (
     "set a 0 0 52\r\n0123456789\r\nget a\r\n012345678901234567890123456789012\r\nget a\r\n",
     "SERVER_ERROR object too large for cache\r\nEND\r\n",
 );
 
-/// How a run over that reader and writer ends, and what it wrote.
+/// Runs a session over this reader and writer, and returns how it ends and what it wrote.
 fn run(
     alloc: Global,
     input: &[u8],
@@ -47,7 +47,7 @@ fn run(
     Ok((ended, writer.into_taken()))
 }
 
-/// The same if a growth may be refused before the run: at most one is in a test.
+/// The same, if memory may be refused before the run; a test has at most one refusal.
 fn run_once(
     alloc: Global,
     input: &[u8],
@@ -60,8 +60,7 @@ fn run_once(
     run(alloc, input, reads, writes)
 }
 
-/// What a run that is well writes. If a growth was refused, what was written is a beginning of
-/// that.
+/// Returns the output of a run that succeeds. After a refusal it is a beginning of that.
 fn written(rt: &impl Abort, alloc: Global, input: &[u8]) -> Result<Vec<u8>, Fail> {
     let (ended, part) = run_once(alloc, input, NEVER, NEVER)?;
     if ended.is_ok() {
@@ -100,7 +99,7 @@ fn a_failed_read_leaves_what_came_before_answered(rt: HostRuntime) -> Result<(),
             let (ended, out) = run_once(rt.alloc(), input, reads, NEVER)?;
             assert!(rt; output.as_bytes().starts_with(out.as_slice()));
             if !matches!(ended, Err(ServeFault::NoMemory)) {
-                // A session that was closed reads no further.
+                // A closed session reads no further.
                 assert!(rt; matches!(ended, Ok(()) | Err(ServeFault::Read)));
                 assert_eq!(rt; out, written(&rt, rt.alloc(), came)?, "after {reads}");
             }
@@ -127,7 +126,7 @@ fn a_failed_write_leaves_a_beginning(rt: HostRuntime) -> Result<(), Fail> {
     Ok(())
 }
 
-/// Feeds a session, and takes so many turns of it. A refused turn closes the session.
+/// Feeds a session, and takes this many turns. A refused turn closes the session.
 fn turns(
     rt: &impl Abort,
     alloc: Global,
@@ -149,7 +148,7 @@ fn turns(
     Ok(())
 }
 
-/// A source that has one command, over and over.
+/// A source that has one command, again and again.
 #[derive(Drop)]
 struct Asking;
 
@@ -167,7 +166,7 @@ impl Source for Asking {
     }
 }
 
-/// A session is fed a command from a source, and takes its turn.
+/// Checks a session that is fed a command from a source and takes its turn.
 fn is_fed_from_a_source(rt: &impl Abort, alloc: Global) -> Result<(), AllocError> {
     let mut store = PlainStore::new(alloc, 64, PAGE)?;
     let mut session = Session::new(alloc, PAGE);
@@ -188,7 +187,7 @@ fn a_command_comes_from_a_source(rt: HostRuntime) -> Result<(), Fail> {
     Ok(())
 }
 
-/// A block is passed over in 128 pieces of one read's length, in none of which a turn is due.
+/// Checks a block that is skipped in 128 pieces of 16384 bytes; no turn is due in any.
 fn passes_a_block_over(rt: &impl Abort, alloc: Global) -> Result<(), AllocError> {
     let mut store = PlainStore::new(alloc, 64, PAGE)?;
     let mut session = Session::new(alloc, PAGE);
@@ -253,7 +252,7 @@ fn keys_of_a_get_take_a_turn_each(rt: HostRuntime) -> Result<(), Fail> {
     Ok(())
 }
 
-/// A get of a block of 9000 bytes, which needs no more than was asked for when it was told and sent.
+/// Checks that a get of a block of 9000 bytes needs no memory beyond its text.
 fn rests(rt: &impl Abort, alloc: Global) -> Result<(), AllocError> {
     let mut store = PlainStore::new(alloc, 64, PAGE)?;
     let mut session = Session::new(alloc, PAGE);
@@ -283,10 +282,10 @@ fn a_session_that_rests_keeps_two_first_pieces(rt: HostRuntime) -> Result<(), Fa
     Ok(())
 }
 
-/// What `get a` answers before the steps.
+/// The output of `get a` before the steps.
 const BEFORE: &str = "VALUE a 0 1\r\n1\r\nEND\r\n";
 
-/// A command, its text, and what `get a` answers after its step.
+/// A command, its text, and the output of `get a` after its step.
 const STEPS: [(&str, &str, &str); 9] = [
     ("get a\r\n", BEFORE, BEFORE),
     (
@@ -311,7 +310,7 @@ const STEPS: [(&str, &str, &str); 9] = [
     ("foo\r\n", "ERROR\r\n", BEFORE),
 ];
 
-/// What a session of its own answers.
+/// Checks the output of a session of its own.
 fn asks(
     rt: &impl Abort,
     alloc: Global,
@@ -325,9 +324,10 @@ fn asks(
     Ok(())
 }
 
-/// Takes a step behind another turn. If its turn is refused the session closes with the text of
-/// the other, and the step stands exactly where the fault says so. An error is a growth that was
-/// refused elsewhere.
+/// Takes a step after another turn.
+///
+/// If its turn is refused, the session closes with the other turn's text, and the step is taken
+/// exactly if the error has `decided`. An error is a refusal elsewhere.
 fn step_is_taken(
     rt: &impl Abort,
     alloc: Global,

@@ -11,13 +11,14 @@ use std::cell::Cell;
 use std::sync::atomic::{AtomicU64, Ordering};
 use std::test::*;
 
-/// A link that gives its input and takes output one byte at a time, with an empty call after each, and may fail
-/// at one of its calls. Nobody knows which bytes, but of those that it took is seen how many were as expected at
-/// their places, and how many weren't.
+/// A link that passes one byte a call, with an empty call after each, and may fail at one call.
+///
+/// Contracts don't see its bytes, but it counts how many of those that it took were as expected at
+/// their places, and how many not.
 #[derive(Drop)]
 struct Slow<'a> {
     input: &'a [u8],
-    /// The output that is expected.
+    /// The expected output.
     expected: &'a [u8],
     /// How many bytes were right and how many wrong.
     seen: &'a Cell<(usize, usize)>,
@@ -27,7 +28,7 @@ struct Slow<'a> {
 }
 
 impl<'a> Slow<'a> {
-    /// Counts a byte that it took, by whether that is the one expected at its place.
+    /// Counts a byte that it took as right or wrong.
     fn count(&self, byte: u8) {
         let (right, wrong) = self.seen.get();
         let at = right.saturating_add(wrong);
@@ -84,7 +85,8 @@ impl<'a> Link for Slow<'a> {
     }
 }
 
-/// Gives the first byte of an input if there is one, and room for it: says how many it gave, and what is left.
+/// Gives the first byte of an input if there is one and room for it. Returns their number and the
+/// rest.
 fn give_one<'a>(input: &'a [u8], piece: &mut [u8]) -> (usize, &'a [u8])
     ensures { result.0 ≤ length piece.new }
 {
@@ -95,20 +97,20 @@ fn give_one<'a>(input: &'a [u8], piece: &mut [u8]) -> (usize, &'a [u8])
     (count, rest)
 }
 
-/// A link in memory, and what visits of its guest answer: a letter each.
+/// A link in memory, and the answers of its guest's visits: a letter each.
 #[derive(Clone, Copy, Drop)]
 struct Course {
     input: &'static str,
     output: &'static str,
-    /// The call of the link that fails; none does at 0.
+    /// The call of the link that fails; at 0 none does.
     fails_at: u64,
     is_refused: bool,
-    /// How many steps the store is asked for.
+    /// The number of steps of the store.
     steps: u64,
     answers: &'static str,
 }
 
-/// The letter of an answer.
+/// Returns the letter of an answer.
 fn letter_of(visit: Visit) -> u8 {
     match visit {
         Visit::Wrote => b'W',
@@ -121,8 +123,9 @@ fn letter_of(visit: Visit) -> u8 {
     }
 }
 
-/// Every other call of a link is empty: it answers `Later`. A read or a write moves one byte. A guest
-/// that has ended is visited twice more.
+/// Every other call of a link is empty: it answers `Later`. A read or a write passes one byte.
+///
+/// A guest that has ended is visited twice more.
 const COURSES: [Course; 6] = [
     Course {
         input: "get a\r\n",
@@ -132,7 +135,7 @@ const COURSES: [Course; 6] = [
         steps: 1,
         answers: "RLRLRLRLRLRLRTLWLWLWLWLWLSSS",
     },
-    // A get of two keys is two turns, of which the first has no text.
+    // A get of two keys is two turns; the first has no text.
     Course {
         input: "get a b\n",
         output: "END\r\n",
@@ -158,7 +161,7 @@ const COURSES: [Course; 6] = [
         steps: 0,
         answers: "RLBBB",
     },
-    // The first write fails; the step stands.
+    // The first write fails; the step was taken.
     Course {
         input: "get a\r\n",
         output: "END\r\n",
@@ -177,8 +180,10 @@ const COURSES: [Course; 6] = [
     },
 ];
 
-/// Visits a guest once for each letter, and returns whether each answered as its letter says, was
-/// the guest's last answer then, and moved one byte of output if it wrote, and none if it didn't.
+/// Visits a guest once for each letter, and returns whether each answer is its letter's.
+///
+/// The answer must also be the guest's last answer. A write must pass one byte of output, and any
+/// other answer none.
 fn goes_as(alloc: Global, store: &mut Counting, course: &Course) -> Result<bool, AllocError> {
     let now = Moment::from_seconds_at_most(1000);
     let seen = Cell::new((0, 0));
@@ -213,7 +218,7 @@ fn visits_do_what_is_due(rt: HostRuntime) -> Result<(), Fail> {
     Ok(())
 }
 
-/// A link that fills each piece with bytes that nobody knows. How long the last piece was is seen.
+/// A link that fills each piece with unspecified bytes, and notes the length of the last piece.
 #[derive(Drop)]
 struct Flood<'a> {
     piece: &'a AtomicU64,

@@ -12,21 +12,22 @@ pub(crate) struct Ask<'a> {
     pub(crate) at: u32,
 }
 
-/// What a look at a shelf found out about a step.
+/// The result of looking a step up at a shelf.
 #[derive(Drop)]
 pub(crate) enum Looked<'a> {
-    /// What comes next at its key.
+    /// What the step does at its key.
     Planned(Plan<'a>),
-    /// Memory for a write's entry was refused. Whether the write can succeed is known only at the
-    /// desk, where it is looked up again.
+    /// Memory for a write's entry was refused.
+    ///
+    /// Only the desk knows whether the write can succeed, so the step is looked up again there.
     AskAgainAtDesk,
 }
 
 /// Why a step wasn't taken.
 #[derive(Drop)]
 pub(crate) enum Untaken<B: Drop> {
-    /// A bay was held by another.
+    /// Another caller holds a bay.
     Met(B),
-    /// Memory was refused, or the unique numbers are spent.
+    /// Memory was refused, or the unique numbers are used up.
     Refused(StepFault),
 }

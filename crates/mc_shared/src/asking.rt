@@ -1,4 +1,4 @@
-//! A caller that takes steps as a session asks for them.
+//! A caller that takes steps as a session needs them.
 ghost use Rattle.std.specs.Prelude.{◌≡◌, ◌<◌, ◌≤◌, length, Err, IfOk, IfErr, OnErr};
 ghost use Rattle.mc_protocol.specs.Commands.{key_of};
 ghost use Rattle.mc_shared.specs.Asking.{AsksOnce, AsksStep, AsksInVain};
@@ -17,8 +17,9 @@ use std::marker::Model;
 use std::sync::Wait;
 
 impl<K: KeyHash + Drop> Shared<K> {
-    /// Agrees with a caller on its past: there is a legal history that keeps it. Nothing changes,
-    /// nothing is waited for, and no memory is taken.
+    /// States that there is a legal history that keeps a caller's past.
+    ///
+    /// Nothing changes. It waits for nothing, and takes no memory.
     pub fn agree(&self, caller: &mut Caller)
         requires { caller.old.table ≡ self.now.table }
         ensures same { (caller.new.table ≡ caller.old.table) × (caller.new.past ≡ caller.old.past) }
@@ -28,8 +29,9 @@ impl<K: KeyHash + Drop> Shared<K> {
     }
 }
 
-/// A caller with its store, its gate and leave to wait. Contracts see whose it is, what the store
-/// began with, and the past.
+/// A caller with its store, its gate and the right to wait.
+///
+/// Contracts see the caller's identity, what the store began with, and the past.
 #[derive(Drop)]
 pub struct Asking<'a, R: Wait, K: KeyHash + Drop, G: Gate> {
     rt: &'a R,
@@ -57,7 +59,7 @@ impl<'a, R: Wait, K: KeyHash + Drop, G: Gate> Model for Asking<'a, R, K, G> {
 }
 
 impl<'a, R: Wait, K: KeyHash + Drop, G: Gate> Asking<'a, R, K, G> {
-    /// Makes of a caller one that asks its store, with a gate and leave to wait.
+    /// Returns a caller with its store, a gate and the right to wait.
     pub fn new(rt: &'a R, shared: &'a Shared<K>, caller: Caller, gate: &'a G) -> Asking<'a, R, K, G>
         requires own { caller.table ≡ shared.now.table }
         ensures { result ≡ record {
@@ -75,7 +77,7 @@ impl<'a, R: Wait, K: KeyHash + Drop, G: Gate> Asking<'a, R, K, G> {
         }
     }
 
-    /// Gives the caller back, with its past.
+    /// Returns the caller, with its past.
     pub fn into_caller(self) -> Caller
         ensures { (result.table ≡ self.entry.table) × (result.past ≡ self.entry.past) }
     {
@@ -83,8 +85,9 @@ impl<'a, R: Wait, K: KeyHash + Drop, G: Gate> Asking<'a, R, K, G> {
         caller
     }
 
-    /// Agrees with the store on the caller's past: there is a legal history that keeps it. Nothing
-    /// changes, and nothing is waited for.
+    /// States that there is a legal history that keeps the caller's past.
+    ///
+    /// Nothing changes, and it waits for nothing.
     pub fn agree(&mut self)
         ensures same { self.new ≡ self.old }
         ensures kept { Agrees (start_of K.hash_of self.new.began) self.new.past }
@@ -92,14 +95,14 @@ impl<'a, R: Wait, K: KeyHash + Drop, G: Gate> Asking<'a, R, K, G> {
         self.shared.agree(&mut self.caller);
     }
 
-    /// Tells how many shelves the store has.
+    /// Returns the number of the store's shelves.
     pub fn shelves(&self) -> u32
         ensures { result ≡ self.now.began.settings.shelves }
     {
         self.shared.shelves()
     }
 
-    /// Tells the shelf of a key.
+    /// Returns the shelf of a key.
     pub fn shelf_of(&self, key: &[u8]) -> u32
         ensures shelf { result ≡ shelf_in (start_of K.hash_of self.now.began) key.now }
         ensures inside { result < self.now.began.settings.shelves }
@@ -107,7 +110,7 @@ impl<'a, R: Wait, K: KeyHash + Drop, G: Gate> Asking<'a, R, K, G> {
         self.shared.shelf_of(key)
     }
 
-    /// Moves up to `n` entries of a shelf's old table, and answers how many it moved.
+    /// Moves up to `n` entries of a shelf's old table, and returns how many it moved.
     pub fn grow(&mut self, shelf: u32, n: usize) -> usize
         requires { shelf < self.old.began.settings.shelves }
         ensures same { self.new ≡ self.old }
@@ -116,8 +119,9 @@ impl<'a, R: Wait, K: KeyHash + Drop, G: Gate> Asking<'a, R, K, G> {
         self.shared.grow(self.rt, &mut self.caller, shelf, n)
     }
 
-    /// Does what `grow` does at the shelf of the last step. If that step left none of the shelf's
-    /// entries to move, no shelf is taken.
+    /// Moves entries as `grow` does, at the shelf of the last step.
+    ///
+    /// If that step left no entry of the shelf to move, no shelf is taken.
     pub fn grow_after(&mut self, n: usize) -> usize
         ensures same { self.new ≡ self.old }
         ensures moved { result ≤ n }

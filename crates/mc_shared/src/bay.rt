@@ -1,8 +1,8 @@
-//! What lies in the slots of the table.
+//! The content of the table's slots.
 use crate::boxed::Boxed;
 use mc_shelf::{Desk, Shelf};
 
-/// What a bay has: one of the shelves, or the desk that they share.
+/// The content of a bay: one of the shelves, or the desk that they share.
 #[derive(Drop)]
 pub enum Bay {
     Shelf(Boxed<Shelf>),

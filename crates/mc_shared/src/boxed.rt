@@ -1,4 +1,6 @@
 //! A value on the heap.
+//!
+//! A bay holds its shelf or desk in a box, so taking it and giving it back moves a pointer.
 ghost use Rattle.std.specs.Prelude.{◌≡◌, IfOk};
 ghost use Rattle.mc_shelf.specs.Numbers.{HasPlaces, KeysAreCounted};
 ghost use Rattle.mc_shelf.specs.Bare.{IsBare};
@@ -11,7 +13,7 @@ use mc_time::Moment;
 use std::alloc::{AllocError, Global};
 use std::marker::Model;
 
-/// A value on the heap, so that a pointer alone is moved. Contracts see the value.
+/// A value on the heap, so that only a pointer is moved. Contracts see the value.
 #[derive(Drop)]
 pub struct Boxed<T: Drop> {
     inner: Box<T>,
@@ -26,7 +28,7 @@ impl<T: Drop> Model for Boxed<T> {
 }
 
 impl<T: Drop> Boxed<T> {
-    /// Puts a value on the heap. The one error is a refused allocation; the value is then dropped.
+    /// Puts a value on the heap. The only error is a refused allocation; the value is then dropped.
     pub fn new(alloc: Global, value: T) -> Result<Boxed<T>, AllocError>
         ensures { IfOk result (λ b. b ≡ value) }
     {
@@ -34,14 +36,14 @@ impl<T: Drop> Boxed<T> {
         Ok(Boxed { inner })
     }
 
-    /// Makes one of a box.
+    /// Returns the value of a box.
     pub fn of(inner: Box<T>) -> Boxed<T>
         ensures { result ≡ inner.value }
     {
         Boxed { inner }
     }
 
-    /// Gives the box.
+    /// Returns the box.
     pub fn into_box(self) -> Box<T>
         ensures { result.value ≡ self }
     {
@@ -60,7 +62,7 @@ impl Boxed<Shelf> {
         self.inner.flush(delay, now, desk);
     }
 
-    /// Puts a shelf of no items in its place, as its own `emptied_by` does.
+    /// Replaces the shelf by an empty one, as its own `emptied_by` does.
     pub(crate) fn emptied_by(&mut self, bare: Shelf) -> Shelf
         requires { IsBare bare }
         ensures before { result ≡ self.old }

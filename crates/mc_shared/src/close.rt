@@ -1,4 +1,4 @@
-//! The store is closed.
+//! Closing the store.
 ghost use Rattle.std.specs.Prelude.{◌≡◌, ◌<◌, ◌≤◌, [], ℕ, vec_len, vec_capacity, IfOk, IfErr, Err};
 ghost use Rattle.mc_shared.specs.Shown.{SharedState, CallerState};
 ghost use Rattle.mc_shared.specs.History.{start_of};
@@ -15,16 +15,16 @@ use mc_hop::KeyHash;
 use mc_shelf::{Desk, Shelf, Store, StoreParts};
 use std::alloc::Global;
 
-/// Why a store was not closed.
+/// Why a store wasn't closed.
 #[derive(Drop)]
 pub enum CloseFault<K: KeyHash + Drop> {
-    /// A growth was refused. Both are as they were.
+    /// An allocation was refused. Both are unchanged.
     NoMemory(Shared<K>, Caller),
-    /// The bay was held: its word was seen to be odd. The store is dropped.
+    /// The bay was held: its word was odd. The store is dropped.
     Held { bay: usize, word: u64 },
 }
 
-/// Takes all shelves, in rising order, or tells which was taken.
+/// Takes all shelves, in rising order, or returns the bay that was held and its word.
 fn take_all<K: KeyHash + Drop>(
     board: &Board<K>,
     seat: &mut Seat,
@@ -51,7 +51,7 @@ fn take_all<K: KeyHash + Drop>(
     Ok(held)
 }
 
-/// Takes all shelves and the desk, or tells which was taken.
+/// Takes all shelves and the desk, or returns the bay that was held and its word.
 fn gather<K: KeyHash + Drop>(
     board: &Board<K>,
     seat: &mut Seat,
@@ -79,9 +79,10 @@ fn gather<K: KeyHash + Drop>(
 }
 
 impl<K: KeyHash + Drop> Shared<K> {
-    /// Closes the store, and gives one of one thread with the state after a legal history that
-    /// keeps the caller's past. What other callers hold isn't waited for: a bay that is held
-    /// refuses it.
+    /// Closes the store, and returns a store of one thread.
+    ///
+    /// Its state is that after a legal history that keeps the caller's past. It doesn't wait for
+    /// other callers: if one holds a bay, the error is `Held`.
     pub fn close(self, alloc: Global, caller: Caller) -> Result<Store<K>, CloseFault<K>>
         requires { caller.table ≡ self.table }
         ensures set_up { IfOk result (λ store. (store.settings ≡ self.began.settings)

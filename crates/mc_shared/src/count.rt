@@ -1,4 +1,4 @@
-//! How many keys of each number shelves hold, and the presence words of many numbers at once.
+//! Counts of keys by number, and changes of many presence words at once.
 ghost use Rattle.std.specs.Prelude.{◌≡◌, ◌-◌, ◌%◌, ◌<◌, ◌++◌, ℕ, List, [], length, replicate};
 ghost use Rattle.std.specs.Prelude.{slice_index};
 ghost use Rattle.mc_protocol.specs.Plain.{Plain, flushed};
@@ -16,14 +16,14 @@ use crate::steps::{NUMBERS, count, lower_all, word_at};
 use mc_hop::KeyHash;
 use mc_shelf::Shelf;
 
-/// Makes a place for each number, with 0 there.
+/// Returns 0 for each number.
 fn no_counts() -> [u64; NUMBERS]
     ensures { AreNone result }
 {
     [0; NUMBERS]
 }
 
-/// Counts a shelf's keys of each number. The cost is that of one pass over its items.
+/// Counts a shelf's keys of each number. It costs one pass over its items.
 pub(crate) fn count_shelf(shelf: &Shelf) -> [u64; NUMBERS]
     ensures { AreCountsOf shelf.now.content result }
 {
@@ -32,8 +32,7 @@ pub(crate) fn count_shelf(shelf: &Shelf) -> [u64; NUMBERS]
     counts
 }
 
-/// Counts the keys of each number of all shelves that are the parts of a state. The cost is that of
-/// one pass over all items.
+/// Counts the keys of each number of all shelves of a state. It costs one pass over all items.
 pub(crate) fn count_shelves(shelves: &[Shelf]) -> [u64; NUMBERS]
     requires { (hash_of : List ℕ → ℕ) × (state : Plain) × AreAllOf hash_of state shelves.now }
     ensures { AreCountsOfAll shelves.now result }
@@ -45,7 +44,7 @@ pub(crate) fn count_shelves(shelves: &[Shelf]) -> [u64; NUMBERS]
     counts
 }
 
-/// Counts the same of shelves that are in boxes.
+/// Counts the same for boxed shelves.
 pub(crate) fn count_boxes(shelves: &[Boxed<Shelf>]) -> [u64; NUMBERS]
     requires { (hash_of : List ℕ → ℕ) × (state : Plain) × AreAllOf hash_of state shelves.now }
     ensures { AreCountsOfAll shelves.now result }
@@ -57,8 +56,9 @@ pub(crate) fn count_boxes(shelves: &[Boxed<Shelf>]) -> [u64; NUMBERS]
     counts
 }
 
-/// Counts the keys of each number that a flush after this delay left. If it was one at once there
-/// are none, and no item is looked at; else the cost is that of one pass over all items.
+/// Counts the keys of each number after a flush with this delay.
+///
+/// Without a delay there are none, and no item is read; otherwise it costs one pass over all items.
 pub(crate) fn count_left(shelves: &[Boxed<Shelf>], delay: u64) -> [u64; NUMBERS]
     requires { (hash_of : List ℕ → ℕ) × (state : Plain) × (now : ℕ)
         × AreAllOf hash_of (flushed delay state now) shelves.now }
@@ -70,8 +70,9 @@ pub(crate) fn count_left(shelves: &[Boxed<Shelf>], delay: u64) -> [u64; NUMBERS]
     count_boxes(shelves)
 }
 
-/// Reads off its word how many keys have each number. All shelves are held. The cost is that of 4096
-/// loads, whatever stands.
+/// Returns how many keys have each number, by the numbers' words. All shelves must be held.
+///
+/// It costs 4096 loads.
 pub(crate) fn count_words<K: KeyHash + Drop>(
     board: &Board<K>,
     seat: &mut Seat,
@@ -94,7 +95,7 @@ pub(crate) fn count_words<K: KeyHash + Drop>(
     counts
 }
 
-/// Reads the same of one shelf's numbers alone. The shelf is held.
+/// Returns the same for the numbers of one shelf, which must be held.
 pub(crate) fn count_words_at<K: KeyHash + Drop>(
     board: &Board<K>,
     seat: &mut Seat,
@@ -120,7 +121,9 @@ pub(crate) fn count_words_at<K: KeyHash + Drop>(
     counts
 }
 
-/// Lowers the word of a number by as many as it is named first, in one step.
+/// Lowers the word of a number by `count`, in one atomic step.
+///
+/// The surplus must begin with the word, `count` times.
 fn lower_number<K: KeyHash + Drop>(
     board: &Board<K>,
     seat: &mut Seat,
@@ -144,8 +147,9 @@ fn lower_number<K: KeyHash + Drop>(
     }
 }
 
-/// Lowers the words of all numbers whose keys went, each by as many as did. The cost is a look at
-/// each number, and a step in the table for each of which keys went, however many did.
+/// Lowers the words of all numbers by the keys that were removed.
+///
+/// It costs a comparison for each number, and one atomic step for each number with removed keys.
 pub(crate) fn lower_words<K: KeyHash + Drop>(
     board: &Board<K>,
     seat: &mut Seat,

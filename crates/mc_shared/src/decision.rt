@@ -1,12 +1,17 @@
-//! What is decided as a bay goes back.
+//! What is decided when a bay is given back.
+//!
+//! A decision is one lent value (a settled step, a begun step, a purge, a flush) that no code
+//! reads: contracts derive the history's entry and the shelves still held from it. So a slot never
+//! has anything lent.
 use crate::boxed::Boxed;
 use mc_protocol::{KeyStep, Reply};
 use mc_shelf::{Begun, Plan, Shelf};
 use mc_time::Moment;
 use std::snapshot::Snapshot;
 
-/// What was done, with the shelves that are still held then. The rule of the table reads it, and
-/// writes it down in the history.
+/// What was done, with the shelves that are still held.
+///
+/// The rule of the table reads it, and adds it to the history.
 #[derive(Drop)]
 pub(crate) enum Decision<'a> {
     /// A step that its key's shelf decided alone.
@@ -15,14 +20,16 @@ pub(crate) enum Decision<'a> {
         moment: Moment,
         reply: &'a Reply,
     },
-    /// A read whose key had no dead item in its shelf, which was so then. A hit of it was told.
+    /// A read whose key had no dead item in its shelf, as it was then. A hit was passed on.
     Read {
         step: &'a KeyStep<'a>,
         moment: Moment,
         shelf: &'a Snapshot<Shelf>,
     },
-    /// A step that the desk decided, begun at its key's shelf, which is held until it is finished. By
-    /// its key's presence word the shelf had so many items.
+    /// A step that the desk decided, begun at its key's shelf.
+    ///
+    /// The shelf is held until the step is finished. `word` and `had` are the key's presence word
+    /// and the number of the shelf's keys that it counts.
     Begun {
         step: &'a KeyStep<'a>,
         moment: Moment,
@@ -33,19 +40,20 @@ pub(crate) enum Decision<'a> {
         word: usize,
         had: usize,
     },
-    /// A purge that dropped items of a shelf, which is still held. Of each number it had so many before.
+    /// A purge that dropped items of a shelf, which is still held. `before` are its counts of keys
+    /// by number.
     Purged {
         at: u32,
         moment: Moment,
         shelf: &'a Shelf,
         before: &'a [u64],
     },
-    /// A purge of a shelf in which nothing was dead.
+    /// A purge of a shelf without dead items.
     NoneDead {
         at: u32,
         moment: Moment,
     },
-    /// A flush of all shelves, which are still held. Of each number they had so many before.
+    /// A flush of all shelves, which are still held. `before` are their counts of keys by number.
     Flushed {
         delay: u64,
         moment: Moment,

@@ -1,4 +1,7 @@
-//! All shelves are held at once.
+//! Flushes, which hold all shelves at once.
+//!
+//! An immediate flush has its new shelves made before it takes a bay, so memory is refused before
+//! it has begun. A delayed flush walks the items.
 ghost use Rattle.std.specs.Prelude.{ℕ, List, ◌≡◌, ◌<◌, ◌≤◌, []};
 ghost use Rattle.std.specs.Prelude.{length, vec_len, vec_capacity, IfOk, IfSome, OnErr};
 ghost use Rattle.std.specs.List.{All};
@@ -30,7 +33,7 @@ use mc_time::Moment;
 use std::alloc::{AllocError, Global};
 use std::sync::Wait;
 
-/// Takes all shelves, in rising order.
+/// Takes all shelves, in rising order, and waits for each.
 fn hold_all<K: KeyHash + Drop, R: Wait>(
     rt: &R,
     board: &Board<K>,
@@ -54,7 +57,7 @@ fn hold_all<K: KeyHash + Drop, R: Wait>(
     held
 }
 
-/// Gives back all shelves, the last one first.
+/// Gives all shelves back, the last one first.
 fn give_all<K: KeyHash + Drop>(board: &Board<K>, seat: &mut Seat, mut held: Vec<Boxed<Shelf>>)
     requires seat { IsSeatOf board.now.shared.table_id board.now.shared.key.value seat.old }
     requires count { vec_len held ≤ board.now.shared.key.value.settings.shelves }
@@ -68,7 +71,7 @@ fn give_all<K: KeyHash + Drop>(board: &Board<K>, seat: &mut Seat, mut held: Vec<
     }
 }
 
-/// Flushes a state by its parts, as `flush_parts` does, where each shelf is in a box.
+/// Flushes a state by its parts, as `flush_parts` does, with each shelf in a box.
 fn flush_boxes(shelves: &mut [Boxed<Shelf>], desk: &mut Desk, delay: u64, now: Moment)
     requires { (hash_of : List ℕ → ℕ) × (state : Plain) × (count : ℕ)
         × ArePartsOf hash_of state shelves.old count desk.old }
@@ -81,17 +84,17 @@ fn flush_boxes(shelves: &mut [Boxed<Shelf>], desk: &mut Desk, delay: u64, now: M
     }
 }
 
-/// Shelves of no items, and room for those in whose places they come.
+/// Empty shelves, and room for the shelves that they replace.
 #[derive(Drop)]
 struct Fresh {
     shelves: Vec<Shelf>,
     aside: Vec<Shelf>,
 }
 
-/// How many times as many shelves as a store has may lie aside.
+/// The most shelves aside, as a multiple of the store's shelves.
 const TIMES: usize = 4;
 
-/// Makes so many shelves of no items. The one error is a refused allocation.
+/// Makes `count` empty shelves. The only error is a refused allocation.
 fn bare_shelves(alloc: Global, count: usize, greatest: u64) -> Result<Vec<Shelf>, AllocError>
     requires { greatest ≤ 8388608 }
     ensures { IfOk result (λ list. (vec_len list ≡ count) × All IsBare list.items) }
@@ -103,8 +106,9 @@ fn bare_shelves(alloc: Global, count: usize, greatest: u64) -> Result<Vec<Shelf>
     Ok(list)
 }
 
-/// Makes what a flush at once puts in the places of so many shelves, and nothing for a later one. The
-/// one error is a refused allocation.
+/// Makes the shelves for an immediate flush, and nothing for a delayed one.
+///
+/// The only error is a refused allocation.
 fn fresh_for(
     alloc: Global,
     delay: u64,
@@ -126,7 +130,7 @@ fn fresh_for(
     Ok(Some(Fresh { shelves, aside }))
 }
 
-/// Puts shelves of no items in the places of others, and answers these, in their order.
+/// Replaces shelves by empty ones, and returns the old ones in order.
 fn empty_boxes(shelves: &mut [Boxed<Shelf>], fresh: Fresh) -> Vec<Shelf>
     requires many { length shelves.old ≤ vec_len fresh.shelves }
     requires bare { All IsBare fresh.shelves.items }
@@ -145,8 +149,9 @@ fn empty_boxes(shelves: &mut [Boxed<Shelf>], fresh: Fresh) -> Vec<Shelf>
     aside
 }
 
-/// Flushes shelves that are with the desk the parts of a state at once: the desk lays them aside, and
-/// the cost doesn't grow with their items.
+/// Flushes the shelves of a state with the desk at once: the desk lays them aside.
+///
+/// The cost doesn't grow with their items.
 fn flush_at_once(held: &mut Vec<Boxed<Shelf>>, desk: &mut Desk, fresh: Fresh)
     requires parts { (hash_of : List ℕ → ℕ) × (state : Plain) × (count : ℕ)
         × ArePartsOf hash_of state held.old.items count desk.old }
@@ -162,7 +167,7 @@ fn flush_at_once(held: &mut Vec<Boxed<Shelf>>, desk: &mut Desk, fresh: Fresh)
     desk.lay_aside(aside);
 }
 
-/// Flushes shelves that are with the desk the parts of a state, after a delay.
+/// Flushes the shelves of a state with the desk after a delay.
 fn flush_later(held: &mut Vec<Boxed<Shelf>>, desk: &mut Desk, delay: u64, now: Moment)
     requires { (hash_of : List ℕ → ℕ) × (state : Plain) × (count : ℕ)
         × ArePartsOf hash_of state held.old.items count desk.old }
@@ -174,7 +179,7 @@ fn flush_later(held: &mut Vec<Boxed<Shelf>>, desk: &mut Desk, delay: u64, now: M
     flush_boxes(held.as_mut_slice(), desk, delay, now);
 }
 
-/// Flushes shelves that are with the desk the parts of a state.
+/// Flushes the shelves of a state with the desk.
 fn flush_held(
     held: &mut Vec<Boxed<Shelf>>,
     desk: &mut Desk,
@@ -199,16 +204,16 @@ fn flush_held(
     }
 }
 
-/// Room for the shelves that a flush holds: as many as the store has; and if it is at once, what
-/// comes in their places.
+/// Room for the shelves that a flush holds, and for an immediate flush the empty shelves.
 struct Room {
     held: Vec<Boxed<Shelf>>,
     count: usize,
     fresh: Option<Fresh>,
 }
 
-/// A flush, for which all shelves and the desk are held at once. The words of the keys that went are
-/// lowered before a shelf goes back.
+/// Takes a flush, which holds all shelves and the desk at once.
+///
+/// The words of the removed keys are lowered before a shelf is given back.
 fn flush_by<K: KeyHash + Drop, R: Wait>(
     rt: &R,
     board: &Board<K>,
@@ -249,16 +254,18 @@ fn flush_by<K: KeyHash + Drop, R: Wait>(
 }
 
 impl<K: KeyHash + Drop> Shared<K> {
-    /// Flushes, all items at once or what stands by then after a delay in seconds, which is read as
-    /// an exptime is. It waits for what others hold: all shelves are held in their order, and then
-    /// the desk, so the flush is one step. It takes memory for as many pointers as there are
-    /// shelves, and one at once for as many empty shelves, each with room for 64 items, before it
-    /// holds any. The one error is a refused allocation, and the caller's past then stays. The cost
-    /// of one at once doesn't grow with the items: they are laid aside whole, and their chunks are
-    /// collected later, an item's with each write. One with a delay passes once over all items, and
-    /// once more if some may be dead. The presence words are read and lowered in at most two steps
-    /// for each of 4096 numbers, however many keys go.
-    // Its counts are of a size that each call of a caller it is inlined into would make room for.
+    /// Flushes: drops all items at once, or after a delay in seconds, which is read as an exptime.
+    ///
+    /// It waits for other callers: it takes all shelves in order, and then the desk, so the flush
+    /// is one step. It allocates one pointer for each shelf, and without a delay an empty shelf for
+    /// each, with room for 64 items, before it takes any. The only error is a refused allocation,
+    /// and the caller's past is then unchanged.
+    ///
+    /// The cost without a delay doesn't grow with the items: they are laid aside whole, and their
+    /// chunks are collected later, one item's with each write. A delayed flush passes once over all
+    /// items, and once more if some may be dead. The presence words are read and lowered in at most
+    /// two atomic steps for each of 4096 numbers, however many keys are removed.
+    // Not inlined: its arrays of counts would enlarge the stack frame of every caller.
     #[inline(never)]
     pub fn flush<R: Wait>(
         &self,
@@ -275,7 +282,7 @@ impl<K: KeyHash + Drop> Shared<K> {
         ensures err { OnErr result (caller.new.past ≡ caller.old.past) }
         ensures agrees { Agrees (start_of K.hash_of self.now.began) caller.new.past }
     {
-        // Not inlined: its counts are of a size that each call of a caller would make room for.
+        // Not inlined: its arrays of counts would enlarge the stack frame of every caller.
         match self.room(alloc, delay) {
             Ok(room) => {
                 flush_by(rt, &self.board, &mut caller.seat, room, delay, now);
@@ -288,8 +295,9 @@ impl<K: KeyHash + Drop> Shared<K> {
         }
     }
 
-    /// Makes room for all shelves, in their boxes, and if a flush is at once, what comes in their
-    /// places. The one error is a refused allocation.
+    /// Makes room for all boxed shelves, and the empty shelves of an immediate flush.
+    ///
+    /// The only error is a refused allocation.
     fn room(&self, alloc: Global, delay: u64) -> Result<Room, AllocError>
         ensures room { IfOk result (λ room. (room.count ≡ self.now.began.settings.shelves)
             × (room.held.items ≡ []) × (room.count ≤ vec_capacity room.held)) }

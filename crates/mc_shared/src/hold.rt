@@ -1,5 +1,8 @@
-//! What is held for a caller: a shelf, or a shelf and the desk. A hold owns the caller's seat until it
-//! gives the caller back, and none can be dropped.
+//! Bays that are held for a caller: a shelf, or a shelf and the desk.
+//!
+//! A hold owns its caller's seat until it returns the caller, and can't be dropped.
+//! `core::mem::replace_with` takes the caller out of its place and puts it back. A guard over a
+//! lent seat would have to prove at its end what the seat became.
 ghost use Rattle.std.specs.Prelude.{◌≡◌, ◌<◌, ℕ, IfOk, IfErr};
 ghost use Rattle.mc_shared.specs.History.{start_of};
 ghost use Rattle.mc_shared.specs.Steps.{Agrees, BelongsAt};
@@ -18,8 +21,7 @@ use mc_shelf::{Desk, Shelf};
 use std::marker::Model;
 use std::sync::Wait;
 
-/// A shelf that is held. Contracts see of which store, for a caller with which past, which shelf it
-/// is and what it holds.
+/// A held shelf. Model: the store, the caller's past, the shelf's number and its content.
 pub(crate) struct AtShelf<'a, K: KeyHash + Drop> {
     pub(crate) shared: &'a Shared<K>,
     pub(crate) seat: Seat,
@@ -45,7 +47,7 @@ impl<'a, K: KeyHash + Drop> Model for AtShelf<'a, K> {
     ghost invariant = { λ h. HoldsShelf K.hash_of h.shared.now h.seat h.at h.shelf.value.content };
 }
 
-/// A shelf and the desk that are held. Contracts see what the desk has, too.
+/// A held shelf and the held desk. Its model has the desk's content too.
 pub(crate) struct AtBoth<'a, K: KeyHash + Drop> {
     pub(crate) shared: &'a Shared<K>,
     pub(crate) seat: Seat,
@@ -75,7 +77,7 @@ impl<'a, K: KeyHash + Drop> Model for AtBoth<'a, K> {
 }
 
 impl<K: KeyHash + Drop> Shared<K> {
-    /// Takes a shelf for a caller, who comes back if another holds it.
+    /// Takes a shelf for a caller; returns the caller if another caller holds the shelf.
     pub(crate) fn hold_shelf<B: Drop, P: Patience<B>>(
         &self,
         patience: &P,
@@ -129,7 +131,7 @@ impl<K: KeyHash + Drop> Shared<K> {
 }
 
 impl<'a, K: KeyHash + Drop> AtShelf<'a, K> {
-    /// Gives the shelf back, as it was but for its growth.
+    /// Gives the shelf back, unchanged except for its growth, and returns the caller.
     pub(crate) fn give_back(self) -> Caller
         ensures caller { result ≡ caller_of self.entry.shared self.entry.past }
         ensures agrees { Agrees (start_of K.hash_of self.entry.shared.began) result.past }
@@ -150,7 +152,7 @@ impl<'a, K: KeyHash + Drop> AtShelf<'a, K> {
         Caller { seat, grows }
     }
 
-    /// Takes the desk, too. The shelf stays held if another holds the desk.
+    /// Takes the desk too. If another caller holds the desk, the shelf stays held.
     pub(crate) fn take_desk<B: Drop, P: Patience<B>>(
         self,
         patience: &P,
@@ -191,7 +193,7 @@ impl<'a, K: KeyHash + Drop> AtShelf<'a, K> {
 }
 
 impl<'a, K: KeyHash + Drop> AtShelf<'a, K> {
-    /// Takes the desk, too, and waits until it is free.
+    /// Takes the desk too, and waits until it is free.
     pub(crate) fn wait_for_desk<R: Wait>(self, rt: &R) -> AtBoth<'a, K>
         ensures { without_desk result ≡ self.entry }
     {
@@ -203,7 +205,7 @@ impl<'a, K: KeyHash + Drop> AtShelf<'a, K> {
 }
 
 impl<'a, K: KeyHash + Drop> AtBoth<'a, K> {
-    /// Gives the desk back, as it was. The shelf stays held.
+    /// Gives the desk back unchanged. The shelf stays held.
     pub(crate) fn give_desk(self) -> AtShelf<'a, K>
         ensures { result ≡ without_desk self.entry }
     {
@@ -231,7 +233,7 @@ impl<'a, K: KeyHash + Drop> AtBoth<'a, K> {
     }
 }
 
-/// The shelf that lies in a bay of one.
+/// Returns the shelf of a bay.
 pub(crate) fn shelf_from(bay: Bay, at: usize, shelves: usize) -> Box<Shelf>
     requires { BelongsAt shelves at bay × (at < shelves) }
     ensures { bay ≡ Held.Shelf result.value }
@@ -242,7 +244,7 @@ pub(crate) fn shelf_from(bay: Bay, at: usize, shelves: usize) -> Box<Shelf>
     }
 }
 
-/// The desk that lies in its bay.
+/// Returns the desk of a bay.
 pub(crate) fn desk_from(bay: Bay, shelves: usize) -> Box<Desk>
     requires { BelongsAt shelves shelves bay }
     ensures { bay ≡ Held.Desk result.value }

@@ -1,4 +1,8 @@
-//! How a bay is taken that another may hold: it is tried once, or waited for.
+//! How a bay is taken that another caller may hold: by one try, or by waiting.
+//!
+//! `Once` returns the bay that is held. `Waiting` looks for about 15 microseconds, then sleeps 50
+//! microseconds at a time, and after 64 sleeps 1 ms. Yielding instead gave the processor away for
+//! milliseconds. Nobody wakes a waiter: each step would have to look for one.
 ghost use Rattle.std.specs.Prelude.{◌≡◌, ◌≤◌, None, IfSome};
 ghost use Rattle.mc_shared.specs.History.{start_of};
 ghost use Rattle.mc_shared.specs.Steps.{HasTaken};
@@ -13,18 +17,18 @@ use std::hint;
 use std::sync::Wait;
 use std::time::Duration;
 
-/// How often a bay that is held is looked at before one that waits for it sleeps.
+/// The number of looks at a held bay before a waiter sleeps.
 const LOOKS: u32 = 10;
 
-/// The most that pauses double between two looks: 64 pauses are the longest.
+/// How often the pause between two looks doubles. The longest is 64 spins.
 const DOUBLINGS: u32 = 6;
 
-/// How often one that waits sleeps for a short time, before it sleeps for longer.
+/// The number of short sleeps before longer ones.
 const SHORT_TURNS: u32 = 64;
 
-/// A hook for tests, called once while a step holds its shelf. The program has none: [`NoGate`].
+/// A hook for tests, called once while a step holds its shelf. The program uses [`NoGate`].
 pub trait Gate {
-    /// Runs while a step's shelf, counted from 0, is held: others who want the shelf wait for it.
+    /// Runs while a step's shelf, counted from 0, is held: other callers wait for the shelf.
     fn inside(&self, shelf: u32);
 }
 
@@ -35,7 +39,7 @@ impl Gate for NoGate {
     fn inside(&self, _shelf: u32) {}
 }
 
-/// How a bay is taken. `B` is what is told of a bay that another holds.
+/// How a bay is taken. `B` is the error if another caller holds it.
 pub(crate) trait Patience<B> {
     ghost use Rattle.std.specs.Prelude.{◌≡◌, ◌≤◌, ℕ, IfOk, IfErr};
     ghost use Rattle.mc_shared.specs.History.{Beginning, start_of};
@@ -44,10 +48,10 @@ pub(crate) trait Patience<B> {
     ghost use Rattle.mc_shared.specs.Steps.{HasTaken, Agrees};
     ghost use Rattle.mc_shared.specs.Seats.{SameSeat, IsAlive};
 
-    /// What is told of a bay that a caller with this past doesn't hold itself.
+    /// The error of a bay that the caller with this past doesn't hold itself.
     ghost busy: { Past → ℕ → B → Type 0 };
 
-    /// Takes a bay, or tells that another holds it.
+    /// Takes a bay, or returns an error if another caller holds it.
     fn take<K: KeyHash + Drop>(
         &self,
         board: &Board<K>,
@@ -66,18 +70,18 @@ pub(crate) trait Patience<B> {
     /// Returns whether a bay that was taken and given back is taken again.
     fn comes_again(&self) -> bool;
 
-    /// Is called once while a step's shelf is held.
+    /// Called once while a step's shelf is held.
     fn inside(&self, shelf: u32);
 }
 
-/// A bay that was held by another: its word was seen to be odd.
+/// A bay that another caller holds: its word was odd.
 #[derive(Drop)]
 pub(crate) struct Busy {
     pub(crate) bay: usize,
     pub(crate) word: u64,
 }
 
-/// Tries once, and waits for nobody.
+/// Tries once and never waits.
 #[derive(Drop)]
 pub(crate) struct Once;
 
@@ -105,7 +109,7 @@ impl Patience<Busy> for Once {
     fn inside(&self, _shelf: u32) {}
 }
 
-/// Waits for what others hold, with leave to do so, and a gate.
+/// Waits for other callers, by the right to wait, and has a gate.
 #[derive(Drop)]
 pub(crate) struct Waiting<'a, R: Wait, G: Gate> {
     pub(crate) rt: &'a R,
@@ -133,16 +137,17 @@ impl<'a, R: Wait, G: Gate> Patience<Infallible> for Waiting<'a, R, G> {
     }
 }
 
-/// Lets so many pauses pass.
+/// Spins `count` times.
 fn pause(count: u32) {
     for _ in 0..count {
         hint::spin_loop();
     }
 }
 
-/// Tries to take a bay, as most are free or given back soon. While it is held it is only looked at,
-/// after pauses that grow: a look leaves the word where it is, so that who holds it gives it back
-/// undisturbed.
+/// Tries to take a bay, first at once and then after growing pauses.
+///
+/// Most bays are free, or are given back soon. Between tries it only loads the word, which leaves
+/// the cache line with the holder.
 fn take_spinning<K: KeyHash + Drop>(board: &Board<K>, seat: &mut Seat, bay: usize) -> Option<Bay>
     requires seat { IsAlive board.now.shared.table_id board.now.shared.key.value seat.old }
     requires bay { bay ≤ board.now.shared.key.value.settings.shelves }
@@ -166,10 +171,11 @@ fn take_spinning<K: KeyHash + Drop>(board: &Board<K>, seat: &mut Seat, bay: usiz
     None
 }
 
-/// Sleeps for 50 microseconds at most, and if it waits for long, for a millisecond, so that a bay
-/// which is held for long, as in a flush, costs no core.
-// One that lets others have their turn by `yield_now` is back when they have used it up, which
-// takes milliseconds if threads are more than processors; one that slept runs at once.
+/// Sleeps for at most 50 microseconds, or for a millisecond after many turns.
+///
+/// So a bay that is held for long, as in a flush, costs no core.
+// `yield_now` returns only after the other threads used up their time slices, which takes
+// milliseconds if there are more threads than processors. A thread that slept runs at once.
 fn stand_aside<K: KeyHash + Drop, R: Wait>(rt: &R, board: &Board<K>, bay: usize, turns: u32)
     requires table { IsTableOf board.now.shared.table_id board.now.shared.key.value }
     requires bay { bay ≤ board.now.shared.key.value.settings.shelves }

@@ -1,4 +1,4 @@
-//! What each atomic step tells.
+//! The atomic steps on the table, and the ghost values that a call of each one picks.
 use crate::bay::Bay;
 use crate::view::View;
 use atomic_table::{Join, Play, Split};
@@ -17,8 +17,9 @@ impl Begins for Brand {
     ghost start = { nothing_began };
 }
 
-/// What is decided, what the bays that are still held then hold, and which words then show too many
-/// keys. Each deciding step picks it.
+/// The decision, the content of the bays still held, and the words that then count too many keys.
+///
+/// Each deciding step picks it.
 pub trait Says {
     ghost use Rattle.std.specs.Prelude.{ℕ, List};
     ghost use Rattle.mc_shared.specs.History.{Beginning, Operation};
@@ -46,7 +47,8 @@ impl Says for Brand {
     ghost surplus = { [] };
 }
 
-/// A key that is sought, when, and what the store began with. Each call of a step picks it.
+/// The key that is searched, the moment, and what the store began with. Each call of a step picks
+/// it.
 pub trait Seeks {
     ghost use Rattle.std.specs.Prelude.{ℕ, List};
     ghost use Rattle.mc_shared.specs.History.{Beginning};
@@ -87,7 +89,7 @@ impl Counts for Brand {
     ghost number = { 0 };
 }
 
-/// What the store began with, and which bay is taken. Each call that takes one picks it.
+/// What the store began with, and the bay that is taken. Each call that takes a bay picks it.
 pub trait Takes {
     ghost use Rattle.std.specs.Prelude.{ℕ};
     ghost use Rattle.mc_shared.specs.History.{Beginning};

@@ -1,4 +1,7 @@
-//! A miss is answered by one load, and no shelf is held.
+//! Misses that are decided by one load, without a shelf.
+//!
+//! A key's number is its hash modulo 4096, and a word counts the keys of each number. A word of 0
+//! decides a miss. A word may be one too high while its shelf is held, and is never too low.
 ghost use Rattle.std.specs.Prelude.{◌≡◌, true, false};
 ghost use Rattle.mc_protocol.specs.declared.step.KeyStep.{KeyStep as Step};
 ghost use Rattle.mc_protocol.specs.declared.reply.Reply.{Reply as Told};
@@ -11,9 +14,10 @@ use mc_hop::KeyHash;
 use mc_time::Moment;
 
 impl<K: KeyHash + Drop> Shared<K> {
-    /// Returns whether no key stands that has the key's number, its hash modulo 4096. If so the key
-    /// isn't there, and a read of it is decided, told as a miss; else nothing is decided. It waits
-    /// for nobody, holds nothing and takes no memory. The cost is the key's hash and one load.
+    /// Returns whether no key has the key's number, its hash modulo 4096.
+    ///
+    /// If so, the key has no item, and a read of it is decided as a miss; else nothing is decided.
+    /// It never waits, holds nothing and takes no memory. It costs the key's hash and one load.
     pub fn absent(&self, caller: &mut Caller, key: &[u8], now: Moment) -> bool
         requires own { caller.old.table ≡ self.now.table }
         ensures same { caller.new.table ≡ caller.old.table }
@@ -25,7 +29,7 @@ impl<K: KeyHash + Drop> Shared<K> {
         self.absent_hashed(caller, key, self.hasher.hash(key), now)
     }
 
-    /// Does what `absent` does, with the key's hash.
+    /// Returns the same, given the key's hash.
     pub(crate) fn absent_hashed(
         &self,
         caller: &mut Caller,

@@ -1,4 +1,4 @@
-//! A shelf's dead items are dropped, and its growth goes on.
+//! Purges of a shelf, and its growth.
 ghost use Rattle.std.specs.Prelude.{◌≡◌, ◌<◌, ◌≤◌, IfOk, IfErr};
 ghost use Rattle.mc_shared.specs.History.{start_of, Purged};
 ghost use Rattle.mc_shared.specs.Past.{call};
@@ -52,7 +52,7 @@ impl<'a, K: KeyHash + Drop> AtShelf<'a, K> {
         count_words_at(&shared.board, &mut self.seat, count, self.at as usize)
     }
 
-    /// Moves up to `n` entries of the shelf's old table, and answers how many it moved.
+    /// Moves up to `n` entries of the shelf's old table, and returns how many it moved.
     fn grow(&mut self, n: usize) -> usize
         ensures same { (self.new.shared ≡ self.old.shared) × (self.new.past ≡ self.old.past) }
         ensures moved { result ≤ n }
@@ -62,10 +62,11 @@ impl<'a, K: KeyHash + Drop> AtShelf<'a, K> {
 }
 
 impl<'a, K: KeyHash + Drop> AtShelf<'a, K> {
-    /// Drops the shelf's dead items. It had so many keys of each number before. The items are taken
-    /// off with the shelf alone, and the desk, for which it waits then, has their chunks back in one
-    /// step. The desk goes back with the decision, then the words of the keys that went are lowered,
-    /// and then the shelf goes back.
+    /// Drops the shelf's dead items. `before` are its counts of keys by number.
+    ///
+    /// The items are removed with the shelf alone. Then it waits for the desk, which gets their
+    /// chunks back in one step. The desk is given back with the decision, then the words of the
+    /// removed keys are lowered, and then the shelf is given back.
     fn purge<R: Wait>(self, rt: &R, now: Moment, before: &[u64]) -> Caller
         requires { AreCountsBy (K.hash_of self.shared.began.hasher) self.shelf.content before.now }
         ensures { HasPurged K.hash_of self.entry.shared self.entry.past self.entry.at now result }
@@ -97,8 +98,9 @@ impl<'a, K: KeyHash + Drop> AtShelf<'a, K> {
     }
 }
 
-/// Purges a shelf for a caller, who comes back. If nothing in it may be dead, no key is counted
-/// and the desk isn't taken.
+/// Purges a shelf for a caller, and returns the caller.
+///
+/// If nothing in the shelf may be dead, no key is counted and the desk isn't taken.
 fn tidy_for<K: KeyHash + Drop, R: Wait>(
     caller: Caller,
     asked: (&Shared<K>, &R, u32, &Moment),
@@ -118,7 +120,7 @@ fn tidy_for<K: KeyHash + Drop, R: Wait>(
     }
 }
 
-/// Moves entries of a shelf for a caller, who comes back. Nothing is decided.
+/// Moves entries of a shelf for a caller, and returns the caller. Nothing is decided.
 fn grow_for<K: KeyHash + Drop, R: Wait>(
     caller: Caller,
     asked: (&Shared<K>, &R, u32, usize),
@@ -136,11 +138,13 @@ fn grow_for<K: KeyHash + Drop, R: Wait>(
 }
 
 impl<K: KeyHash + Drop> Shared<K> {
-    /// Drops the items of a shelf that are dead at a moment. It waits for the shelf, and if an
-    /// item in it may be dead, for the desk. The cost is that of two passes over the shelf's items,
-    /// and if none may be dead it walks none. The desk is held for a few instructions for each item
-    /// that goes: the first pass, at the shelf alone, makes a list of their chunks, which has room
-    /// for one of each item. If that memory is refused the pass is made while the desk is held.
+    /// Drops the items of a shelf that are dead at a moment.
+    ///
+    /// It waits for the shelf, and if an item in it may be dead, for the desk. It costs two passes
+    /// over the shelf's items, and walks none if none may be dead. The desk is held for a few
+    /// instructions for each dropped item: the first pass, at the shelf alone, makes a list of
+    /// their chunks, with room for one of each item. If that memory is refused, the pass is made
+    /// while the desk is held.
     #[inline(never)]
     pub fn tidy<R: Wait>(&self, rt: &R, caller: &mut Caller, shelf: u32, now: Moment)
         requires own { caller.old.table ≡ self.now.table }
@@ -150,12 +154,13 @@ impl<K: KeyHash + Drop> Shared<K> {
             (entry_of caller.old.past (Purged shelf now)))
             × Agrees (start_of K.hash_of self.now.began) caller.new.past }
     {
-        // Not inlined: its counts are of a size that each call of a caller would make room for.
+        // Not inlined: its arrays of counts would enlarge the stack frame of every caller.
         replace_with(caller, (self, rt, shelf, &now), tidy_for);
     }
 
-    /// Moves up to `n` entries of a shelf's old table, and answers how many it moved. It waits for
-    /// the shelf. Nothing is decided, and no memory is taken. The cost grows with `n`.
+    /// Moves up to `n` entries of a shelf's old table, and returns how many it moved.
+    ///
+    /// It waits for the shelf. Nothing is decided, and it takes no memory. The cost grows with `n`.
     pub fn grow<R: Wait>(&self, rt: &R, caller: &mut Caller, shelf: u32, n: usize) -> usize
         requires own { caller.old.table ≡ self.now.table }
         requires shelf { shelf < self.now.began.settings.shelves }
@@ -166,8 +171,9 @@ impl<K: KeyHash + Drop> Shared<K> {
         replace_with(caller, (self, rt, shelf, n), grow_for)
     }
 
-    /// Does what `grow` does at the shelf of the caller's last step. If that step left none of the
-    /// shelf's entries to move, or it was done since, no shelf is taken.
+    /// Moves entries as `grow` does, at the shelf of the caller's last step.
+    ///
+    /// If that step left no entry of the shelf to move, or this was done since, no shelf is taken.
     pub fn grow_after<R: Wait>(&self, rt: &R, caller: &mut Caller, n: usize) -> usize
         requires own { caller.old.table ≡ self.now.table }
         ensures same { (caller.new.table ≡ caller.old.table) × (caller.new.past ≡ caller.old.past) }

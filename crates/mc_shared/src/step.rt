@@ -1,4 +1,8 @@
 //! A step on a key: at its shelf, and at the desk if that is needed.
+//!
+//! A refused look of a write isn't a reply yet: the step takes the desk and checks there for a
+//! number and chunks first, because these errors come before want of memory. A read gets its error
+//! at once. A purge that finds nothing dead, and a miss, are decided without the desk.
 ghost use Rattle.std.specs.Prelude.{◌≡◌, ◌≤◌, length, is_some, true, false, Err, IfOk, IfErr, IfSome, OnErr};
 ghost use Rattle.std.specs.FinMap.{get};
 ghost use Rattle.mc_protocol.specs.Commands.{key_of};
@@ -34,8 +38,9 @@ use std::marker::PhantomData;
 use std::sync::Wait;
 
 impl<'a, K: KeyHash + Drop> AtShelf<'a, K> {
-    /// Looks a step up. A read that is refused memory for the copy of its block is refused. From then
-    /// on it is known whether entries of the shelf are left to move.
+    /// Looks a step up, and notes whether entries of the shelf are left to move.
+    ///
+    /// A read fails if memory for the copy of its block is refused.
     fn look<'k>(&mut self, alloc: Global, ask: &Ask<'k>) -> Result<Looked<'k>, AllocError>
         requires asked { IsAsked K.hash_of self.old.shared ask.now }
         requires at { self.old.at ≡ ask.now.at }
@@ -58,7 +63,7 @@ impl<'a, K: KeyHash + Drop> AtShelf<'a, K> {
         }
     }
 
-    /// Answers a step that the shelf decides alone, and gives the shelf back with the decision.
+    /// Takes a step that the shelf decides alone, and gives the shelf back with the decision.
     fn settle(self, plan: Plan<'_>, ask: &Ask<'_>) -> (Caller, Reply)
         requires asked { IsAsked K.hash_of self.shared ask.now }
         requires at { self.at ≡ ask.now.at }
@@ -86,12 +91,14 @@ impl<'a, K: KeyHash + Drop> AtShelf<'a, K> {
         (Caller { seat, grows }, reply)
     }
 
-    /// Takes the desk for a step, with what the step brings: pages if it wants some, and chunks in
-    /// exchange for its item's if it copies out of those. They are made, up to 16 MiB that are
-    /// written, while nobody waits for the desk: the chunks before it is taken, and for pages it goes
-    /// back, and is taken again with them in hand. If memory is refused, or the desk is tried but
-    /// once, there are none: the step finds out at the desk, or copies there. Others may have changed
-    /// what is wanted by then, so both are a hint alone.
+    /// Takes the desk for a step, with memory that was allocated for it before.
+    ///
+    /// That memory is pages, if the step wants some, and chunks in exchange for its item's if it
+    /// copies out of those: up to 16 MiB, written while nobody waits for the desk. The chunks are
+    /// made before the desk is taken. For pages the desk is given back, and taken again with them
+    /// in hand. If memory is refused, or the desk is only tried once, there are none: the step then
+    /// allocates or copies at the desk. Others may have changed meanwhile what is wanted, so both
+    /// are only hints.
     fn take_desk_for<B: Drop, P: Patience<B>>(
         self,
         patience: &P,
@@ -128,8 +135,9 @@ impl<'a, K: KeyHash + Drop> AtShelf<'a, K> {
         }
     }
 
-    /// Makes chunks in exchange for those of a step's item, if the step copies out of these; none if
-    /// memory for them is refused.
+    /// Allocates chunks in exchange for those of a step's item, if the step copies out of these.
+    ///
+    /// It is `None` if memory for them is refused.
     fn exchange(&self, alloc: Global, looked: &Looked<'_>, ask: &Ask<'_>) -> Option<Chunks>
         requires { IsLooked looked.now self.now.shelf ask.now }
     {
@@ -141,7 +149,7 @@ impl<'a, K: KeyHash + Drop> AtShelf<'a, K> {
 }
 
 impl<'a, K: KeyHash + Drop> AtBoth<'a, K> {
-    /// Names the pages that a step wants, if it wants any.
+    /// Returns the pages that a step wants, or `None`.
     fn pages_wanted(&self, looked: &Looked<'_>, ask: &Ask<'_>) -> Option<Wanted>
         requires { IsLooked looked.now self.now.shelf ask.now }
         ensures { IfSome result (λ wanted. (1 ≤ wanted.pages) × (wanted.pages ≤ 8)) }
@@ -152,8 +160,10 @@ impl<'a, K: KeyHash + Drop> AtBoth<'a, K> {
         }
     }
 
-    /// Takes a step that the desk decides, with what was made for it. The desk goes back with the
-    /// decision, and the shelf when the step's block is copied; both as they were if it isn't taken.
+    /// Takes a step that the desk decides, with the memory allocated for it.
+    ///
+    /// The desk is given back with the decision, and the shelf once the step's block is copied.
+    /// Both are unchanged if the step isn't taken.
     fn take_step(
         self,
         alloc: Global,
@@ -212,7 +222,8 @@ impl<'a, K: KeyHash + Drop> AtBoth<'a, K> {
     }
 }
 
-/// Returns whether a step's key may come to stand in a shelf: it has no item there, or it isn't known.
+/// Returns whether a step may insert its key into a shelf: it has no item there, or that isn't
+/// known.
 fn may_come(looked: &Looked<'_>, shelf: &Shelf, ask: &Ask<'_>) -> bool
     requires { IsLooked looked.now shelf.now ask.now }
     ensures { is_some (get shelf.now.content.items (key_of ask.now.step.now)) ≡ false →
@@ -224,8 +235,10 @@ fn may_come(looked: &Looked<'_>, shelf: &Shelf, ask: &Ask<'_>) -> bool
     }
 }
 
-/// Begins a step at a shelf and the desk, by its plan. With none it is looked up again, and memory
-/// is asked for only if a number and the chunks that are needed are to be had.
+/// Begins a step at a shelf and the desk, by its plan.
+///
+/// Without a plan it is looked up again, and memory is used only if a number and the chunks are
+/// available.
 fn begin_step<'k>(
     alloc: Global,
     shelf: &mut Shelf,
@@ -251,7 +264,7 @@ fn begin_step<'k>(
     ensures err { OnErr result
         ((shelf.new.content ≡ shelf.old.content) × (desk.new ≡ desk.old)) }
 {
-    // what holds of every desk, for the proof
+    // for the proof: the invariant of the desk
     let _number = desk.next_unique();
     match looked {
         Looked::Planned(plan) => match shelf.begin(alloc, &plan, ask.step, desk, brought) {
@@ -277,7 +290,7 @@ pub(crate) fn is_read(step: &KeyStep<'_>) -> bool
     }
 }
 
-/// Takes a step for a caller, who comes back with the answer.
+/// Takes a step for a caller, and returns the caller with the reply.
 fn step_for<B: Drop, P: Patience<B>, K: KeyHash + Drop>(
     caller: Caller,
     asked: (&Shared<K>, &P, PhantomData<B>, Global, &Ask<'_>),
@@ -311,7 +324,7 @@ fn step_for<B: Drop, P: Patience<B>, K: KeyHash + Drop>(
 }
 
 impl<K: KeyHash + Drop> Shared<K> {
-    /// Takes a step on one key, with as much patience.
+    /// Takes a step on one key, with the given patience.
     fn step_by<B: Drop, P: Patience<B>>(
         &self,
         patience: &P,
@@ -329,7 +342,7 @@ impl<K: KeyHash + Drop> Shared<K> {
         self.step_asked(patience, alloc, caller, &ask)
     }
 
-    /// Makes of a step on one key what its shelf is asked.
+    /// Returns a step on one key with its hash and its shelf.
     pub(crate) fn ask<'k>(&self, step: &'k KeyStep<'k>, hash: u64, now: Moment) -> Ask<'k>
         requires on_key { IsOnKey step.now }
         requires short { length (key_of step.now) ≤ 250 }
@@ -345,7 +358,7 @@ impl<K: KeyHash + Drop> Shared<K> {
         }
     }
 
-    /// Takes a step on one key whose hash is known, with as much patience.
+    /// Takes a step on one key whose hash is known, with the given patience.
     pub(crate) fn step_asked<B: Drop, P: Patience<B>>(
         &self,
         patience: &P,
@@ -365,8 +378,10 @@ impl<K: KeyHash + Drop> Shared<K> {
         )
     }
 
-    /// Takes a step as `step_at` does. A read alone of a key that the key's number tells to be absent
-    /// is told as a miss with no shelf held, and then no gate is called.
+    /// Takes a step as `step_at` does, and decides a miss by the key's number if it can.
+    ///
+    /// That is so for a plain read of a key that `absent` reports. No shelf is held then, and no
+    /// gate is called.
     pub(crate) fn step_unless_absent<R: Wait, G: Gate>(
         &self,
         rt: &R,
@@ -395,8 +410,9 @@ impl<K: KeyHash + Drop> Shared<K> {
         }
     }
 
-    /// Returns whether a step is a read alone and its key's number tells the key to be absent: the step
-    /// is then taken, and told as a miss. Else nothing is decided.
+    /// Returns whether a step is a plain read whose key is absent by its number.
+    ///
+    /// The step is then taken as a miss. Otherwise nothing is decided.
     pub(crate) fn is_told_absent(
         &self,
         caller: &mut Caller,
@@ -417,9 +433,10 @@ impl<K: KeyHash + Drop> Shared<K> {
         }
     }
 
-    /// Tries a step on one key, and waits for nobody. The key's shelf and, if the step needs it,
-    /// the desk are held while it is taken. If it isn't taken, the caller's past stays, nothing
-    /// is decided and no bay is held.
+    /// Tries a step on one key, and never waits.
+    ///
+    /// The key's shelf and, if the step needs it, the desk are held while it is taken. After an
+    /// error the caller's past is unchanged, nothing is decided and no bay is held.
     pub fn try_step(
         &self,
         alloc: Global,
@@ -438,8 +455,9 @@ impl<K: KeyHash + Drop> Shared<K> {
         }
     }
 
-    /// Takes a step. It waits for what others hold. If it isn't taken, nothing is decided and no
-    /// bay is held.
+    /// Takes a step, and waits for other callers.
+    ///
+    /// After an error nothing is decided and no bay is held.
     pub fn step<R: Wait>(
         &self,
         rt: &R,
@@ -455,8 +473,9 @@ impl<K: KeyHash + Drop> Shared<K> {
         self.step_at(rt, alloc, caller, step, now, &NoGate)
     }
 
-    /// Takes a step. It waits for what others hold, and calls the gate once while the key's shelf
-    /// is held; a flush calls no gate. If it isn't taken, nothing is decided and no bay is held.
+    /// Takes a step and waits for other callers; calls the gate once while the key's shelf is held.
+    ///
+    /// A flush calls no gate. After an error nothing is decided and no bay is held.
     pub fn step_at<R: Wait, G: Gate>(
         &self,
         rt: &R,
@@ -481,7 +500,7 @@ impl<K: KeyHash + Drop> Shared<K> {
     }
 }
 
-/// Why a step that was tried wasn't taken.
+/// Returns why a tried step wasn't taken.
 fn fault_of(untaken: Untaken<Busy>) -> TryFault
     ensures { result ≡ told_of untaken }
 {

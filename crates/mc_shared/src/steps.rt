@@ -1,4 +1,8 @@
-//! A bay is taken and given back, and a presence word is changed and asked.
+//! The atomic steps: taking and giving back a bay, and changing and reading a presence word.
+//!
+//! Functions come in pairs `take`/`take_as`: the toolchain picks a call's ghost members only at a
+//! call that passes `Brand` for a bound whose trait has no method, so the pick needs a call of its
+//! own.
 ghost use Rattle.std.specs.Prelude.{◌≡◌, ◌≢◌, ◌*◌, ◌/◌, ◌%◌, ◌<◌, ◌≤◌, [], ◌∷◌, ℕ, List, ◌++◌, true, IfOk, IfErr, drop, replicate};
 ghost use Rattle.mc_protocol.specs.declared.step.KeyStep.{KeyStep as Step};
 ghost use Rattle.mc_protocol.specs.declared.reply.Reply.{Reply as Told};
@@ -23,25 +27,25 @@ use mc_hop::KeyHash;
 use mc_time::Moment;
 use std::marker::Brand;
 
-/// How many words and slots stand from one bay to the next: no two bays lie in one line of a cache.
+/// Words and slots from one bay to the next, so that no two bays share a cache line.
 pub(crate) const APART: usize = 8;
 
-/// How many numbers keys have.
+/// The number of numbers that keys have.
 pub(crate) const NUMBERS: usize = 4096;
 
-/// Finds where a bay lies in the table.
+/// Returns the place of a bay in the table.
 pub(crate) fn place_of<K: KeyHash + Drop>(board: &Board<K>, bay: usize) -> usize
     requires table { IsTableOf board.now.shared.table_id board.now.shared.key.value }
     requires bay { bay ≤ board.now.shared.key.value.settings.shelves }
     ensures place { result ≡ place bay }
     ensures inside { result < board.now.shared.table_id.words }
 {
-    // how many words the table has, for the proof
+    // for the proof: how many words the table has
     let _words = board.word_count();
     bay * APART
 }
 
-/// Finds where the word of a number lies in the table.
+/// Returns the place of a number's word in the table.
 pub(crate) fn word_at<K: KeyHash + Drop>(board: &Board<K>, shelves: usize, number: usize) -> usize
     requires table { IsTableOf board.now.shared.table_id board.now.shared.key.value }
     requires shelves { shelves ≡ board.now.shared.key.value.settings.shelves }
@@ -52,7 +56,7 @@ pub(crate) fn word_at<K: KeyHash + Drop>(board: &Board<K>, shelves: usize, numbe
     word_in(shelves, number)
 }
 
-/// Finds where the word of a number lies in a table of so many shelves.
+/// Returns the place of a number's word in a table with this many shelves.
 pub(crate) fn word_in(shelves: usize, number: usize) -> usize
     requires divides { 4096 / shelves * shelves ≡ 4096 }
     requires number { number < 4096 }
@@ -62,7 +66,7 @@ pub(crate) fn word_in(shelves: usize, number: usize) -> usize
     (shelves + 1) * APART + number % shelves * (NUMBERS / shelves + APART) + number / shelves
 }
 
-/// Does what `take` does, for a store that began as `B` says.
+/// Takes a bay as `take` does, for a store that began as `B` has it.
 fn take_as<B: Takes, K: KeyHash + Drop>(
     board: &Board<K>,
     seat: &mut Seat,
@@ -100,7 +104,7 @@ pub fn take<K: KeyHash + Drop>(board: &Board<K>, seat: &mut Seat, bay: usize) ->
     take_as::<Brand, K>(board, seat, bay)
 }
 
-/// Does what `give` does, for a store that began as `B` says.
+/// Gives a bay back as `give` does, for a store that began as `B` has it.
 fn give_as<B: Begins, K: KeyHash + Drop>(board: &Board<K>, seat: &mut Seat, bay: usize, value: Bay)
     requires began { B.start ≡ start_of K.hash_of board.now.shared.key.value }
     requires seat { IsSeatOf board.now.shared.table_id board.now.shared.key.value seat.old }
@@ -114,7 +118,7 @@ fn give_as<B: Begins, K: KeyHash + Drop>(board: &Board<K>, seat: &mut Seat, bay:
     board.shared.store::<Give<B>>(seat, place, 0);
 }
 
-/// Gives back the bay that was taken last, as it was.
+/// Gives back the bay that was taken last, unchanged.
 pub fn give<K: KeyHash + Drop>(board: &Board<K>, seat: &mut Seat, bay: usize, value: Bay)
     requires seat { IsSeatOf board.now.shared.table_id board.now.shared.key.value seat.old }
     requires bay { bay ≤ board.now.shared.key.value.settings.shelves }
@@ -126,7 +130,7 @@ pub fn give<K: KeyHash + Drop>(board: &Board<K>, seat: &mut Seat, bay: usize, va
     give_as::<Brand, K>(board, seat, bay, value);
 }
 
-/// Does what `decide` does, of what `D` says. The decision is read by contracts alone.
+/// Gives a bay back as `decide` does, with the decision of `D`. Only contracts read `decision`.
 fn decide_as<D: Says, K: KeyHash + Drop>(
     board: &Board<K>,
     seat: &mut Seat,
@@ -167,7 +171,7 @@ pub(crate) fn decide<K: KeyHash + Drop>(
     decide_as::<Brand, K>(board, seat, bay, value, decision);
 }
 
-/// A new seat, whose past begins with all that its maker had.
+/// Returns a new seat, whose past begins with all of its maker's.
 pub fn fork<K: KeyHash + Drop>(board: &Board<K>, seat: &mut Seat) -> Seat
     requires { IsAlive board.now.shared.table_id board.now.shared.key.value seat.old }
     ensures kept { SameSeat seat.old seat.new
@@ -178,7 +182,7 @@ pub fn fork<K: KeyHash + Drop>(board: &Board<K>, seat: &mut Seat) -> Seat
     board.shared.split_seat::<Fork>(seat)
 }
 
-/// From then on the caller goes on with both pasts.
+/// Joins the other seat's past into the seat's.
 pub fn meet<K: KeyHash + Drop>(board: &Board<K>, seat: &mut Seat, other: Seat)
     requires seat { IsSeatOf board.now.shared.table_id board.now.shared.key.value seat.old }
     requires other { other.table_id ≡ board.now.shared.table_id }
@@ -189,7 +193,7 @@ pub fn meet<K: KeyHash + Drop>(board: &Board<K>, seat: &mut Seat, other: Seat)
     board.shared.join_seat::<Meet>(seat, other);
 }
 
-/// Does what `reload` does, for a store that began as `B` says.
+/// Loads a word as `reload` does, for a store that began as `B` has it.
 fn reload_as<B: Begins, K: KeyHash + Drop>(board: &Board<K>, seat: &mut Seat)
     requires began { B.start ≡ start_of K.hash_of board.now.shared.key.value }
     requires seat { IsSeatOf board.now.shared.table_id board.now.shared.key.value seat.old }
@@ -199,7 +203,7 @@ fn reload_as<B: Begins, K: KeyHash + Drop>(board: &Board<K>, seat: &mut Seat)
     board.shared.load::<Reload<B>>(seat, 0);
 }
 
-/// A load that changes nothing. There is a history that keeps the caller's past.
+/// Loads a word and changes nothing. So there is a history that keeps the caller's past.
 pub fn reload<K: KeyHash + Drop>(board: &Board<K>, seat: &mut Seat)
     requires seat { IsSeatOf board.now.shared.table_id board.now.shared.key.value seat.old }
     ensures seat { SameSeat seat.old seat.new }
@@ -220,7 +224,7 @@ pub fn raise<K: KeyHash + Drop>(board: &Board<K>, seat: &mut Seat, number: usize
     board.shared.fetch_add::<Raise>(seat, word, 1);
 }
 
-/// Adds one to the word of a number when a key of it comes, and answers how many were added.
+/// Adds one to the word of a number if a key of it is inserted. Returns how many it added.
 pub fn raise_if<K: KeyHash + Drop>(
     board: &Board<K>,
     seat: &mut Seat,
@@ -242,7 +246,7 @@ pub fn raise_if<K: KeyHash + Drop>(
     0
 }
 
-/// Adds one to the word of a key if the key comes. Answers the word, and how many were added.
+/// Adds one to the word of a key if it is inserted. Returns the word, and how many it added.
 pub(crate) fn raise_for<K: KeyHash + Drop>(
     board: &Board<K>,
     seat: &mut Seat,
@@ -265,7 +269,9 @@ pub(crate) fn raise_for<K: KeyHash + Drop>(
     (word, raise_if(board, seat, number, word, comes))
 }
 
-/// Takes so many from the word that is named first as often, in one step.
+/// Subtracts `count` from a word in one atomic step.
+///
+/// The surplus must begin with the word, `count` times.
 pub fn lower<K: KeyHash + Drop>(board: &Board<K>, seat: &mut Seat, word: usize, count: u64)
     requires seat { IsSeatOf board.now.shared.table_id board.now.shared.key.value seat.old }
     requires word { word < board.now.shared.table_id.words }
@@ -277,7 +283,9 @@ pub fn lower<K: KeyHash + Drop>(board: &Board<K>, seat: &mut Seat, word: usize, 
     board.shared.fetch_sub::<Lower>(seat, word, count);
 }
 
-/// Takes so many from the word that is named first as often: one step, and none if it is 0.
+/// Subtracts `count` from a word in one atomic step, or in none if it is 0.
+///
+/// The surplus must begin with the word, `count` times.
 pub fn lower_all<K: KeyHash + Drop>(board: &Board<K>, seat: &mut Seat, word: usize, count: usize)
     requires seat { IsSeatOf board.now.shared.table_id board.now.shared.key.value seat.old }
     requires word { word < board.now.shared.table_id.words }
@@ -291,7 +299,7 @@ pub fn lower_all<K: KeyHash + Drop>(board: &Board<K>, seat: &mut Seat, word: usi
     }
 }
 
-/// Does what `count` does, of the number that `C` picks. `_number` is read by contracts alone.
+/// Returns the count as `count` does, for the number that `C` picks. Only contracts read `_number`.
 fn count_as<C: Counts, K: KeyHash + Drop>(
     board: &Board<K>,
     seat: &mut Seat,
@@ -309,7 +317,7 @@ fn count_as<C: Counts, K: KeyHash + Drop>(
     board.shared.load::<Count<C>>(seat, word)
 }
 
-/// Reads off the word of a number, whose shelf is held, how many keys have it.
+/// Returns how many keys have a number, by its word. The number's shelf must be held.
 pub fn count<K: KeyHash + Drop>(
     board: &Board<K>,
     seat: &mut Seat,
@@ -327,7 +335,8 @@ pub fn count<K: KeyHash + Drop>(
     count_as::<Brand, K>(board, seat, word, number)
 }
 
-/// Does what `seek` does, of the key that `S` picks. `_key` and `_now` are read by contracts alone.
+/// Loads the word as `seek` does, for the key that `S` picks. Only contracts read `_key` and
+/// `_now`.
 fn seek_as<S: Seeks, K: KeyHash + Drop>(
     board: &Board<K>,
     seat: &mut Seat,
@@ -348,7 +357,7 @@ fn seek_as<S: Seeks, K: KeyHash + Drop>(
     board.shared.load::<Seek<S>>(seat, word)
 }
 
-/// Loads the word of a key's number. If it is 0, it is decided that the key isn't there.
+/// Loads the word of a key's number. If it is 0, a miss of the key is decided.
 pub fn seek<K: KeyHash + Drop>(
     board: &Board<K>,
     seat: &mut Seat,

@@ -1,4 +1,8 @@
 //! The store for many threads.
+//!
+//! What a shared store began with is the table's key: a snapshot without bytes, which rules read
+//! and contracts cite as `began`. Bays are eight words apart, so no two share a cache line; the
+//! presence words are behind them, in the order of the shelves.
 ghost use Rattle.std.specs.Prelude.{◌≡◌, ◌*◌, ◌/◌, ◌<◌, ℕ, List, [], ◌++◌};
 ghost use Rattle.std.specs.Prelude.{map, replicate, OnOk, Some, IfOk};
 ghost use Rattle.mc_protocol.specs.Plain.{Plain, opening};
@@ -23,13 +27,13 @@ use std::alloc::{AllocError, Global};
 use std::marker::Model;
 use std::snapshot::Snapshot;
 
-/// A store for many threads. Contracts see which it is, and what it began with.
+/// A store for many threads. Contracts see which store it is, and what it began with.
 #[derive(Drop)]
 pub struct Shared<K: KeyHash + Drop> {
     pub(crate) board: Board<K>,
     pub(crate) settings: Settings,
     pub(crate) hasher: K,
-    /// Where a purge has the memory for its list of chunks.
+    /// The allocator of a purge's list of chunks.
     pub(crate) alloc: Global,
 }
 
@@ -55,7 +59,7 @@ impl<K: KeyHash + Drop> Model for Shared<K> {
         s.board.shared.key.value.plain × (0 < s.settings.shelves) };
 }
 
-/// Who makes calls. It holds no bay between calls. Contracts see whose it is, and its past.
+/// A caller of a store. It holds no bay between calls. Contracts see its store and its past.
 #[derive(Drop)]
 pub struct Caller {
     pub(crate) seat: Seat,
@@ -79,8 +83,9 @@ impl Model for Caller {
 }
 
 impl<K: KeyHash + Drop> Shared<K> {
-    /// Makes a shared store that begins with a store's state, and its first caller. The one error
-    /// is a refused allocation; the store is then dropped.
+    /// Makes a shared store with another store's state, and its first caller.
+    ///
+    /// The only error is a refused allocation; the store is then dropped.
     pub fn over(alloc: Global, store: Store<K>) -> Result<(Shared<K>, Caller), AllocError>
         ensures made { IfOk result (λ r. (r.0.began ≡ store) × (r.1.table ≡ r.0.table)
             × (r.1.past ≡ start [] spent)) }
@@ -110,8 +115,7 @@ impl<K: KeyHash + Drop> Shared<K> {
         }
     }
 
-    /// Makes a shared store of no items, and its first caller. The one error is a refused
-    /// allocation.
+    /// Makes an empty shared store, and its first caller. The only error is a refused allocation.
     pub fn new(
         alloc: Global,
         settings: Settings,
@@ -129,8 +133,9 @@ impl<K: KeyHash + Drop> Shared<K> {
         Shared::over(alloc, Store::new(alloc, settings, hasher)?)
     }
 
-    /// Makes a new caller, which has made no call. Its calls stand after all that its maker had
-    /// made or seen until then. It always succeeds and takes no memory.
+    /// Returns a new caller without calls. It never fails and takes no memory.
+    ///
+    /// Its calls come after all that its maker made or saw until then.
     pub fn caller(&self, maker: &mut Caller) -> Caller
         requires { maker.old.table ≡ self.now.table }
         ensures kept { (maker.new.table ≡ maker.old.table)
@@ -146,7 +151,8 @@ impl<K: KeyHash + Drop> Shared<K> {
         Caller { seat, grows: None }
     }
 
-    /// Joins a caller into another: from then on the other's calls stand after all that both made.
+    /// Joins a caller into another, whose later calls come after all that both made.
+    ///
     /// It takes no memory.
     pub fn join(&self, into: &mut Caller, from: Caller)
         requires { (into.old.table ≡ self.now.table) × (from.table ≡ self.now.table) }
@@ -159,14 +165,14 @@ impl<K: KeyHash + Drop> Shared<K> {
         reload(&self.board, &mut into.seat);
     }
 
-    /// Tells the greatest charge of an item, in bytes.
+    /// Returns the greatest charge of an item, in bytes.
     pub fn greatest(&self) -> u64
         ensures { result ≡ self.now.began.settings.greatest }
     {
         self.settings.greatest
     }
 
-    /// Tells how many shelves it has, which is one at least.
+    /// Returns the number of shelves, at least one.
     pub fn shelves(&self) -> u32
         ensures count { result ≡ self.now.began.settings.shelves }
         ensures some { 0 < result }
@@ -174,7 +180,7 @@ impl<K: KeyHash + Drop> Shared<K> {
         self.settings.shelves
     }
 
-    /// Tells the shelf of a key, which is its hash modulo the number of shelves.
+    /// Returns the shelf of a key: its hash modulo the number of shelves.
     pub fn shelf_of(&self, key: &[u8]) -> u32
         ensures shelf { result ≡ shelf_in (start_of K.hash_of self.now.began) key.now }
         ensures inside { result < self.now.began.settings.shelves }
@@ -183,7 +189,7 @@ impl<K: KeyHash + Drop> Shared<K> {
     }
 }
 
-/// Makes the words of a table of so many shelves, each 0.
+/// Returns the words of a table with this many shelves, each 0.
 fn no_words(alloc: Global, count: usize) -> Result<Vec<u64>, AllocError>
     requires { 4096 / count * count ≡ 4096 }
     ensures { IfOk result (λ v. v.items ≡ replicate (words_with count) 0) }
@@ -191,8 +197,7 @@ fn no_words(alloc: Global, count: usize) -> Result<Vec<u64>, AllocError>
     vec![in alloc; 0; (count + 1) * APART + count * (NUMBERS / count + APART)]
 }
 
-/// Makes the words of a table that opens: each bay is free, and a number's word tells how many keys of
-/// the shelves have it.
+/// Returns the first words of a table: each bay is free, and a number's word counts its keys.
 fn first_words(alloc: Global, shelves: &[Shelf], count: usize) -> Result<Vec<u64>, AllocError>
     requires divides { 4096 / count * count ≡ 4096 }
     requires parts { (hash_of : List ℕ → ℕ) × (state : Plain) × AreAllOf hash_of state shelves.now }
@@ -207,7 +212,7 @@ fn first_words(alloc: Global, shelves: &[Shelf], count: usize) -> Result<Vec<u64
     Ok(words)
 }
 
-/// The shelves and behind them the desk, each in its slot.
+/// Returns the slots: the shelves, and behind them the desk.
 fn slots_of(
     alloc: Global,
     count: u32,
@@ -225,7 +230,7 @@ fn slots_of(
     Ok(slots)
 }
 
-/// Puts a bay into the next slot, and nothing into those up to the next place.
+/// Puts a bay into the next slot, and nothing into the slots up to the next place.
 fn push_alone(slots: &mut Vec<Option<Bay>>, bay: Bay) -> Result<(), AllocError>
     ensures { OnOk result (slots.new.items ≡ slots.old.items ++ slot_alone (Some bay)) }
 {

@@ -1,4 +1,7 @@
-//! What a shelf and a class have is told.
+//! The counts of a shelf and of a class.
+//!
+//! Counts are read by the holder of the shelf and decide nothing. They belong to one moment that no
+//! history names, so contracts promise only what holds at every moment.
 ghost use Rattle.std.specs.Prelude.{◌≡◌, ◌*◌, ◌<◌, ◌≤◌};
 ghost use Rattle.mc_slab.specs.Classes.{chunks_a_page};
 ghost use Rattle.mc_slab.specs.Slabs.{pages_of, out_of};
@@ -15,7 +18,7 @@ use mc_slab::{Account, Class};
 use std::sync::Wait;
 
 impl<'a, K: KeyHash + Drop> AtShelf<'a, K> {
-    /// Counts the shelf's items, the dead ones among them, and how they stand.
+    /// Counts the shelf's items, including dead ones, and how they are stored.
     fn shelf_counts(&self) -> ShelfCounts
         ensures value { result ≡ counts_of self.now.shelf }
         ensures fits { FitTogether result }
@@ -25,7 +28,7 @@ impl<'a, K: KeyHash + Drop> AtShelf<'a, K> {
 }
 
 impl<'a, K: KeyHash + Drop> AtBoth<'a, K> {
-    /// Tells what the class has: its pages, and its chunks that items lie in.
+    /// Returns the class's pages, and the number of its chunks that items use.
     fn account(&self, class: Class) -> Account
         ensures value { result ≡ record {
           pages = pages_of self.now.desk.slab class;
@@ -33,13 +36,13 @@ impl<'a, K: KeyHash + Drop> AtBoth<'a, K> {
         } }
         ensures within { result.out ≤ result.pages * chunks_a_page class }
     {
-        // what holds of every class and of every desk, for the proof
+        // for the proof: the invariants of the class and of the desk
         let _laws = (class.number(), self.desk.next_unique());
         self.desk.account(class)
     }
 }
 
-/// Counts what a shelf has for a caller, who comes back. Nothing is decided.
+/// Returns the counts of a shelf for a caller, and the caller. Nothing is decided.
 fn shelf_counts_for<K: KeyHash + Drop, R: Wait>(
     caller: Caller,
     asked: (&Shared<K>, &R, u32),
@@ -56,7 +59,7 @@ fn shelf_counts_for<K: KeyHash + Drop, R: Wait>(
     (hold.give_back(), counts)
 }
 
-/// Tells what a class has for a caller, who comes back. Nothing is decided.
+/// Returns the account of a class for a caller, and the caller. Nothing is decided.
 fn account_for<K: KeyHash + Drop, R: Wait>(
     caller: Caller,
     asked: (&Shared<K>, &R, &Class),
@@ -67,7 +70,7 @@ fn account_for<K: KeyHash + Drop, R: Wait>(
     ensures agrees { Agrees (start_of K.hash_of asked.entry.0.now.began) caller.past }
 {
     let (shared, rt, class) = asked;
-    // that there is a first shelf, for the proof
+    // for the proof: there is a first shelf
     let _shelves = shared.shelves();
     let hold = shared.wait_for_shelf(rt, caller, 0).wait_for_desk(rt);
     let account = hold.account(*class);
@@ -75,10 +78,11 @@ fn account_for<K: KeyHash + Drop, R: Wait>(
 }
 
 impl<K: KeyHash + Drop> Shared<K> {
-    /// Counts the items of a shelf as it was when it was held, those among them that are dead and not
-    /// yet dropped, the homes of its table, the items that are left to move there while the table
-    /// grows, and those that stand in no table. It waits for the shelf. Nothing is decided, no item is
-    /// walked, and no memory is taken.
+    /// Returns the counts of a shelf as it was when it was held.
+    ///
+    /// They are its items (including dead ones that aren't dropped yet), the homes of its table,
+    /// the items that are left to move while the table grows, and the strays. It waits for the
+    /// shelf. Nothing is decided, no item is walked, and it takes no memory.
     pub fn shelf_counts<R: Wait>(&self, rt: &R, caller: &mut Caller, shelf: u32) -> ShelfCounts
         requires own { caller.old.table ≡ self.now.table }
         requires shelf { shelf < self.now.began.settings.shelves }
@@ -89,9 +93,10 @@ impl<K: KeyHash + Drop> Shared<K> {
         replace_with(caller, (self, rt, shelf), shelf_counts_for)
     }
 
-    /// Tells of a class how many pages it has, and in how many of its chunks items lie, as the desk was
-    /// when it was held. It waits for the first shelf, and then for the desk. Nothing is decided, and no
-    /// memory is taken.
+    /// Returns the pages of a class, and how many of its chunks items use, when the desk was held.
+    ///
+    /// It waits for the first shelf, and then for the desk. Nothing is decided, and it takes no
+    /// memory.
     pub fn account<R: Wait>(&self, rt: &R, caller: &mut Caller, class: Class) -> Account
         requires own { caller.old.table ≡ self.now.table }
         ensures same { (caller.new.table ≡ caller.old.table) × (caller.new.past ≡ caller.old.past) }

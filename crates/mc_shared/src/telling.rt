@@ -1,4 +1,6 @@
-//! A step whose reply is told: a hit while its item stands where it lies, and any other when the step is taken.
+//! Steps that deliver their reply to an `Answer`.
+//!
+//! A hit is delivered while its item is in place, any other reply once the step is taken.
 ghost use Rattle.std.specs.Prelude.{◌≡◌, ◌<◌, [], true, false, Ok, Err, Some, IfOk, OnOk, OnErr};
 ghost use Rattle.std.specs.Prelude.{◌≤◌, get_or, length};
 ghost use Rattle.std.specs.List.{concat};
@@ -35,21 +37,21 @@ use std::alloc::{AllocError, Global};
 use std::snapshot::Snapshot;
 use std::sync::Wait;
 
-/// What the item of a read was found to be in its shelf.
+/// The result of searching a read's item in its shelf.
 #[derive(Drop)]
 pub(crate) enum Sought {
-    /// It stands there, and a hit of it was told.
+    /// There is an item here, and a hit of it was delivered.
     Told(Place),
-    /// The key has none.
+    /// The key has no item.
     Nothing,
-    /// It is dead. Nothing was told of it, and the read isn't taken there.
+    /// The item is dead. Nothing was delivered, and the read isn't taken there.
     Deferred,
 }
 
-/// The most parts in which an item's block may lie.
+/// The most parts of an item's block.
 const MOST_PARTS: usize = 8;
 
-/// Lends a part of an item's block. Behind the last there are empty ones.
+/// Lends a part of an item's block. Parts behind the last are empty.
 fn part_at<'a>(hit: &'a Hit<'_>, at: usize) -> Bytes<'a>
     ensures value { result ≡ get_or (parts_of hit.now.key hit.now.item) at [] }
     ensures joined { concat (parts_of hit.now.key hit.now.item) ≡ hit.now.item.block }
@@ -62,7 +64,7 @@ fn part_at<'a>(hit: &'a Hit<'_>, at: usize) -> Bytes<'a>
     }
 }
 
-/// Lends the parts of an item's block, with empty ones behind the last. No memory is taken for them.
+/// Lends the parts of an item's block, with empty ones behind the last. It takes no memory.
 fn parts_of<'a>(hit: &'a Hit<'_>) -> [Bytes<'a>; MOST_PARTS]
     ensures { concat result ≡ hit.now.item.block }
 {
@@ -78,7 +80,7 @@ fn parts_of<'a>(hit: &'a Hit<'_>) -> [Bytes<'a>; MOST_PARTS]
     ]
 }
 
-/// Tells a hit of an item, whose block isn't copied, in however many parts it lies.
+/// Delivers a hit of an item in its parts, without copying its block.
 fn tell_item<A: Answer>(hit: &Hit<'_>, answer: &mut A) -> Result<(), AllocError>
     ensures told { OnOk result (A.told answer.old (hit_of (Some hit.now.item)) answer.new) }
     ensures err { OnErr result (answer.new ≡ answer.old) }
@@ -89,7 +91,7 @@ fn tell_item<A: Answer>(hit: &Hit<'_>, answer: &mut A) -> Result<(), AllocError>
     answer.hit(hit.flags(), hit.unique(), &parts_of(hit))
 }
 
-/// Seeks the item of a read in its shelf, and tells a hit of it where it stands.
+/// Searches the item of a read in its shelf, and delivers a hit of it in place.
 fn tell_hit<A: Answer>(shelf: &Shelf, ask: &Ask<'_>, answer: &mut A) -> Result<Sought, AllocError>
     requires { IsHash shelf.now.content (key_of ask.now.step.now) ask.now.hash }
     ensures sought { IfOk result (λ sought. IsSought A.told shelf.now.content ask.now.step.now
@@ -107,7 +109,7 @@ fn tell_hit<A: Answer>(shelf: &Shelf, ask: &Ask<'_>, answer: &mut A) -> Result<S
     }
 }
 
-/// Gives the reply of a step that was taken to what takes it, or tells why the step wasn't taken.
+/// Delivers the reply of a step that was taken, or returns why the step wasn't taken.
 fn tell<A: Answer>(taken: Result<Reply, StepFault>, answer: &mut A) -> Result<(), Unanswered>
     ensures told { OnOk result ((reply : Told) × (taken ≡ Ok reply)
         × A.told answer.old reply answer.new) }
@@ -140,7 +142,7 @@ impl<K: KeyHash + Drop> Shared<K> {
         shelf_from(bay, at as usize, self.settings.shelves as usize)
     }
 
-    /// Gives a shelf back, as it was.
+    /// Gives a shelf back unchanged.
     fn give_shelf(&self, seat: &mut Seat, shelf: Box<Shelf>, at: u32)
         requires { HoldsShelf K.hash_of self.now seat.old at shelf.value.content }
         ensures free { IsFree self.now.table self.now.began seat.new }
@@ -151,8 +153,9 @@ impl<K: KeyHash + Drop> Shared<K> {
         give(&self.board, seat, at as usize, value);
     }
 
-    /// Gives a shelf back with the decision of a read, whose key has no dead item there. `place` is where
-    /// its item lies.
+    /// Gives a shelf back with the decision of a read whose key has no dead item there.
+    ///
+    /// `place` is where its item is.
     fn give_read(&self, seat: &mut Seat, shelf: Box<Shelf>, ask: &Ask<'_>, place: Option<Place>)
         requires holds { HoldsShelf K.hash_of self.now seat.old ask.now.at shelf.value.content }
         requires asked { IsAsked K.hash_of self.now ask.now }
@@ -178,9 +181,11 @@ impl<K: KeyHash + Drop> Shared<K> {
         decide(&self.board, seat, ask.at as usize, value, &decision);
     }
 
-    /// Takes a read at its shelf: a hit is told there, before it is decided, and of a miss nothing
-    /// is told. If the item is dead the read isn't taken, nor if the telling is refused. The gate
-    /// is called once while the shelf is held.
+    /// Takes a read at its shelf: a hit is delivered there before it is decided, a miss isn't
+    /// delivered.
+    ///
+    /// If the item is dead, or the delivery fails, the read isn't taken. The gate is called once
+    /// while the shelf is held.
     fn read_telling<R: Wait, G: Gate, A: Answer>(
         &self,
         patience: &Waiting<'_, R, G>,
@@ -225,7 +230,7 @@ impl<K: KeyHash + Drop> Shared<K> {
         }
     }
 
-    /// Takes a step on one key whose hash is known, waits for what others hold, and calls no gate.
+    /// Takes a step on one key whose hash is known, waits for other callers, and calls no gate.
     fn step_waiting<R: Wait>(
         &self,
         rt: &R,
@@ -245,9 +250,10 @@ impl<K: KeyHash + Drop> Shared<K> {
         }
     }
 
-    /// Takes a step as `step_unless_absent` does, and has its reply told. A hit of a read is told
-    /// while its shelf is held and before it is decided: if the telling is refused it isn't taken.
-    /// Any other reply is told when the step is taken.
+    /// Takes a step as `step_unless_absent` does, and delivers its reply.
+    ///
+    /// A hit of a read is delivered while its shelf is held and before it is decided: if the
+    /// delivery fails, the read isn't taken. Any other reply is delivered once the step is taken.
     pub(crate) fn step_telling<R: Wait, G: Gate, A: Answer>(
         &self,
         patience: &Waiting<'_, R, G>,
@@ -283,7 +289,7 @@ impl<K: KeyHash + Drop> Shared<K> {
     }
 }
 
-/// Names a shelf if entries of it are left to move.
+/// Returns the shelf if entries of it are left to move.
 fn growing_shelf(shelf: &Shelf, at: u32) -> Option<u32> {
     if shelf.entries_to_move() == 0 {
         None

@@ -1,4 +1,4 @@
-//! Keys that are absent, as one caller is told. If an allocation is refused it asks again.
+//! Keys that `absent` reports to one caller. If memory is refused the call is made again.
 
 use crate::sole::{Act, Row, Sole};
 use crate::stores::{MANY, ONE, SOME};
@@ -38,7 +38,7 @@ const ONE_NUMBER: [Row; 3] = [
     (1000, b"a", Act::Told(Ask::Get, "miss")),
 ];
 
-/// The rows of a key's deaths are told by a store that is set up so.
+/// Checks the rows of a key's deaths over a store with these settings.
 fn deaths_are_told(
     rt: &(impl Wait + Abort),
     alloc: Global,

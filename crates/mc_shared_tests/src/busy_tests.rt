@@ -1,4 +1,4 @@
-//! A step that is tried while another caller holds its shelf. If an allocation is refused it asks
+//! A step that is tried while another caller holds its shelf. If memory is refused it is tried
 //! again.
 
 use crate::stores::{MANY, ONE, SOME, shared_store};
@@ -15,7 +15,7 @@ use std::process::Abort;
 use std::sync::Wait;
 use std::test::*;
 
-/// What came of a read of `k` that was tried.
+/// The result of a tried read of `k`.
 #[derive(Clone, Copy, Debug, PartialEq, Eq)]
 enum Tried {
     Not,
@@ -69,7 +69,7 @@ impl<'a> Third<'a> {
         };
     }
 
-    /// Tells what came of it.
+    /// Returns the result.
     fn tried(&self) -> Tried {
         self.tried
     }
@@ -90,7 +90,7 @@ impl<'a> Gate for Inside<'a> {
 }
 
 impl<'a> Inside<'a> {
-    /// Tells what came of it.
+    /// Returns the result.
     fn tried(&self) -> Tried {
         match self.third.try_borrow() {
             Ok(third) => third.tried(),
@@ -99,8 +99,9 @@ impl<'a> Inside<'a> {
     }
 }
 
-/// One caller reads `k` of a store that is set up so, and while its shelf is held another tries to. The other is told that this
-/// bay is busy; and reads it then.
+/// One caller reads `k`, and while its shelf is held another one tries to.
+///
+/// The other one gets `Busy` with this bay, and reads `k` afterwards.
 fn held_shelf_is_busy(
     rt: &(impl Wait + Abort),
     alloc: Global,

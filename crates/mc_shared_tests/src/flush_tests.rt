@@ -1,15 +1,17 @@
-//! Items that a flush lays aside: their chunks are free at once, and a page goes to a class only if
-//! too few are. If an allocation is refused the steps are asked again.
+//! Items that a flush lays aside: their chunks are free at once.
+//!
+//! A page goes to a class only if too few chunks are free. If memory is refused the steps are taken
+//! again.
 
 use crate::trial::Trial;
 use mc_rows::{Ask, Row, Want, filled_block, first_unlike, set};
 use mc_shelf::Settings;
 use std::test::*;
 
-/// A block that makes a page with a key of one byte.
+/// The length of a block that makes a page with a key of one byte.
 const ONE: usize = 1_048_527;
 
-/// How a store of three pages is set up, of which its first two items have one.
+/// A store of three pages. Its first two items have one each.
 const THREE: Settings = Settings {
     pages: 3,
     greatest: Settings::GREATEST,

@@ -1,4 +1,4 @@
-//! How often a gate is called: once while a step's shelf is held, and never by what holds none.
+//! How often a gate is called: once while a step's shelf is held, and never by other calls.
 
 use crate::stores::{SOME, shared_store};
 use crate::trial::Trial;
@@ -24,7 +24,7 @@ impl<'a> Gate for CallCount<'a> {
     }
 }
 
-/// Takes each reply.
+/// Accepts each reply.
 #[derive(Drop)]
 struct Listener;
 
@@ -40,7 +40,7 @@ impl Answer for Listener {
     }
 }
 
-/// Counts the calls of a gate while a step at a second is taken, or refused memory.
+/// Returns how often the gate is called in a step at a second, taken or refused memory.
 fn calls_of_step<R: Wait>(
     trial: &mut Trial<'_, R>,
     alloc: Global,
@@ -57,7 +57,7 @@ fn calls_of_step<R: Wait>(
     calls.load(Ordering::SeqCst)
 }
 
-/// Counts the calls of a caller's gate while a step at a second has its reply told.
+/// Returns how often a caller's gate is called in a step that delivers its reply.
 fn calls_of_telling<R: Wait>(
     asking: &mut Asking<'_, R, Fnv, CallCount<'_>>,
     alloc: Global,
@@ -74,7 +74,7 @@ fn calls_of_telling<R: Wait>(
     calls.load(Ordering::SeqCst)
 }
 
-/// The key `a` stands, and dies at second 1010. The keys `none` and `zz` have no item.
+/// The key `a` has an item that dies at second 1010. The keys `none` and `zz` have none.
 const STEPS: [(u64, &[u8], Ask<'static>); 7] = [
     (1000, b"a", Ask::Gat(10)),
     (1000, b"a", Ask::Get),

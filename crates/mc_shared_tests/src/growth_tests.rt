@@ -1,4 +1,4 @@
-//! Growth of a shelf's table that one caller asks for. If an allocation is refused it asks again.
+//! Growth of a shelf's table by one caller. If memory is refused the call is made again.
 
 ghost use Rattle.std.specs.Prelude.{◌≡◌, IfOk};
 
@@ -12,7 +12,7 @@ use mc_time::Moment;
 use std::alloc::{AllocError, Global};
 use std::test::*;
 
-/// A store with one hash for all keys, which has `k01` to `k40`; its one table grew after each.
+/// Returns a store with one hash for all keys, and `k01` to `k40`; its one table grew after each.
 fn grown_store(alloc: Global) -> Result<Store<Constant>, AllocError> {
     let mut store = Store::new(alloc, SOME, Constant(0))?;
     let now = Moment::from_seconds_at_most(1000);
@@ -29,7 +29,7 @@ fn grown_store(alloc: Global) -> Result<Store<Constant>, AllocError> {
     Ok(store)
 }
 
-/// A shared store over one that grew, and its first caller.
+/// Returns a shared store over one that grew, and its first caller.
 fn grown_shared(alloc: Global) -> Result<(Shared<Constant>, Caller), AllocError>
     ensures { IfOk result (λ made. made.1.table ≡ made.0.table) }
 {
@@ -51,7 +51,7 @@ fn growth_moves_what_is_left(rt: HostRuntime) -> Result<(), Fail> {
     Ok(())
 }
 
-/// Growth after a step moves entries of the shelf that the step was taken on, once.
+/// Growth after a step moves entries of the step's shelf, once.
 #[test]
 fn growth_after_a_step_moves_what_is_left(rt: HostRuntime) -> Result<(), Fail> {
     let alloc = rt.alloc();

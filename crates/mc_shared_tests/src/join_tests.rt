@@ -1,4 +1,4 @@
-//! Joins to items of several pages, which are copied when the desk is given back.
+//! Joins to items of several pages, which are copied after the desk was given back.
 
 use crate::trial::Trial;
 use mc_protocol::Verb;
@@ -6,21 +6,22 @@ use mc_rows::{Ask, Row, Want, filled_block, first_unlike, set};
 use mc_shelf::Settings;
 use std::test::*;
 
-/// A store of few pages, whose items may take eight.
+/// A store of few pages with items of up to eight.
 const LARGE: Settings = Settings {
     pages: 7,
     greatest: Settings::MOST_GREATEST,
     shelves: 64,
 };
 
-/// Makes the row of a join.
+/// Returns the row of a join.
 fn join<'a>(verb: Verb, block: &'a [u8]) -> Row<'a> {
     let ask = Ask::Store(verb, 0, block);
     (1000, b"k", ask, Want::Told("stored"))
 }
 
-/// An item grows from two pages to three, is copied once more for what comes before it, and stays where the end comes behind it.
-/// One of four pages finds too few, as three are free.
+/// An item grows from two pages to three, is copied for a prepend, and stays for an append.
+///
+/// One of four pages is refused, as three are free.
 #[test]
 fn joins_of_pages_are_answered(rt: HostRuntime) -> Result<(), Fail> {
     let alloc = rt.alloc();

@@ -1,4 +1,4 @@
-//! The laws, told of callers that meet.
+//! The laws, checked with callers that meet.
 
 ghost use Rattle.std.specs.Prelude.{◌≡◌, ◌≤◌, IfOk, List, [], ◌∷◌, length};
 ghost use Rattle.mc_protocol.specs.Commands.{key_of};
@@ -17,7 +17,8 @@ use std::alloc::{AllocError, Global};
 use std::sync::Wait;
 use std::test::*;
 
-/// Reads a key by one caller, and then by another that took in the first. It is told nothing older.
+/// Reads a key by one caller, and then by another that joined the first. It must read nothing
+/// older.
 fn reads_of_two<R: Wait, K: KeyHash + Drop>(
     rt: &R,
     shared: &Shared<K>,
@@ -44,8 +45,9 @@ fn reads_of_two<R: Wait, K: KeyHash + Drop>(
     Ok((first, second))
 }
 
-/// Takes a step by each of two callers, and joins them. One store of one thread, asked in the one
-/// order or the other, would tell both replies.
+/// Takes a step by each of two callers, and joins them.
+///
+/// A store of one thread gives both replies in one order or the other.
 fn steps_of_two<R: Wait, K: KeyHash + Drop>(
     rt: &R,
     shared: &Shared<K>,
@@ -70,7 +72,7 @@ fn steps_of_two<R: Wait, K: KeyHash + Drop>(
     Ok((first, second))
 }
 
-/// An empty store, and its first caller.
+/// Returns an empty store, and its first caller.
 fn empty_store(alloc: Global) -> Result<(Shared<Fnv>, Caller), AllocError>
     ensures { IfOk result (λ made. (made.1.table ≡ made.0.table) × (made.1.past ≡ start [] spent)
         × HasDrawnNumbers made.0.began.plain) }
@@ -85,7 +87,7 @@ fn empty_store(alloc: Global) -> Result<(Shared<Fnv>, Caller), AllocError>
     Ok(made)
 }
 
-/// What one caller read the other reads again, once it knows of it.
+/// What one caller read, the other reads again, once it knows of it.
 #[test]
 fn a_read_goes_on_from_another(rt: HostRuntime) -> Result<(), Fail> {
     let alloc = rt.alloc();
@@ -100,7 +102,7 @@ fn a_read_goes_on_from_another(rt: HostRuntime) -> Result<(), Fail> {
     Ok(())
 }
 
-/// A set by one caller and a read by another are told as if the set came first, as it did.
+/// A set by one caller and a read by another are answered as if the set came first, as it did.
 #[test]
 fn two_callers_have_one_store(rt: HostRuntime) -> Result<(), Fail> {
     let alloc = rt.alloc();

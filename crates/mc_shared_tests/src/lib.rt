@@ -1,10 +1,11 @@
-//! Tests of the store for many threads (`mc_shared`) and of its laws (`mc_laws`). No program uses it.
+//! Tests of the store for many threads (`mc_shared`) and of its laws (`mc_laws`).
 //!
-//! They are a crate of their own, as a crate with tests is proved a second time with them.
+//! They are a crate of their own, as a crate with tests is proved a second time with them. No
+//! program uses this crate.
 //!
-//! Stores are set up by `src/stores.rt`. A store with its one caller is one value, so that tests need no
-//! clauses: a `Trial` (`src/trial.rt`) takes steps as every store does, and a `Sole` (`src/sole.rt`) is
-//! asked by rows which keys are absent.
+//! Stores are set up by `src/stores.rt`. A store with its one caller is one value, so that tests
+//! need no clauses: a `Trial` (`src/trial.rt`) takes steps as every store does, and a `Sole`
+//! (`src/sole.rt`) runs rows that check which keys are absent.
 #![tactic(auto)]
 
 #[cfg(test)]

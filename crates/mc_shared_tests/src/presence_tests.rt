@@ -1,5 +1,6 @@
-//! Which keys one caller is told to be absent, after steps, purges and flushes. If an allocation is
-//! refused it asks again.
+//! Which keys are absent to one caller after steps, purges and flushes.
+//!
+//! If memory is refused the call is made again.
 
 use crate::trial::Trial;
 use mc_protocol::Verb;
@@ -9,25 +10,26 @@ use std::alloc::Global;
 use std::sync::Wait;
 use std::test::*;
 
-/// What is done, and what comes of it.
+/// A call, and its expected result.
 #[derive(Clone, Copy)]
 enum Act {
     /// A set with this exptime, which is stored.
     Set(i64),
-    /// A delete of an item that stands.
+    /// A delete of an item that is there.
     Delete,
-    /// A flush after this delay. The key is passed over.
+    /// A flush after this delay. The key is ignored.
     Flush(u64),
     /// A purge of the key's shelf.
     Tidy,
-    /// Whether the key is told to be absent.
+    /// Whether the key is reported absent.
     Absent(bool),
 }
 
-/// At which second it is done, with which key, and what.
+/// The second, the key and the call.
 type Play = (u64, &'static [u8], Act);
 
-/// `a00` has the number of `a`; `ba` is of its shelf, with another number; `b` and `k` are of other shelves.
+/// `a00` has the number of `a`; `ba` is on its shelf, with another number; `b` and `k` are on other
+/// shelves.
 const PURGES: [Play; 18] = [
     (1000, b"b", Act::Absent(true)),
     (1000, b"a", Act::Absent(false)),
@@ -49,7 +51,7 @@ const PURGES: [Play; 18] = [
     (1010, b"k", Act::Absent(false)),
 ];
 
-/// What is dead goes at a flush after a delay, and from its moment on all is dead.
+/// A flush after a delay drops the dead items, and from its moment on all are dead.
 const LATER: [Play; 13] = [
     (1000, b"a00", Act::Set(0)),
     (1000, b"b", Act::Set(5)),
@@ -66,7 +68,7 @@ const LATER: [Play; 13] = [
     (1015, b"a00", Act::Absent(true)),
 ];
 
-/// All goes at a flush at once.
+/// A flush without a delay drops all items.
 const AT_ONCE: [Play; 11] = [
     (1000, b"a00", Act::Set(0)),
     (1000, b"ba", Act::Set(10)),
@@ -81,20 +83,20 @@ const AT_ONCE: [Play; 11] = [
     (1000, b"a", Act::Absent(false)),
 ];
 
-/// Returns whether the key is told to be absent.
+/// Returns whether the key is reported absent.
 fn absent<R: Wait>(trial: &mut Trial<'_, R>, key: &[u8], now: Moment) -> bool {
     let Trial { shared, caller, .. } = trial;
     shared.absent(caller, key, now)
 }
 
-/// Drops the dead of the key's shelf.
+/// Drops the dead items of the key's shelf.
 fn tidy<R: Wait>(trial: &mut Trial<'_, R>, key: &[u8], now: Moment) {
     let Trial { rt, shared, caller } = trial;
     let shelf = shared.shelf_of(key);
     shared.tidy(*rt, caller, shelf, now);
 }
 
-/// Takes a step, again if memory is refused, and returns whether that is its answer.
+/// Takes a step, again if memory is refused, and returns whether this is its reply.
 fn is_told<R: Wait>(
     trial: &mut Trial<'_, R>,
     alloc: Global,
@@ -110,7 +112,7 @@ fn is_told<R: Wait>(
     told_of(&ask_step(trial, alloc, &step, now)) == want
 }
 
-/// Does what a play says, and returns whether that came of it.
+/// Makes the call of a play, and returns whether its result is as expected.
 fn is_right<R: Wait>(trial: &mut Trial<'_, R>, alloc: Global, play: &Play) -> bool {
     let (seconds, key, act) = *play;
     let now = Moment::from_seconds_at_most(seconds);
@@ -129,7 +131,7 @@ fn is_right<R: Wait>(trial: &mut Trial<'_, R>, alloc: Global, play: &Play) -> bo
     }
 }
 
-/// Finds the first play of which something else came, in a store that has `a` and `k`.
+/// Returns the first play with an unexpected result, in a store that has `a` and `k`.
 fn first_wrong<R: Wait>(rt: &R, alloc: Global, plays: &[Play]) -> Result<Option<usize>, Fail> {
     let mut trial = Trial::open(rt, alloc)?;
     for (at, play) in plays.iter().enumerate() {
@@ -158,7 +160,7 @@ fn a_key_flushed_at_once_is_absent(rt: HostRuntime) -> Result<(), Fail> {
     Ok(())
 }
 
-/// Flushes, again if memory is refused, and returns whether `a` was there until it was flushed.
+/// Flushes, again if memory is refused, and returns whether `a` was there until then.
 fn stays_until_flushed<R: Wait>(trial: &mut Trial<'_, R>, alloc: Global) -> bool {
     let now = Moment::from_seconds_at_most(1000);
     let Trial { rt, shared, caller } = trial;

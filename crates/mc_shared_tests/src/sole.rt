@@ -1,5 +1,6 @@
-//! A store that begins empty, with its one caller, and rows of what the caller is told. If an allocation
-//! is refused it asks again.
+//! A store that begins empty, with its one caller, and rows of calls with their results.
+//!
+//! If memory is refused the call is made again.
 
 use crate::stores::empty_store;
 use mc_hop::KeyHash;
@@ -12,18 +13,18 @@ use std::alloc::{AllocError, Global};
 use std::marker::Model;
 use std::sync::Wait;
 
-/// What is done with a key.
+/// A call for a key.
 #[derive(Clone, Copy)]
 pub(crate) enum Act {
-    /// It is asked whether the key is absent, and this is told.
+    /// Whether `absent` reports the key.
     Absent(bool),
-    /// It is asked a step, and told a reply of this name.
+    /// A step, and the name of its reply.
     Told(Ask<'static>, &'static str),
-    /// The key's shelf is tidied.
+    /// A purge of the key's shelf.
     Tidy,
 }
 
-/// At which second, with which key, and what is done.
+/// The second, the key and the call.
 pub(crate) type Row = (u64, &'static [u8], Act);
 
 /// A store with its one caller. Contracts see which store it is.
@@ -48,7 +49,7 @@ impl<'a, R: Wait, K: KeyHash + Drop> Model for Sole<'a, R, K> {
 }
 
 impl<'a, R: Wait, K: KeyHash + Drop + Copy> Sole<'a, R, K> {
-    /// Makes an empty store that is set up so.
+    /// Returns an empty store with these settings.
     pub(crate) fn open(
         rt: &'a R,
         alloc: Global,
@@ -85,13 +86,13 @@ impl<'a, R: Wait, K: KeyHash + Drop> Sole<'a, R, K> {
         }
     }
 
-    /// Sets a key at 1000, and names what is told.
+    /// Sets a key at 1000, and returns the name of the reply.
     pub(crate) fn set(&mut self, alloc: Global, key: &[u8], block: &[u8]) -> &'static str {
         let now = Moment::from_seconds_at_most(1000);
         told_of(&self.taken(alloc, key, Ask::Store(Verb::Set, 0, block), now))
     }
 
-    /// Returns whether a row is told as it says.
+    /// Returns whether a row has the expected result.
     pub(crate) fn is_told(&mut self, alloc: Global, row: &Row) -> bool {
         let (seconds, key, act) = *row;
         let now = Moment::from_seconds_at_most(seconds);
@@ -106,7 +107,7 @@ impl<'a, R: Wait, K: KeyHash + Drop> Sole<'a, R, K> {
         }
     }
 
-    /// Finds the first row that is told otherwise.
+    /// Returns the first row with an unexpected result.
     pub(crate) fn first_untold(&mut self, alloc: Global, rows: &[Row]) -> Option<usize> {
         for (at, row) in rows.iter().enumerate() {
             if !self.is_told(alloc, row) {

@@ -1,4 +1,4 @@
-//! Steps of one caller, up to the last unique number. If an allocation is refused it asks again.
+//! Steps of one caller, up to the last unique number. If memory is refused they are taken again.
 
 use crate::trial::Trial;
 use mc_protocol::Verb;
@@ -40,8 +40,9 @@ fn steps_are_answered_as_by_a_store_of_one_thread(rt: HostRuntime) -> Result<(),
     Ok(())
 }
 
-/// One write is left, and then each that would draw a number is told that they are spent. All else
-/// is answered as before.
+/// One write is left. Then each write that needs a number gets the error that they are used up.
+///
+/// All other steps are answered as before.
 #[test]
 fn unique_numbers_end(rt: HostRuntime) -> Result<(), Fail> {
     let alloc = rt.alloc();

@@ -1,4 +1,4 @@
-//! Stores as tests set them up, and steps and closings that are asked again if memory is refused.
+//! Stores for tests, and steps and closings that are repeated if memory is refused.
 
 ghost use Rattle.std.specs.Prelude.{◌≡◌, ◌≤◌, IfOk, length};
 ghost use Rattle.mc_protocol.specs.Commands.{key_of};
@@ -12,7 +12,7 @@ use mc_time::Moment;
 use std::alloc::{AllocError, Global};
 use std::sync::Wait;
 
-/// How stores of one shelf, of 64 and of 256 are set up.
+/// Settings of stores with one shelf, 64 and 256.
 pub(crate) const ONE: Settings = Settings {
     pages: 64,
     greatest: Settings::GREATEST,
@@ -31,14 +31,14 @@ pub(crate) const MANY: Settings = Settings {
     shelves: 256,
 };
 
-/// How a store is set up for items of several pages.
+/// Settings of a store with items of several pages.
 pub(crate) const LARGE: Settings = Settings {
     pages: 8,
     greatest: Settings::MOST_GREATEST,
     shelves: 1,
 };
 
-/// A store that is set up so, which has `a` and `k`, set at 1000 to `x` and `y`.
+/// Returns a store with these settings, and with `a` and `k`, set at 1000 to `x` and `y`.
 fn filled_store(alloc: Global, settings: Settings) -> Result<Store<Fnv>, StepFault> {
     let mut store = match Store::new(alloc, settings, Fnv) {
         Err(_) => Store::new(alloc, settings, Fnv)?,
@@ -52,7 +52,7 @@ fn filled_store(alloc: Global, settings: Settings) -> Result<Store<Fnv>, StepFau
     Ok(store)
 }
 
-/// An empty store whose next unique number is the last.
+/// Returns an empty store whose next unique number is the last.
 pub(crate) fn last_store(alloc: Global) -> Result<Store<Fnv>, AllocError> {
     match Store::starting(alloc, SOME, Fnv, 18446744073709551614) {
         Err(_) => Store::starting(alloc, SOME, Fnv, 18446744073709551614),
@@ -60,7 +60,7 @@ pub(crate) fn last_store(alloc: Global) -> Result<Store<Fnv>, AllocError> {
     }
 }
 
-/// A shared store over one that is set up so, and its first caller.
+/// Returns a shared store over one with these settings, and its first caller.
 pub(crate) fn shared_store(
     alloc: Global,
     settings: Settings,
@@ -73,7 +73,7 @@ pub(crate) fn shared_store(
     }
 }
 
-/// An empty shared store that is set up so, and its first caller.
+/// Returns an empty shared store with these settings, and its first caller.
 pub(crate) fn empty_store<K: KeyHash + Drop + Copy>(
     alloc: Global,
     settings: Settings,
@@ -106,7 +106,7 @@ pub(crate) fn stepped<R: Wait, K: KeyHash + Drop>(
     }
 }
 
-/// Closes a store, again if memory is refused.
+/// Closes a store, once more if memory is refused.
 pub(crate) fn closed(shared: Shared<Fnv>, alloc: Global, caller: Caller) -> Option<Store<Fnv>>
     requires { caller.table ≡ shared.table }
 {

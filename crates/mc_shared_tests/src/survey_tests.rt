@@ -1,4 +1,4 @@
-//! What a store tells of its shelves and of its classes. If an allocation is refused it asks again.
+//! The counts of a store's shelves and classes. If memory is refused the call is made again.
 
 ghost use Rattle.std.specs.Prelude.{◌≡◌};
 
@@ -14,7 +14,7 @@ use std::alloc::Global;
 use std::sync::Wait;
 use std::test::*;
 
-/// Counts what a key's shelf has. What the caller knows stays.
+/// Returns the counts of a key's shelf. The caller's past is unchanged.
 fn counts_beside<R: Wait>(
     rt: &R,
     shared: &Shared<Fnv>,
@@ -27,7 +27,7 @@ fn counts_beside<R: Wait>(
     shared.shelf_counts(rt, caller, shared.shelf_of(key))
 }
 
-/// Tells what a class has. What the caller knows stays.
+/// Returns the account of a class. The caller's past is unchanged.
 fn account_of<R: Wait>(rt: &R, shared: &Shared<Fnv>, caller: &mut Caller, class: Class) -> Account
     requires { caller.old.table ≡ shared.now.table }
     ensures { caller.new ≡ caller.old }
@@ -35,7 +35,7 @@ fn account_of<R: Wait>(rt: &R, shared: &Shared<Fnv>, caller: &mut Caller, class:
     shared.account(rt, caller, class)
 }
 
-/// Counts the items of a key's shelf, whose table has 64 homes still. A table that is another one counts as no items.
+/// Returns the number of items of a key's shelf, if its table has 64 homes, else 0.
 fn items<R: Wait>(sole: &mut Sole<'_, R, Fnv>, key: &[u8]) -> u64 {
     let Sole { rt, shared, caller } = sole;
     let ShelfCounts {
@@ -52,7 +52,7 @@ fn items<R: Wait>(sole: &mut Sole<'_, R, Fnv>, key: &[u8]) -> u64 {
     }
 }
 
-/// Tells the pages of the class of a charge, and in how many of its chunks items lie.
+/// Returns the pages of the class of a charge, and how many of its chunks items use.
 fn account<R: Wait>(sole: &mut Sole<'_, R, Fnv>, charge: u64) -> Option<(u32, u32)> {
     let class = class_of(charge)?;
     let Sole { rt, shared, caller } = sole;
@@ -60,24 +60,24 @@ fn account<R: Wait>(sole: &mut Sole<'_, R, Fnv>, charge: u64) -> Option<(u32, u3
     Some((pages, out))
 }
 
-/// An item of 50 bytes with its head, which lies in a chunk of 96, and is dead at 1010.
+/// An item of 50 bytes with its head, in a chunk of 96, which is dead at 1010.
 const FIRST: Row = (
     1000,
     b"a",
     Act::Told(Ask::Store(Verb::Set, 10, b"x"), "stored"),
 );
 
-/// Another of such chunks.
+/// Another item in such a chunk.
 const SECOND: Row = (
     1000,
     b"k",
     Act::Told(Ask::Store(Verb::Set, 0, b"y"), "stored"),
 );
 
-/// In which the first is dropped.
+/// Drops the first item.
 const TIDY: Row = (1010, b"a", Act::Tidy);
 
-/// Sets a third item, of 1049 bytes with its head, which lies in a chunk of 1184.
+/// Sets a third item, of 1049 bytes with its head, in a chunk of 1184.
 fn set_third<R: Wait>(sole: &mut Sole<'_, R, Fnv>, alloc: Global) -> Result<&'static str, Fail> {
     let block = match filled_block(alloc, 1000) {
         Err(_) => filled_block(alloc, 1000)?,
@@ -86,18 +86,19 @@ fn set_third<R: Wait>(sole: &mut Sole<'_, R, Fnv>, alloc: Global) -> Result<&'st
     Ok(sole.set(alloc, b"b", block.as_slice()))
 }
 
-/// What is told of the shelves of `a`, `k` and `b`, and of the chunks of 96, 120 and 1184 bytes.
+/// The counts of the shelves of `a`, `k` and `b`, and the accounts of three classes.
+///
+/// Their chunks are of 96, 120 and 1184 bytes.
 type Told = ([u64; 3], [Option<(u32, u32)>; 3]);
 
-/// Tells it.
+/// Returns them.
 fn told<R: Wait>(sole: &mut Sole<'_, R, Fnv>) -> Told {
     let items = [items(sole, b"a"), items(sole, b"k"), items(sole, b"b")];
     let accounts = [account(sole, 96), account(sole, 97), account(sole, 1184)];
     (items, accounts)
 }
 
-/// What is told of three items, and then when the first of them is dropped; nothing if one isn't
-/// stored.
+/// Returns them with three items, and again after the first is dropped; `None` if one isn't stored.
 fn told_twice<R: Wait>(
     sole: &mut Sole<'_, R, Fnv>,
     alloc: Global,
@@ -110,7 +111,7 @@ fn told_twice<R: Wait>(
     Ok(Some((before, told(sole))))
 }
 
-/// What a store is told to have that is set up so.
+/// Returns both for a store with these settings.
 fn told_by<R: Wait>(
     rt: &R,
     alloc: Global,
@@ -124,7 +125,7 @@ const BEFORE: [Option<(u32, u32)>; 3] = [Some((1, 2)), Some((0, 0)), Some((1, 1)
 
 const AFTER: [Option<(u32, u32)>; 3] = [Some((1, 1)), Some((0, 0)), Some((1, 1))];
 
-/// How a store is set up, and what it is told to have.
+/// Settings of a store, and its expected counts.
 const ROWS: [(Settings, (Told, Told)); 3] = [
     (ONE, (([3, 3, 3], BEFORE), ([2, 2, 2], AFTER))),
     (SOME, (([1, 1, 1], BEFORE), ([0, 1, 1], AFTER))),

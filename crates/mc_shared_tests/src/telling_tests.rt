@@ -1,4 +1,4 @@
-//! Replies that are told, as one caller hears them. If an allocation is refused it asks again.
+//! Replies that are delivered to an `Answer`. If memory is refused the step is taken again.
 
 use crate::stores::{LARGE, SOME, shared_store};
 use mc_hop::Fnv;
@@ -11,7 +11,7 @@ use std::marker::Model;
 use std::sync::Wait;
 use std::test::*;
 
-/// Keeps the reply that it is told, with a copy of a hit's block.
+/// Keeps the reply that is delivered, with a copy of a hit's block.
 #[derive(Drop)]
 struct Keeper {
     alloc: Global,
@@ -65,7 +65,7 @@ fn without_block(reply: &Reply) -> Option<Reply> {
     }
 }
 
-/// Refuses whatever it is told.
+/// Refuses every reply.
 #[derive(Drop)]
 struct Deaf;
 
@@ -81,7 +81,7 @@ impl Answer for Deaf {
     }
 }
 
-/// A caller that hears its replies. Contracts see whose it is.
+/// A caller that keeps its replies. Contracts see its identity.
 #[derive(Drop)]
 struct Heard<'a, R: Wait> {
     asking: Asking<'a, R, Fnv, NoGate>,
@@ -143,7 +143,7 @@ fn replies_are_told_as_they_are_given(rt: HostRuntime) -> Result<(), Fail> {
     Ok(())
 }
 
-/// Names what came of a step that nobody heard.
+/// Returns the name of a step's result with an `Answer` that refuses it.
 fn unheard<R: Wait>(
     asking: &mut Asking<'_, R, Fnv, NoGate>,
     alloc: Global,
@@ -163,8 +163,9 @@ fn unheard<R: Wait>(
     }
 }
 
-/// A hit that nobody hears isn't taken, and leaves its shelf free and its item's expiry as it was. Any
-/// other step is taken.
+/// A refused hit isn't taken; its shelf is free and its item's expiry unchanged.
+///
+/// Any other step is taken.
 #[test]
 fn a_hit_that_is_not_heard_is_not_taken(rt: HostRuntime) -> Result<(), Fail> {
     let alloc = rt.alloc();
@@ -213,8 +214,9 @@ impl Answer for Counter {
     }
 }
 
-/// Makes a block of three pages, with `y` on both sides of where the first page ends that has a key of
-/// one byte, and `z` where the second does.
+/// Returns a block of three pages, with a key of one byte.
+///
+/// It has `y` on both sides of the end of the first page, and `z` at the end of the second.
 fn large_block(alloc: Global) -> Result<Vec<u8>, AllocError> {
     let mut block = filled_block(alloc, 2_500_000)?;
     for (at, byte) in block.iter_mut().enumerate() {
@@ -227,8 +229,9 @@ fn large_block(alloc: Global) -> Result<Vec<u8>, AllocError> {
     Ok(block)
 }
 
-/// A block in three pages is told as it is, and the telling asks for no memory: it goes well whatever
-/// allocation is refused.
+/// A block in three pages is delivered whole and needs no memory.
+///
+/// It succeeds whatever allocation is refused.
 #[test]
 fn an_item_of_several_pages_is_told_where_it_lies(rt: HostRuntime) -> Result<(), Fail> {
     let alloc = rt.alloc();

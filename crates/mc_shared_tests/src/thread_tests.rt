@@ -1,4 +1,4 @@
-//! Callers of one store in two threads. If an allocation is refused they ask again.
+//! Callers of one store in two threads. If memory is refused they make the call again.
 
 ghost use Rattle.std.specs.Prelude.{◌≡◌};
 
@@ -18,21 +18,21 @@ use std::thread::Threads;
 /// What a caller does in a thread of its own.
 #[derive(Clone, Copy)]
 enum Errand {
-    /// It reads `a` and `k` in turn, 1000 times each.
+    /// Reads `a` and `k` in turn, 1000 times each.
     Reads,
-    /// It sets this key to 600000 bytes.
+    /// Sets this key to 600000 bytes.
     Sets(u8),
-    /// It sets 150 keys, from this number on each second, and deletes those of each third number.
+    /// Sets 150 keys, every second number from this one on, and deletes every third number's.
     Keys(u16),
 }
 
-/// What came of it.
+/// The result.
 #[derive(Clone, Copy, Debug, PartialEq, Eq)]
 enum Came {
     Hits(u32),
     Stored,
     NoChunk,
-    /// So many were stored, and so many deleted.
+    /// The number of keys stored, and of keys deleted.
     Keys(u32, u32),
     Other,
 }
@@ -84,7 +84,7 @@ fn sets<R: Wait, K: KeyHash + Drop>(
     }
 }
 
-/// What is done with each of some keys.
+/// What is done with each key.
 #[derive(Clone, Copy)]
 enum Doing {
     Set,
@@ -92,7 +92,7 @@ enum Doing {
     Get,
 }
 
-/// So many numbers of keys, from the first on in steps of so many.
+/// Some numbers of keys: the first, the step and the count.
 #[derive(Clone, Copy)]
 struct Numbers {
     first: u16,
@@ -100,7 +100,7 @@ struct Numbers {
     count: u16,
 }
 
-/// The three digits of a number below 1000.
+/// Returns the three digits of a number below 1000.
 fn digits_of(number: u16) -> [u8; 3] {
     [
         (number / 100 % 10) as u8 + b'0',
@@ -109,8 +109,9 @@ fn digits_of(number: u16) -> [u8; 3] {
     ]
 }
 
-/// Returns whether a step on the key of a number was answered as it should be. A key of each third
-/// number was deleted, and each other has its digits.
+/// Returns whether a step on a number's key has the expected reply.
+///
+/// The key of each third number was deleted, and each other has its digits.
 fn is_right(doing: Doing, number: u16, taken: &Result<Reply, StepFault>) -> bool {
     match (doing, taken) {
         (Doing::Set, Ok(Reply::Stored)) => true,
@@ -123,8 +124,7 @@ fn is_right(doing: Doing, number: u16, taken: &Result<Reply, StepFault>) -> bool
     }
 }
 
-/// Does this with the key of a number, `k` and its digits, and returns whether it was answered as
-/// it should be.
+/// Does this with a number's key, `k` and its digits. Returns whether the reply is as expected.
 fn does<R: Wait, K: KeyHash + Drop>(
     rt: &R,
     shared: &Shared<K>,
@@ -150,8 +150,9 @@ fn does<R: Wait, K: KeyHash + Drop>(
     is_right(doing, number, &taken)
 }
 
-/// Does this with the keys of these numbers one after another, asks for growth after each, and counts those that were answered as
-/// they should be.
+/// Does this with the keys of these numbers in order, with growth after each.
+///
+/// Returns how many had the expected reply.
 fn done<R: Wait, K: KeyHash + Drop>(
     rt: &R,
     shared: &Shared<K>,
@@ -175,7 +176,7 @@ fn done<R: Wait, K: KeyHash + Drop>(
     (caller, right)
 }
 
-/// Sets 150 keys, from this number on each second, and deletes those of each third number.
+/// Sets 150 keys, every second number from this one on, and deletes every third number's.
 fn keys<R: Wait, K: KeyHash + Drop>(
     rt: &R,
     shared: &Shared<K>,
@@ -201,7 +202,7 @@ fn keys<R: Wait, K: KeyHash + Drop>(
     (caller, Came::Keys(stored, deleted))
 }
 
-/// A caller goes on its errand.
+/// Runs a caller's errand.
 fn goes<R: Wait, K: KeyHash + Drop>(
     rt: &R,
     shared: &Shared<K>,
@@ -226,7 +227,7 @@ fn goes<R: Wait, K: KeyHash + Drop>(
     }
 }
 
-/// Two callers go on their errands, each in a thread of its own. The second goes on with what both know.
+/// Runs the errands of two callers, each in a thread of its own. Then the second joins the first.
 fn both<R: Threads + Wait + Sync, K: KeyHash + Drop + Sync>(
     rt: &R,
     shared: &Shared<K>,
@@ -291,8 +292,9 @@ fn one_of_two_sets_gets_the_one_page(rt: HostRuntime) -> Result<(), Fail> {
     Ok(())
 }
 
-/// The keys `k001` to `k300`, which have one hash, are set by two threads at once, and each third is deleted. What one of them
-/// wrote the other's caller reads, once they are joined.
+/// Two threads set the keys `k001` to `k300`, which have one hash, and delete each third.
+///
+/// Once they are joined, one caller reads what the other wrote.
 #[test]
 fn two_threads_use_three_hundred_keys_of_one_hash(rt: HostRuntime) -> Result<(), Fail> {
     let alloc = rt.alloc();

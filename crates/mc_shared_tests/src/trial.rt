@@ -1,4 +1,4 @@
-//! A store with the caller that asks it.
+//! A store with its caller.
 
 use crate::stores::{SOME, closed, last_store, shared_store};
 use mc_hop::Fnv;
@@ -10,7 +10,7 @@ use std::alloc::{AllocError, Global};
 use std::marker::Model;
 use std::sync::Wait;
 
-/// A store with the caller that asks it. Contracts see which store it is.
+/// A store with its caller. Contracts see which store it is.
 #[derive(Drop)]
 pub(crate) struct Trial<'a, R: Wait> {
     pub(crate) rt: &'a R,
@@ -32,12 +32,12 @@ impl<'a, R: Wait> Model for Trial<'a, R> {
 }
 
 impl<'a, R: Wait> Trial<'a, R> {
-    /// A store that has `a` and `k`, set at 1000 to `x` and `y`, with its first caller.
+    /// Returns a store with `a` and `k`, set at 1000 to `x` and `y`, and its first caller.
     pub(crate) fn open(rt: &'a R, alloc: Global) -> Result<Trial<'a, R>, StepFault> {
         Trial::open_so(rt, alloc, SOME)
     }
 
-    /// The same of a store that is set up so.
+    /// Returns the same for a store with these settings.
     pub(crate) fn open_so(
         rt: &'a R,
         alloc: Global,
@@ -47,7 +47,7 @@ impl<'a, R: Wait> Trial<'a, R> {
         Ok(Trial { rt, shared, caller })
     }
 
-    /// An empty store of which one unique number is left, with its first caller.
+    /// Returns an empty store with one unique number left, and its first caller.
     pub(crate) fn at_the_last_number(rt: &'a R, alloc: Global) -> Result<Trial<'a, R>, AllocError> {
         let (shared, caller) = match Shared::over(alloc, last_store(alloc)?) {
             Err(_) => Shared::over(alloc, last_store(alloc)?)?,

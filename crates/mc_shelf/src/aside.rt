@@ -1,4 +1,8 @@
-//! Shelves that were laid aside whole: their entries are taken off one by one.
+//! Shelves that were laid aside whole: their entries are removed one by one.
+//!
+//! The search for a chunk of a class reads entries, not items: the entry has the class, and reading
+//! an item costs a cache miss. Each class remembers where its search stopped, so its writes read no
+//! entry twice.
 
 ghost use Rattle.std.specs.Prelude.{◌≡◌, ◌+◌, ◌≤◌, ℕ, None, true, IfSome, [], vec_len, vec_capacity};
 ghost use Rattle.std.specs.FinMap.{empty};
@@ -13,8 +17,10 @@ use mc_slab::{Chunks, Class};
 use std::mem;
 
 impl Shelf {
-    /// Puts a shelf of no items in the place of this one, and answers this one as it was, to be laid aside. The greatest charge
-    /// stays, and no flush waits. It takes no memory, and the cost doesn't grow with the items.
+    /// Replaces this shelf by one without items, and returns this one, to be laid aside.
+    ///
+    /// The greatest charge is unchanged, and no flush is pending. It takes no memory, and the cost
+    /// doesn't grow with the items.
     pub fn emptied_by(&mut self, bare: Shelf) -> Shelf
         requires { IsBare bare }
         ensures before { result ≡ self.old }
@@ -39,8 +45,9 @@ impl Shelf {
         self.index.is_empty()
     }
 
-    /// Takes an entry off: the first whose number is at or above `at`, or the first of all if none
-    /// is. `at` becomes its number, so that a walk looks at each number about once.
+    /// Removes and returns the first entry at or above number `at`, or else the first of all.
+    ///
+    /// `at` becomes its number, so that a walk looks at each number about once.
     fn take_next(&mut self, at: &mut usize) -> Option<Entry>
         ensures some { IfSome result (IsOff self.old.content self.new.content) }
         ensures none { result ≡ None → self.old.content.items ≡ empty }
@@ -50,7 +57,9 @@ impl Shelf {
         Some(self.index.remove(place))
     }
 
-    /// Takes the first entry off that lies in chunks of a class and whose number is at or above `at`, which becomes its number.
+    /// Removes and returns the first entry with chunks of a class whose number is at or above `at`.
+    ///
+    /// `at` becomes its number.
     fn take_of(&mut self, class: Class, at: &mut usize) -> Option<Entry>
         ensures some { IfSome result (IsOff self.old.content self.new.content) }
         ensures class { IfSome result (λ entry. (item_need entry.key entry.item).class ≡ class) }
@@ -62,10 +71,10 @@ impl Shelf {
     }
 }
 
-/// A place of shelves aside, from which a search over them goes on.
+/// A place in the shelves aside, from which a search goes on.
 #[derive(Clone, Copy)]
 pub(crate) struct Seek {
-    /// Which of the shelves.
+    /// The index of the shelf.
     shelf: usize,
     /// The number of the entry.
     at: usize,
@@ -76,8 +85,9 @@ impl Seek {
     pub(crate) const START: Seek = Seek { shelf: 0, at: 0 };
 }
 
-/// Takes an item in chunks of a class off the shelves aside, the first from a place on, and answers its chunks. All others stay. The
-/// place becomes the item's; where none was found, the first of all.
+/// Removes the first item with chunks of a class from a place on, and returns its chunks.
+///
+/// All others stay. The place becomes the item's, or the first of all if no item was found.
 pub(crate) fn chunks_of(aside: &mut Vec<Shelf>, class: Class, from: &mut Seek) -> Option<Chunks>
     ensures off { IfSome result (AreOff aside.old.items aside.new.items) }
     ensures class { IfSome result (λ chunks. chunks.class ≡ class) }
@@ -96,8 +106,9 @@ pub(crate) fn chunks_of(aside: &mut Vec<Shelf>, class: Class, from: &mut Seek) -
     None
 }
 
-/// Takes an item off the last shelf that has one, from `at` on, and answers its chunks. Shelves
-/// behind it are dropped, as they have none; if no shelf has an item, all are.
+/// Removes an item from the last shelf that has one, from `at` on, and returns its chunks.
+///
+/// Shelves behind it have no item and are dropped; if no shelf has an item, all are dropped.
 pub(crate) fn next_chunks(aside: &mut Vec<Shelf>, at: &mut usize) -> Option<Chunks>
     ensures off { IfSome result (AreOff aside.old.items aside.new.items) }
     ensures none { result ≡ None → aside.new.items ≡ [] }
@@ -113,7 +124,9 @@ pub(crate) fn next_chunks(aside: &mut Vec<Shelf>, at: &mut usize) -> Option<Chun
     None
 }
 
-/// Puts those of other shelves that have items behind shelves that have room for all of them. It takes no memory.
+/// Appends those of `others` that have items to `shelves`, which has room for them.
+///
+/// It takes no memory.
 pub(crate) fn join(shelves: Vec<Shelf>, others: &mut Vec<Shelf>) -> Vec<Shelf>
     requires { vec_len shelves + vec_len others.old ≤ vec_capacity shelves }
     ensures { (class : ℕ) → count_in result.items class

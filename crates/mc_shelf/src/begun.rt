@@ -1,4 +1,8 @@
-//! A step in two parts: what the desk is needed for, and the copying of the step's block, which it isn't.
+//! A write in two parts: what needs the desk, and the copying of the block, which doesn't.
+//!
+//! A block isn't copied while the desk is held. After `begin` the number, the chunks and all counts
+//! are decided; `finish` copies. A block under 4096 bytes is copied at the desk, since coming back
+//! costs about 400 instructions.
 
 ghost use Rattle.std.specs.Prelude.{◌≡◌, ◌≤◌, length, Some, None};
 ghost use Rattle.mc_protocol.specs.Commands.{key_of};
@@ -25,30 +29,36 @@ use mc_protocol::{Draft, KeyStep, Reply};
 use mc_slab::Chunks;
 use std::mem;
 
-/// What is left of a write: a large block of a new key, a block of any size that goes into the chunks of the key's item, over that
-/// one's block or behind it, or one that is joined to it in others.
+/// The rest of a write: the copying of a block.
+///
+/// It is a large block of a new key, a block of any size that goes over or behind that of the key's
+/// item in its chunks, or one that is joined with it in other chunks.
 #[derive(Drop)]
 pub struct Unwritten {
-    /// The number that it drew.
+    /// The unique number of the write.
     pub(crate) unique: u64,
-    /// The chunks of a new key's item, or of one that is joined to the key's item, whose own are let go then, as the desk has others
-    /// for them; with none the item goes into those of the key's item.
+    /// The chunks of the new item, or `None` if it goes into those of the key's item.
+    ///
+    /// If the item is joined with the key's item in other chunks, that item's own chunks are freed,
+    /// since the desk got others in exchange.
     pub(crate) chunks: Option<Chunks>,
 }
 
-/// How far the desk has brought a plan's step. A shelf that is given no other step before `finish` then holds what the step makes.
+/// How far the desk has brought a planned step.
+///
+/// If the shelf takes no other step before `finish`, it then holds the result of the step.
 #[derive(Drop)]
 pub enum Begun {
-    /// The shelf holds what the step makes already.
+    /// The shelf already holds the result of the step.
     Done,
-    /// There is no room for the item that the step writes. The shelf holds none that is dead under its key.
+    /// There is no room for the item that the step writes. A dead item of its key was dropped.
     Full,
-    /// The item that the step writes is still to be written, with the step's block.
+    /// The item is still to be written, with the step's block.
     Left(Unwritten),
 }
 
 impl Begun {
-    /// Gives the answer of a write that was begun.
+    /// Returns the reply of a write that was begun.
     fn begun_reply(&self, draft: &Draft) -> Reply
         ensures { result ≡ write_told draft.now.body self.now }
     {
@@ -60,10 +70,11 @@ impl Begun {
 }
 
 impl Shelf {
-    /// Does what is left of a plan's step that was begun at this shelf, with no other step between,
-    /// and answers it; the plan has no answer then. Copies the step's block if that is left to be
-    /// written, and the item that it is joined to in other chunks, and takes no memory. No entry of an
-    /// old table is moved.
+    /// Finishes a planned step that was begun at this shelf, and returns its reply.
+    ///
+    /// No other step may come between, and the plan has no reply afterwards. It copies the step's
+    /// block if that is left, and the item that the block is joined with in other chunks. It takes
+    /// no memory, and moves no entry of an old table.
     #[tactic(auto, using(crate::proofs::CountLemmas::table_rules))]
     pub fn finish(&mut self, plan: &mut Plan<'_>, begun: Begun, step: &KeyStep<'_>) -> Reply
         requires { CanFinish plan.old begun step.now self.old }
@@ -103,14 +114,14 @@ impl Shelf {
         let Unwritten { unique, chunks } = rest;
         match chunks {
             Some(chunks) => {
-                // what stood there is let go: the desk has other chunks for its own
+                // the old item's chunks are freed: the desk got others in exchange
                 let _old = self.put_into(write, unique, chunks, step);
             }
             None => self.write_over(write, unique, step),
         }
     }
 
-    /// Writes the item of a write in the chunks of the key's item: the step's block over that one's, or behind it.
+    /// Writes the step's block over the block of the key's item, or behind it, in its chunks.
     fn write_over(&mut self, write: &Write, unique: u64, step: &KeyStep<'_>)
         requires short { length (key_of step.now) ≤ 250 }
         requires sought { IsSought self.old.content (key_of step.now)

@@ -1,4 +1,9 @@
-//! The slab of a desk, some of whose free chunks are collected later.
+//! The slab of a desk, with shelves aside whose chunks count as free and are collected later.
+//!
+//! A `flush_all` without delay lays shelves aside whole. Their chunks count as free at once, and
+//! each later write collects one item; a class that lacks chunks collects its own items first.
+//! Contracts see the slab as if all were collected, so no contract above mentions the shelves
+//! aside. One item per write keeps a set below 1.5 times its usual cost; 8 items cost 2 to 4 times.
 
 ghost use Rattle.std.specs.Prelude.{◌≡◌, ◌+◌, ◌-◌, ◌<◌, ◌≤◌, ℕ, List, [], true, false, slice_index, vec_len, IfOk};
 ghost use Rattle.mc_slab.specs.Classes.{IsClass};
@@ -20,24 +25,26 @@ use mc_slab::{Account, Chunks, Class, Need, Pages, Slab, TakeFault};
 use std::alloc::{AllocError, Global};
 use std::marker::Model;
 
-/// How many items a write collects of the shelves aside.
+/// The number of items that a write collects from the shelves aside.
 const FEW: u32 = 1;
 
-/// A slab, and shelves that were laid aside whole. The chunks of their items are free at once: they are collected one with each
-/// write, and where a class has too few unused chunks its own are, as many as it takes, before it gets a page.
+/// A slab, and shelves that were laid aside whole.
 ///
-/// Contracts see the slab as if all of them were collected.
+/// The chunks of their items are free at once. One item is collected with each write; a class with
+/// too few unused chunks collects as many of its own as it needs, before it gets a page. Contracts
+/// see the slab as if all were collected.
 #[derive(Drop)]
 pub(crate) struct Collector {
     slab: Slab,
-    /// Of each class, class 1 first, how many chunks are out beside those of the shelves aside.
+    /// For each class, class 1 first, the chunks that are out and not of shelves aside.
     out: [u32; 40],
-    /// The shelves aside, of which the last one is collected first.
+    /// The shelves aside. The last one is collected first.
     aside: Vec<Shelf>,
     /// Where the walk over the last one goes on.
     at: usize,
-    /// Of each class, class 1 first, where the search for its chunks aside goes on. None of them lies before it, but for one of a
-    /// stray that took the place of another.
+    /// For each class, class 1 first, where the search for its chunks aside goes on.
+    ///
+    /// None of them is before it, except those of a stray that took the place of another.
     sought: [Seek; 40],
 }
 
@@ -55,7 +62,9 @@ impl Model for Collector {
 }
 
 impl Collector {
-    /// Makes one of at most that many pages, 1 to 65536, none of which a class has yet. The one error is a refused allocation.
+    /// Makes a collector with a limit of 1 to 65536 pages; no class has one yet.
+    ///
+    /// The only error is a refused allocation.
     pub(crate) fn new(alloc: Global, pages: u32) -> Result<Collector, AllocError>
         requires { (1 ≤ pages) × (pages ≤ 65536) }
         ensures value { IfOk result (λ slab. slab ≡ untouched pages) }
@@ -70,7 +79,7 @@ impl Collector {
         })
     }
 
-    /// Counts the class's pages, and its chunks that are out.
+    /// Returns the class's pages, and the number of its chunks that are out.
     pub(crate) fn account(&self, class: Class) -> Account
         ensures value { result
             ≡ record { pages = pages_of self.now class; out = out_of self.now class } }
@@ -83,7 +92,7 @@ impl Collector {
         }
     }
 
-    /// Counts the pages that no class has yet.
+    /// Returns the number of pages that no class has yet.
     pub(crate) fn pages_left(&self) -> u32
         ensures value { result ≡ pages_left self.now }
         ensures is_slab { IsSlab self.now }
@@ -98,9 +107,10 @@ impl Collector {
         self.take_all_with(alloc, need, None)
     }
 
-    /// Takes the chunks of a need, as a slab does with pages that are brought. If its class has too
-    /// few unused chunks, its own aside are collected first, until it has enough or none of the class
-    /// lies aside.
+    /// Takes the chunks of a need, as a slab does with `pages`.
+    ///
+    /// If its class has too few unused chunks, its chunks aside are collected first, until there
+    /// are enough or none is left.
     pub(crate) fn take_all_with(
         &mut self,
         alloc: Global,
@@ -122,7 +132,7 @@ impl Collector {
         );
         match self.slab.take_all_with(alloc, need, pages) {
             Ok(chunks) => {
-                // what holds of every slab, for the proof
+                // for the proof: the invariant of the slab
                 let _most = self.slab.account(need.class());
                 self.out[place] = out + need.count();
                 Ok(chunks)
@@ -131,9 +141,10 @@ impl Collector {
         }
     }
 
-    /// Gives the class of a need the pages that it will want, as a slab does with pages that are
-    /// brought. If it has too few unused chunks, its own aside are collected first, until it has
-    /// enough or none of the class lies aside.
+    /// Gives the class of a need the pages that it will want, as a slab does with `pages`.
+    ///
+    /// If it has too few unused chunks, its chunks aside are collected first, until there are
+    /// enough or none is left.
     pub(crate) fn ready_with(
         &mut self,
         alloc: Global,
@@ -157,7 +168,7 @@ impl Collector {
         self.slab.ready_with(alloc, need, back, pages)
     }
 
-    /// Takes chunks back, of whose class so many are out. It takes no memory.
+    /// Gives chunks back, if at least as many of their class are out. It takes no memory.
     pub(crate) fn give_all(&mut self, chunks: Chunks)
         requires { chunks.count ≤ out_of self.old chunks.class }
         ensures given { self.new ≡ given self.old chunks.entry.class chunks.entry.count }
@@ -168,15 +179,17 @@ impl Collector {
         self.out[place_of(need.class())] -= need.count();
     }
 
-    /// Collects a few items of the shelves aside, if there are some.
+    /// Collects a few items of the shelves aside, if there are any.
     pub(crate) fn collect(&mut self)
         ensures { self.new ≡ self.old }
     {
         collect_few(&mut self.slab, &mut self.aside, &mut self.at);
     }
 
-    /// Lays shelves aside, whose items have all the chunks that are out: none is out then. It takes no memory. Of shelves that
-    /// lie aside already those with items stay aside, as many as their vector has room for; the others' items are collected.
+    /// Lays shelves aside. Their items have all the chunks that are out, so none is out afterwards.
+    ///
+    /// It takes no memory. Of the shelves that are aside already, as many with items are kept as
+    /// the vector has room for; the items of the others are collected.
     pub(crate) fn lay_aside(&mut self, shelves: Vec<Shelf>)
         requires { (class : ℕ) → IsClass class
             → out_of self.old class ≡ count_in shelves.items class }
@@ -192,7 +205,7 @@ impl Collector {
     }
 }
 
-/// Gives the place of a class, from 0 to 39.
+/// Returns the index of a class, from 0 to 39.
 fn place_of(class: Class) -> usize
     ensures value { result ≡ class - 1 }
     ensures is_class { IsClass class }
@@ -200,7 +213,9 @@ fn place_of(class: Class) -> usize
     usize::from(class.number()) - 1
 }
 
-/// Collects one item of the shelves aside. Returns whether there was one; if not, no shelf is left.
+/// Collects one item of the shelves aside, and returns whether there was one.
+///
+/// If there was none, no shelf is left.
 fn collect_one(slab: &mut Slab, aside: &mut Vec<Shelf>, at: &mut usize) -> bool
     requires { (out : List ℕ) × LieAside slab.old out aside.old.items }
     ensures collected { AreCollected slab.old slab.new aside.old.items aside.new.items }
@@ -228,7 +243,7 @@ fn collect_few(slab: &mut Slab, aside: &mut Vec<Shelf>, at: &mut usize)
     }
 }
 
-/// Collects items until at most so many shelves lie aside.
+/// Collects items until at most `room` shelves are aside.
 fn make_room(slab: &mut Slab, aside: &mut Vec<Shelf>, at: &mut usize, room: usize)
     requires { (out : List ℕ) × LieAside slab.old out aside.old.items }
     ensures collected { AreCollected slab.old slab.new aside.old.items aside.new.items }
@@ -241,8 +256,9 @@ fn make_room(slab: &mut Slab, aside: &mut Vec<Shelf>, at: &mut usize, room: usiz
     }
 }
 
-/// Returns whether a need's class has too few unused chunks, once so many that are out came back, and more of its chunks are out
-/// than these.
+/// Returns whether a need's class has too few unused chunks and some of its chunks are aside.
+///
+/// `back` chunks count as given back. `out` is the number of chunks that are out and not aside.
 fn lacks(slab: &Slab, need: Need, back: u64, out: u32) -> bool
     requires { back ≤ out_of slab.now need.class }
     ensures { result ≡ false → Suffices slab.now need back out }
@@ -256,8 +272,10 @@ fn lacks(slab: &Slab, need: Need, back: u64, out: u32) -> bool
     chunks - u64::from(account.out) + back < u64::from(need.count())
 }
 
-/// Collects an item in chunks of a class, the first that a search finds. Answers whether it found one. Chunks of other classes stay
-/// where they are.
+/// Collects the first item with chunks of a class that a search finds. Returns whether it found
+/// one.
+///
+/// Chunks of other classes stay aside.
 fn collect_of(
     slab: &mut Slab,
     aside: &mut Vec<Shelf>,
@@ -282,8 +300,11 @@ fn collect_of(
     }
 }
 
-/// Collects an item for a class: one in its chunks, and where the search finds none the first of all. The search begins anew then,
-/// so it finds what a stray that went took to a place behind it. Answers whether there was one.
+/// Collects an item with chunks of a class, or else the first item of all. Returns whether there
+/// was one.
+///
+/// After the second the search begins anew, so it finds an entry that a removed stray moved behind
+/// it.
 fn collect_next(
     slab: &mut Slab,
     aside: &mut Vec<Shelf>,
@@ -302,8 +323,9 @@ fn collect_next(
     collect_one(slab, aside, at)
 }
 
-/// Collects items until a need's class has unused chunks enough, once so many that are out came back, or none of it lies aside.
-/// `out` is how many chunks of it are out beside those.
+/// Collects items until a need's class has enough unused chunks, or none of the class is aside.
+///
+/// `back` chunks count as given back. `out` is the number of chunks that are out and not aside.
 fn collect_for(
     slab: &mut Slab,
     aside: &mut Vec<Shelf>,

@@ -1,16 +1,16 @@
-//! What a shelf tells of its size.
+//! The size of a shelf.
 
-/// How many items a shelf has, and how they stand: in tables that grow, or in none.
+/// The number of a shelf's items, and how they are stored.
 #[derive(Clone, Copy, Debug, PartialEq, Eq)]
 pub struct ShelfCounts {
-    /// The items, those among them that are dead and not yet dropped.
+    /// The items, including dead ones that aren't dropped yet.
     pub items: u64,
-    /// The homes of the table that new entries go to: a power of two, 64 to 16777216.
+    /// The homes of the newer table: a power of two, 64 to 16777216.
     pub homes: u64,
-    /// Whether the table grows: an old one of half the homes is beside it.
+    /// Whether the table grows: there is also an old one of half the homes.
     pub growing: bool,
-    /// The items of the old table, which are left to move.
+    /// The items of the old table, which are still to be moved.
     pub left: u64,
-    /// The items for which no bucket could be had near their homes. They stand in a list.
+    /// The items without a bucket near their homes. They are in a list.
     pub strays: u64,
 }

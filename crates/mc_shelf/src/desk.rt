@@ -28,8 +28,9 @@ use mc_slab::{Account, Chunks, Class, Need, Pages};
 use std::alloc::{AllocError, Global};
 use std::marker::Model;
 
-/// What the shelves of a store share: the memory that items lie in, and the next unique number. Contracts see the slab's
-/// account and the number.
+/// What the shelves of a store share: the memory of items, and the next unique number.
+///
+/// Contracts see the slab's account and the number.
 #[derive(Drop)]
 pub struct Desk {
     slab: Collector,
@@ -49,18 +50,19 @@ impl Model for Desk {
     ghost invariant = { λ d. IsSlab d.slab };
 }
 
-/// The pages that a write asks for.
+/// The pages that a write wants.
 #[derive(Clone, Copy, Debug, PartialEq, Eq)]
 pub struct Wanted {
-    /// The class that they go to.
+    /// The class of the pages.
     pub class: Class,
-    /// How many they are, 1 to 8.
+    /// The number of pages, 1 to 8.
     pub pages: u32,
 }
 
 impl Desk {
-    /// Makes a desk of that many pages, 1 to 65536, none of which has gone to a class. Its first number is `next`, at least
-    /// 1. The one error is a refused allocation.
+    /// Makes a desk with a limit of 1 to 65536 pages; no class has one yet.
+    ///
+    /// Its first unique number is `next`, at least 1. The only error is a refused allocation.
     pub fn with_next_number(alloc: Global, pages: u32, next: u64) -> Result<Desk, AllocError>
         requires pages { (1 ≤ pages) × (pages ≤ 65536) }
         requires next { 1 ≤ next }
@@ -73,7 +75,7 @@ impl Desk {
         })
     }
 
-    /// Tells what the class has: its pages, and its chunks that items lie in.
+    /// Returns the pages of a class, and the number of its chunks that items use.
     pub fn account(&self, class: Class) -> Account
         ensures { result ≡ record {
           pages = pages_of self.now.slab class;
@@ -83,7 +85,7 @@ impl Desk {
         self.slab.account(class)
     }
 
-    /// Tells the number that the next write draws; 2^64 - 1 if they are spent.
+    /// Returns the unique number of the next write; 2^64 - 1 if they are used up.
     pub fn next_unique(&self) -> u64
         ensures value { result ≡ self.now.next_unique }
         ensures slab { IsSlab self.now.slab }
@@ -91,7 +93,7 @@ impl Desk {
         self.next_unique
     }
 
-    /// Returns whether the unique numbers are spent.
+    /// Returns whether the unique numbers are used up.
     pub(crate) fn is_spent(&self) -> bool
         ensures spent { result ≡ true → self.now.next_unique ≡ 2 ^ 64 - 1 }
         ensures left { result ≡ false → self.now.next_unique < 2 ^ 64 - 1 }
@@ -100,8 +102,9 @@ impl Desk {
         self.next_unique() == u64::MAX
     }
 
-    /// Draws the next number, if they are not spent. Of shelves that lie aside an item is
-    /// collected, as each write draws a number.
+    /// Returns the next unique number and counts on; they must not be used up.
+    ///
+    /// It also collects an item of the shelves aside, since each write takes a number.
     pub(crate) fn draw(&mut self) -> u64
         requires { self.old.next_unique < 2 ^ 64 - 1 }
         ensures number { result ≡ self.old.next_unique }
@@ -115,8 +118,9 @@ impl Desk {
         number
     }
 
-    /// Returns whether the chunks of a need can be had, once so many of its class came back: so many are unused, or can be cut
-    /// of the pages that are left.
+    /// Returns whether the chunks of a need can be taken once `back` of its class were given back.
+    ///
+    /// They can if enough are unused, or can be cut from the pages that are left.
     pub(crate) fn has_room(&self, need: Need, back: u64) -> bool
         requires { back ≤ 8 }
         ensures value { result ≡ has_room_with self.now.slab need back }
@@ -132,7 +136,7 @@ impl Desk {
         count <= at_hand + pages * u64::from(class.chunks_a_page())
     }
 
-    /// Counts the chunks of the class's pages that aren't out.
+    /// Returns the number of chunks of the class's pages that aren't out.
     fn unused_chunks(&self, class: Class) -> u64
         ensures value { result ≡ unused self.now.slab class }
         ensures most { result < 2 ^ 46 }
@@ -143,14 +147,14 @@ impl Desk {
         chunks - u64::from(out)
     }
 
-    /// Returns whether the chunks of a need are there, so that it wants no page.
+    /// Returns whether the chunks of a need are unused, so that it wants no page.
     pub(crate) fn has_unused(&self, need: Need) -> bool
         ensures { result ≡ true → need.count ≤ unused self.now.slab need.class }
     {
         u64::from(need.count()) <= self.unused_chunks(need.class())
     }
 
-    /// Counts the pages that a need's class wants for it, once so many of its chunks came back: 0 to 8.
+    /// Returns how many pages a need wants once `back` chunks were given back: 0 to 8.
     fn pages_wanted(&self, need: Need, back: u64) -> u32
         requires { back ≤ 8 }
         ensures value { result ≡ pages_wanted self.now.slab need back }
@@ -160,8 +164,9 @@ impl Desk {
         u64::from(need.count()).saturating_sub(at_hand) as u32
     }
 
-    /// Tells which pages a need asks for, once so many chunks of its class came back; none if it
-    /// asks for none, or can't be had.
+    /// Returns the pages that a need wants once `back` chunks of its class were given back.
+    ///
+    /// It is `None` if it wants none, or if there is no room for it.
     pub(crate) fn wanted_pages(&self, need: Need, back: u64) -> Option<Wanted>
         requires { back ≤ 8 }
         ensures wanted { IfSome result (λ wanted. WantsPages self.now.slab need back
@@ -182,9 +187,10 @@ impl Desk {
         })
     }
 
-    /// Takes the chunks of a need, of any content, if they can be had. Pages that its class wants
-    /// for them are all that takes memory; they are those that are brought, if so many of its class
-    /// are. Refused, the desk is as it was.
+    /// Takes the chunks of a need, if there is room. Their content is unspecified.
+    ///
+    /// Only pages for its class take memory; `pages` are used if they are enough and of the class.
+    /// An error leaves the desk unchanged.
     pub(crate) fn take(
         &mut self,
         alloc: Global,
@@ -206,9 +212,10 @@ impl Desk {
         }
     }
 
-    /// Gives a need's class the pages that it wants for it once so many of its chunks, which are
-    /// out, come back, if the need can be had then. They are those that are brought, if so many of
-    /// its class are. Refused, the desk is as it was.
+    /// Gives a need's class the pages that it wants once `back` chunks were given back.
+    ///
+    /// There must be room for the need. `pages` are used if they are enough and of the class. An
+    /// error leaves the desk unchanged.
     pub(crate) fn ready(
         &mut self,
         alloc: Global,
@@ -226,7 +233,7 @@ impl Desk {
         ensures is_need { IsNeed need }
         ensures slab { IsSlab self.old.slab }
     {
-        // what holds of every slab, for the proof
+        // for the proof: the invariant of the slab
         let _account = self.slab.account(need.class());
         match self.slab.ready_with(alloc, need, back, pages) {
             Ok(()) => Ok(()),
@@ -234,8 +241,9 @@ impl Desk {
         }
     }
 
-    /// Takes the chunks of a need, of any content, if so many of its class are unused. It takes no
-    /// memory.
+    /// Takes the chunks of a need, if enough of its class are unused. Their content is unspecified.
+    ///
+    /// It takes no memory.
     pub(crate) fn take_unused(&mut self, alloc: Global, need: Need) -> Chunks
         requires { need.count ≤ unused self.old.slab need.class }
         ensures chunks { AreChunksOf need result }
@@ -244,12 +252,12 @@ impl Desk {
     {
         match self.slab.take_all(alloc, need) {
             Ok(chunks) => chunks,
-            // No page is wanted, so nothing is refused.
+            // It wants no page, so nothing is refused.
             Err(_) => unreachable!(),
         }
     }
 
-    /// Takes chunks back, of whose class so many are out. It takes no memory.
+    /// Gives chunks back, if at least as many of their class are out. It takes no memory.
     pub(crate) fn give(&mut self, chunks: Chunks)
         requires { chunks.count ≤ out_of self.old.slab chunks.class }
         ensures given { self.new ≡ record self.old {
@@ -260,10 +268,13 @@ impl Desk {
         self.slab.give_all(chunks);
     }
 
-    /// Lays aside shelves that are with this desk the parts of a state: no chunk is out then. It takes no memory. The cost
-    /// doesn't grow with their items: the chunks of these are free, and are collected later, an item's with each write, and as
-    /// many of a class as it takes before that gets a page. Of shelves that lie aside already those with items stay so as far as
-    /// the vector has room for them; for want of room items are collected at once.
+    /// Lays aside shelves that are, with this desk, the parts of a state. No chunk is out
+    /// afterwards.
+    ///
+    /// It takes no memory, and the cost doesn't grow with their items. The chunks of the items are
+    /// free, and are collected later: one item's with each write, and as many of a class as it
+    /// needs before it gets a page. Shelves that are aside already and have items stay aside as far
+    /// as the vector has room for them; the items of the others are collected at once.
     pub fn lay_aside(&mut self, shelves: Vec<Shelf>)
         requires { (hash_of : List ℕ → ℕ) × (state : Plain) × (count : ℕ)
             × ArePartsOf hash_of state shelves.items count self.old }

@@ -1,4 +1,4 @@
-//! An item as an index has it.
+//! An item as an entry of an index.
 
 ghost use Rattle.std.specs.Prelude.{◌≡◌, ◌+◌, ◌<◌, ◌≤◌, ◌++◌, length, drop, slice_get, Some, OnOk, OnErr};
 ghost use Rattle.std.specs.List.{concat, list_all};
@@ -16,7 +16,7 @@ use mc_time::{Expiry, Moment};
 use std::alloc::AllocError;
 use std::marker::Model;
 
-/// An item, whose header has the hash of its key. It lies in the chunks that its charge needs.
+/// An item, whose header has the hash of its key. It has the chunks that its charge needs.
 #[derive(Drop)]
 pub struct Entry {
     item: Item,
@@ -38,7 +38,9 @@ impl Model for Entry {
 }
 
 impl Entry {
-    /// Writes the item of those parts into those chunks. It copies the key, of at most 250 bytes, and the block.
+    /// Writes an item of these parts into chunks, and returns its entry.
+    ///
+    /// It copies the key, at most 250 bytes, and the block.
     pub(crate) fn write(chunks: Chunks, parts: Parts<'_>) -> Entry
         requires key { length parts.key.now ≤ 250 }
         requires need { need_in chunks ≡ need_for (charge_in parts) }
@@ -62,8 +64,9 @@ impl Entry {
         }
     }
 
-    /// Writes the item of that head into those chunks, with a block of so many bytes, of any content. It copies the key, of at
-    /// most 250 bytes.
+    /// Writes an item of this head into chunks, with a block of `block_len` unspecified bytes.
+    ///
+    /// It copies the key, at most 250 bytes.
     pub(crate) fn begin(chunks: Chunks, head: Head<'_>, block_len: usize) -> Entry
         requires key { length head.key.now ≤ 250 }
         requires need { need_in chunks ≡ need_for (48 + length head.key.now + block_len) }
@@ -87,7 +90,7 @@ impl Entry {
         }
     }
 
-    /// Copies bytes to a place of its block, counted from 0. All else stays.
+    /// Copies bytes into its block from offset `at` on. Everything else is unchanged.
     pub(crate) fn fill(&mut self, at: usize, bytes: &[u8])
         requires { at + length bytes.now ≤ length self.old.item.block }
         ensures { self.new ≡ record self.old {
@@ -97,7 +100,7 @@ impl Entry {
         self.item.fill(at, bytes);
     }
 
-    /// Copies the block of another entry's item to a place of its own, counted from 0. All else stays.
+    /// Copies another item's block into its own from offset `at` on. Everything else is unchanged.
     pub(crate) fn fill_from(&mut self, at: usize, other: &Entry)
         requires { at + length other.now.item.block ≤ length self.old.item.block }
         ensures { self.new ≡ record self.old {
@@ -109,8 +112,9 @@ impl Entry {
         self.item.fill_from(at, &other.item);
     }
 
-    /// Writes the item of other parts into its chunks, which are those that the charge needs. The key is its own, and its hash
-    /// stays.
+    /// Writes an item of other parts into its chunks, which must be those that the charge needs.
+    ///
+    /// The key is the same, and its hash is unchanged.
     pub(crate) fn rewrite(&mut self, parts: Parts<'_>)
         requires key { parts.key.now ≡ self.old.key }
         requires short { length parts.key.now ≤ 250 }
@@ -130,8 +134,9 @@ impl Entry {
         });
     }
 
-    /// Puts bytes behind its block, which stays where it lies, and sets its flags, its expiry, its unique number and the moment of
-    /// the write. Its chunks are those that the charge needs then. The key and its hash stay.
+    /// Appends bytes to its block in place, and sets flags, expiry, unique number and `updated`.
+    ///
+    /// Its chunks must be those that the new charge needs. The key and its hash are unchanged.
     pub(crate) fn extend(
         &mut self,
         more: &[u8],
@@ -156,14 +161,14 @@ impl Entry {
         self.item.extend(more, flags, expiry, unique, updated);
     }
 
-    /// Reads when its block was last written.
+    /// Returns when its block was last written.
     pub fn updated_at(&self) -> Moment
         ensures { result ≡ self.now.item.updated }
     {
         self.item.updated()
     }
 
-    /// Finds what its chunks serve.
+    /// Returns the need that its chunks serve.
     pub fn need(&self) -> Need
         ensures value { result ≡ item_need self.now.key self.now.item }
         ensures is_need { IsNeed result }
@@ -171,7 +176,7 @@ impl Entry {
         self.item.need()
     }
 
-    /// Counts the bytes of its block, at most 8388560.
+    /// Returns the length of its block, at most 8388560 bytes.
     pub(crate) fn block_len(&self) -> usize
         ensures value { result ≡ length self.now.item.block }
         ensures most { result ≤ 8388560 }
@@ -179,7 +184,7 @@ impl Entry {
         self.item.block_len()
     }
 
-    /// Counts the parts of its block, each of which lies in a chunk of its own: 1 to 8.
+    /// Returns the number of parts of its block, 1 to 8, one in each chunk.
     pub(crate) fn parts(&self) -> usize
         ensures value { result ≡ (item_need self.now.key self.now.item).count }
         ensures joined { concat (parts_of self.now.key self.now.item) ≡ self.now.item.block }
@@ -189,7 +194,7 @@ impl Entry {
         self.item.parts()
     }
 
-    /// Lends a part of its block, the first at 0. The one part of an item of one chunk is its whole block.
+    /// Lends a part of its block, the first at 0. For an item of one chunk that is the whole block.
     pub(crate) fn part(&self, at: usize) -> &[u8]
         requires { at < (item_need self.now.key self.now.item).count }
         ensures value { slice_get (parts_of self.now.key self.now.item) at ≡ Some result.now }
@@ -199,7 +204,9 @@ impl Entry {
         self.item.part(at)
     }
 
-    /// Appends its block. The one error is a refused allocation, after which nothing was appended.
+    /// Appends its block to a vector.
+    ///
+    /// The only error is a refused allocation, and nothing is then appended.
     pub(crate) fn append_to(&self, out: &mut Vec<u8>) -> Result<(), AllocError>
         ensures ok { OnOk result (out.new.items ≡ out.old.items ++ self.now.item.block) }
         ensures err { OnErr result (out.new.items ≡ out.old.items) }
@@ -207,7 +214,7 @@ impl Entry {
         self.item.append_to(out)
     }
 
-    /// Returns whether what lies of its block behind the first part is nothing but spaces.
+    /// Returns whether its block has only spaces behind its first part.
     fn ends_blank(&self) -> bool
         ensures { result ≡ list_all (λ part. list_all is_space part)
             (drop 1 (parts_of self.now.key self.now.item)) }
@@ -220,21 +227,21 @@ impl Entry {
         true
     }
 
-    /// Sets when it expires. All else stays.
+    /// Sets its expiry. Everything else is unchanged.
     pub(crate) fn set_expiry(&mut self, expiry: Expiry)
         ensures { self.new ≡ record self.old { item = record self.old.item { expiry = expiry } } }
     {
         self.item.set_expiry(expiry);
     }
 
-    /// Says for a proof that its chunks serve a need. It reads that need, and changes nothing.
+    /// For the proof: states that its chunks serve a need. It reads that need, and changes nothing.
     fn lies_in_need(&self)
         ensures { IsNeed (item_need self.now.key self.now.item) }
     {
         let _need = self.need();
     }
 
-    /// Gives its chunks back.
+    /// Returns its chunks.
     pub(crate) fn into_chunks(self) -> Chunks
         ensures need { need_in result ≡ item_need self.entry.key self.entry.item }
         ensures is_need { IsNeed (item_need self.entry.key self.entry.item) }
@@ -244,7 +251,7 @@ impl Entry {
     }
 }
 
-/// Returns whether a text has nothing but spaces.
+/// Returns whether a text has only spaces.
 fn is_blank(text: &[u8]) -> bool
     ensures { result ≡ list_all is_space text.now }
 {
@@ -256,7 +263,7 @@ impl Keyed for Entry {
 
     ghost key_of = { λ e. e.key };
 
-    /// Reads the hash that came with its key.
+    /// Returns the hash of its key, as it was given.
     fn hash(&self) -> u64 {
         self.item.hash()
     }
@@ -270,22 +277,22 @@ impl Keyed for Entry {
 impl Standing for Entry {
     ghost entry_of = { λ e. e.item };
 
-    /// Reads the flags that were stored with it.
+    /// Returns the client's flags.
     fn flags(&self) -> u32 {
         self.item.flags()
     }
 
-    /// Reads when it expires.
+    /// Returns when it expires.
     fn expiry(&self) -> Expiry {
         self.item.expiry()
     }
 
-    /// Reads its unique number, which no other write has.
+    /// Returns its unique number, which no other write has.
     fn unique(&self) -> u64 {
         self.item.unique()
     }
 
-    /// Reads the number that its block is, if it is one.
+    /// Returns the number that its block is, or `None`.
     fn number(&self) -> Option<u64>
         ensures value { result ≡ number_of self.now.item.block }
     {

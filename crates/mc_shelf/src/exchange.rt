@@ -1,9 +1,10 @@
-//! Pages that go to the desk in exchange for an item's own, out of which a join copies when the desk is free.
+//! Pages for the desk in exchange for an item's own, so that a join copies without the desk.
 //!
 //! A join that can't stay in its item's chunks copies the item into others. While the desk is held
-//! that makes all wait who write, and the item's chunks have to be free when the desk goes back. So
-//! as many pages may be brought that are of no slab: the desk has these instead, and the item keeps
-//! its own until `finish` has copied it, and lets them go.
+//! every other writer waits, and the item's chunks have to be free when the desk is given back. So
+//! the same number of pages, which belong to no slab, may be made before: the desk gets these, and
+//! the item keeps its own until `finish` has copied it and frees them. If memory for them is
+//! refused, the copy is made at the desk.
 
 ghost use Rattle.std.specs.Prelude.{◌≡◌, ℕ, List, IfOk, OnErr, None, is_some, true, false};
 ghost use Rattle.std.specs.FinMap.{get};
@@ -32,10 +33,10 @@ use std::alloc::{AllocError, Global};
 /// The class whose chunks are whole pages.
 const PAGES: u8 = 40;
 
-/// How many pages the chunks of a need are at most.
+/// The most pages of a need.
 const MOST: u32 = 8;
 
-/// What was made for a step before the desk is held.
+/// Memory that was allocated for a step before the desk is held.
 #[derive(Drop)]
 pub struct Brought {
     /// Pages for the class of the item that is written.
@@ -44,8 +45,10 @@ pub struct Brought {
     pub exchange: Option<Chunks>,
 }
 
-/// Makes chunks of a need that are of no slab, of any content. Those of pages give their memory back when they are let go; that of
-/// others stays with the process. The one error is a refused allocation.
+/// Allocates chunks of a need that belong to no slab. Their content is unspecified.
+///
+/// Pages are freed when they are dropped; memory of smaller chunks stays with the process. The only
+/// error is a refused allocation.
 fn chunks_of(alloc: Global, need: Need) -> Result<Chunks, AllocError>
     ensures { IfOk result (λ chunks. need_in chunks ≡ need) }
 {
@@ -57,9 +60,11 @@ fn chunks_of(alloc: Global, need: Need) -> Result<Chunks, AllocError>
 }
 
 impl Shelf {
-    /// Makes pages in exchange for those of the key's item, to be brought to `begin`: as many, of no
-    /// slab, if that item lies in pages and the step of a plan joins its block to it in others. For
-    /// any other step it makes none, and asks for no memory. The one error is a refused allocation.
+    /// Allocates pages in exchange for those of the key's item, for `begin`.
+    ///
+    /// They are as many as that item has, if it has pages and the planned step joins its block with
+    /// the item in other chunks. For any other step it returns `None` and allocates nothing. The
+    /// only error is a refused allocation.
     pub fn exchange(&self, alloc: Global, plan: &Plan<'_>) -> Result<Option<Chunks>, AllocError>
         requires { (step : Step) × (now : ℕ) × IsPlan plan.now self.now.content step now }
         ensures made { IfOk result (λ chunks. need_brought chunks ≡ exchange_for plan.now.next
@@ -73,8 +78,7 @@ impl Shelf {
         }
     }
 
-    /// Names the chunks of the key's item, if they are pages and the step of a plan joins its block to
-    /// that item's in others.
+    /// Returns the need of the key's item, if it has pages and is joined in other chunks.
     fn copied_pages(&self, plan: &Plan<'_>) -> Option<Need>
         requires { (step : Step) × (now : ℕ) × IsPlan plan.now self.now.content step now }
         ensures { result ≡ exchange_for plan.now.next plan.now.key
@@ -90,8 +94,9 @@ impl Shelf {
         pages_of_join(draft.body, item.need(), self.need_for(charge))
     }
 
-    /// Gives the desk chunks in exchange for those of the key's item, if they are of the same need,
-    /// and returns whether it did; others are let go. The item keeps its own.
+    /// Gives the desk chunks in exchange for those of the key's item, if they are of the same need.
+    ///
+    /// Returns whether it did; other chunks are freed. The item keeps its own.
     pub(crate) fn exchanges(
         &self,
         write: &Write,
@@ -117,7 +122,7 @@ impl Shelf {
     }
 }
 
-/// Returns whether a body's block is joined to the one that stands.
+/// Returns whether the block is joined with the present one.
 fn joins(body: Body) -> bool
     ensures { result ≡ false → (own need : NeedState) → left_behind body own need ≡ None }
 {
@@ -127,7 +132,7 @@ fn joins(body: Body) -> bool
     }
 }
 
-/// Names the chunks of an item, if they are pages, that a body's block is joined to in others.
+/// Returns the need of an item with pages whose block is joined in other chunks, or `None`.
 fn pages_of_join(body: Body, own: Need, need: Need) -> Option<Need>
     ensures { result ≡ left_behind body own need }
 {
@@ -138,7 +143,7 @@ fn pages_of_join(body: Body, own: Need, need: Need) -> Option<Need>
     }
 }
 
-/// Names chunks if they are pages.
+/// Returns the need if it is one of pages.
 fn pages_in(own: Need) -> Option<Need>
     ensures { result ≡ pages_in own }
 {

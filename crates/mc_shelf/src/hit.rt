@@ -1,4 +1,4 @@
-//! A read that finds its item has it lent where it lies, and no block is copied.
+//! Reads that lend the item they find in place, so that no block is copied.
 
 ghost use Rattle.std.specs.Prelude.{◌≡◌, ◌<◌, ◌≤◌, length, slice_get, Some, true, false};
 ghost use Rattle.std.specs.List.{concat};
@@ -16,7 +16,7 @@ use mc_protocol::{KeyStep, Standing};
 use mc_time::{Expiry, Moment, expiry_of, is_dead};
 use std::marker::Model;
 
-/// An item that stands under a key, lent where it lies. Contracts see the key and the item.
+/// An item under a key, lent in place. Contracts see the key and the item.
 #[derive(Drop)]
 pub struct Hit<'a> {
     entry: &'a Entry,
@@ -34,21 +34,21 @@ impl<'a> Model for Hit<'a> {
 }
 
 impl<'a> Hit<'a> {
-    /// Reads the flags that were stored with the item.
+    /// Returns the item's flags.
     pub fn flags(&self) -> u32
         ensures { result ≡ self.now.item.flags }
     {
         self.entry.flags()
     }
 
-    /// Reads the item's unique number, which no other write has.
+    /// Returns the item's unique number, which no other write has.
     pub fn unique(&self) -> u64
         ensures { result ≡ self.now.item.unique }
     {
         self.entry.unique()
     }
 
-    /// Counts the bytes of the item's block, at most 8388560.
+    /// Returns the length of the item's block, at most 8388560 bytes.
     pub fn block_len(&self) -> usize
         ensures value { result ≡ length self.now.item.block }
         ensures most { result ≤ 8388560 }
@@ -56,8 +56,9 @@ impl<'a> Hit<'a> {
         self.entry.block_len()
     }
 
-    /// Counts the parts in which the item's block lies, 1 to 8: more than one only if the block,
-    /// the key and 48 bytes are more than 1048576.
+    /// Returns the number of parts of the item's block, 1 to 8.
+    ///
+    /// There is more than one only if block, key and 48 bytes are more than 1048576.
     pub fn parts(&self) -> usize
         ensures value { result ≡ (item_need self.now.key self.now.item).count }
         ensures joined { concat (parts_of self.now.key self.now.item) ≡ self.now.item.block }
@@ -66,7 +67,7 @@ impl<'a> Hit<'a> {
         self.entry.parts()
     }
 
-    /// Lends a part of the item's block, the first at 0. The one part of an item that has no other is its whole block.
+    /// Lends a part of the item's block, the first at 0. A single part is the whole block.
     pub fn part(&self, at: usize) -> &[u8]
         requires { at < (item_need self.now.key self.now.item).count }
         ensures value { slice_get (parts_of self.now.key self.now.item) at ≡ Some result.now }
@@ -76,13 +77,13 @@ impl<'a> Hit<'a> {
         self.entry.part(at)
     }
 
-    /// Tells where the item lies, for `Shelf::settle_read`.
+    /// Returns the item's place, for `Shelf::settle_read`.
     pub fn place(&self) -> Place {
         self.place
     }
 }
 
-/// What a search for a key finds.
+/// The result of a search for a key.
 #[derive(Drop)]
 pub enum Found<'a> {
     /// The key has no item.
@@ -94,8 +95,9 @@ pub enum Found<'a> {
 }
 
 impl Shelf {
-    /// Finds what stands under a key at a moment. `hash` is the hash that the shelf has with the
-    /// key, if it has the key. It takes no memory.
+    /// Finds the item under a key at a moment.
+    ///
+    /// `hash` is the hash that the shelf has with the key, if it has the key. It takes no memory.
     pub fn find(&self, key: &[u8], hash: u64, now: Moment) -> Found<'_>
         requires { IsHash self.now.content key.now hash }
         ensures { result
@@ -113,10 +115,12 @@ impl Shelf {
         Found::Standing(Hit { entry, place })
     }
 
-    /// Takes a read of a key that has no dead item: sets the new expiry of the item, if the read
-    /// gives one. `place` is where `find` found the item, and none if it found nothing; another
-    /// place costs a search, and no more. The answer is a hit of the item as it stood, and no block
-    /// is copied for it. It takes no memory.
+    /// Takes a read of a key that has no dead item: sets the item's new expiry, if the read gives
+    /// one.
+    ///
+    /// `place` is where `find` found the item, or `None`; a wrong place costs a search, and no
+    /// more. The reply is a hit of the item as it was, and its block isn't copied. It takes no
+    /// memory.
     pub fn settle_read(&mut self, step: &KeyStep<'_>, hash: u64, now: Moment, place: Option<Place>)
         requires read { is_read step.now ≡ true }
         requires known { IsKnown self.old.content (key_of step.now) hash place }
@@ -133,7 +137,7 @@ impl Shelf {
     }
 }
 
-/// Finds the expiry that a read sets, if it sets one.
+/// Returns the expiry that a read sets, or `None`.
 fn read_expiry(step: &KeyStep<'_>, now: Moment) -> Option<Expiry>
     ensures { result ≡ read_expiry step.now now }
 {

@@ -1,4 +1,8 @@
 //! Entries, found by their keys.
+//!
+//! A new key on a shelf whose growth lags (three quarters of the homes) moves 8 entries first, so a
+//! shelf that alone receives new keys still finishes its growth. No closure of a caller is passed
+//! on: an entry holds a chunk with a lifetime, and such a closure can't cross a crate.
 
 ghost use Rattle.std.specs.Prelude.{◌≡◌, ℕ, ◌+◌, ◌-◌, ◌^◌, ◌<◌, ◌≤◌, ◌++◌, List, length, min};
 ghost use Rattle.std.specs.Prelude.{Some, None, IfOk, IfSome, OnOk, nat_lt, option_copied, true, false};
@@ -41,20 +45,21 @@ use std::marker::Model;
 /// A new index has a table of 2^6 homes.
 const LEAST_EXPONENT: u32 = 6;
 
-/// How many entries of an old table are moved before an entry comes to an index whose growth lags.
+/// The number of entries moved before an insertion if growth lags.
 const CATCH_UP: usize = 8;
 
-/// How many headers a sweep reads ahead: as many loads as a processor may have under way, or more.
+/// The number of headers that a sweep reads ahead: about as many loads as a processor can have
+/// pending.
 const AHEAD: usize = 16;
 
-/// Entries by their keys, each with its key's hash: a growing index of entries by hash and key, in which no key stands with two
-/// hashes.
+/// Entries by their keys, each with its key's hash.
 ///
-/// Contracts see what that index shows.
+/// It is a growing index by hash and key, in which no key has two hashes. Contracts see what that
+/// index shows.
 #[derive(Drop)]
 pub(crate) struct Index {
     entries: mc_grow::Index<Entry>,
-    /// No entry's item is dead if an item of these two moments isn't.
+    /// As long as an item with these two moments would be alive, every item is.
     soonest: Soonest,
 }
 
@@ -76,7 +81,7 @@ impl Model for Index {
 }
 
 impl Index {
-    /// Makes an index of no entries. The one error is a refused allocation.
+    /// Makes an empty index. The only error is a refused allocation.
     pub(crate) fn new(alloc: Global) -> Result<Index, AllocError>
         ensures items { IfOk result (λ index. items_of index ≡ empty) }
         ensures hashes { IfOk result (λ index. hashes_of index ≡ empty) }
@@ -91,8 +96,9 @@ impl Index {
         })
     }
 
-    /// Finds the place of a key. `hash` is the hash that the index has with the key, if it has the
-    /// key.
+    /// Returns the place of a key, or `None`.
+    ///
+    /// `hash` is the hash that the index has with the key, if it has the key.
     pub(crate) fn find(&self, hash: u64, key: &[u8]) -> Option<Place>
         requires { IsHashOf (entries_of self.now) key.now hash }
         ensures { IsKeyFound self.now key.now result }
@@ -100,9 +106,10 @@ impl Index {
         self.entries.find(hash, key)
     }
 
-    /// Finds the place of a key that was looked for before: `found` is what was found, and none
-    /// only if no entry has the key. Whatever the place is, the answer is right: it looks there
-    /// first, which is all the cost if the entry was found there and has not moved since.
+    /// Returns the place of a key that was searched before; `found` is that result.
+    ///
+    /// `found` may be `None` only if no entry has the key; any place is right. It looks there
+    /// first, which is the whole cost if the entry hasn't moved since.
     pub(crate) fn find_again(&self, found: Option<Place>, hash: u64, key: &[u8]) -> Option<Place>
         requires hash { IsHashOf (entries_of self.now) key.now hash }
         requires none { found ≡ None → get (items_of self.now) key.now ≡ None }
@@ -111,22 +118,23 @@ impl Index {
         self.entries.find_again(found?, hash, key)
     }
 
-    /// Lends the entry whose place a search has found.
+    /// Lends the entry whose place a search returned.
     pub(crate) fn found_entry(&self, found: Option<Place>) -> Option<&Entry>
         ensures { (key : List ℕ) → IsKeyFound self.now key found → IsEntryOf self.now key result }
     {
         self.get(found?)
     }
 
-    /// Lends the entry at a place, if one stands there.
+    /// Lends the entry at a place, or `None`.
     pub(crate) fn get(&self, place: Place) -> Option<&Entry>
         ensures { option_copied result ≡ entry_at self.now place }
     {
         self.entries.get(place)
     }
 
-    /// Makes room for one entry more, and begins a growth if one is due. A growth that lags moves 8
-    /// entries first. The entries are as before, refused or not.
+    /// Makes room for one entry more, and begins a growth if one is due.
+    ///
+    /// A growth that lags moves 8 entries first. The entries are unchanged, also after an error.
     pub(crate) fn reserve(&mut self, alloc: Global) -> Result<(), AllocError>
         ensures entries { entries_of self.new ≡ entries_of self.old }
         ensures room { OnOk result (1 ≤ self.new.spare) }
@@ -136,8 +144,9 @@ impl Index {
         self.entries.reserve(alloc)
     }
 
-    /// Moves entries of the old table if a growth lags, so that it ends before the new table is
-    /// full, even if no other moves come. It takes no memory.
+    /// Moves entries of the old table if growth lags. It takes no memory.
+    ///
+    /// So a growth ends before the new table is full, even if nothing else moves entries.
     fn catch_up(&mut self)
         ensures entries { entries_of self.new ≡ entries_of self.old }
         ensures count { len (items_of self.new) ≡ count self.new }
@@ -149,7 +158,9 @@ impl Index {
         }
     }
 
-    /// Puts in an entry of a new key, for which there is room, and answers its place. It takes no memory.
+    /// Inserts an entry of a new key, for which room was reserved, and returns its place.
+    ///
+    /// It takes no memory.
     pub(crate) fn insert_reserved(&mut self, entry: Entry) -> Place
         requires absent { get (items_of self.old) entry.key ≡ None }
         requires room { 1 ≤ self.old.spare }
@@ -162,7 +173,7 @@ impl Index {
         self.entries.insert_reserved(entry)
     }
 
-    /// Sets the expiry of the item at a place. All else stays.
+    /// Sets the expiry of the item at a place. Everything else is unchanged.
     pub(crate) fn set_expiry(&mut self, place: Place, expiry: Expiry)
         requires { (key : List ℕ) × IsKeyAt self.old key place }
         ensures { (key : List ℕ) (at : IsKeyAt self.old key place) →
@@ -175,7 +186,9 @@ impl Index {
         });
     }
 
-    /// Puts an entry in the place of the one of the same hash and key, and gives that back. It takes no memory.
+    /// Replaces the entry at a place by one of the same hash and key, and returns the old one.
+    ///
+    /// It takes no memory.
     pub(crate) fn replace(&mut self, place: Place, entry: Entry) -> Entry
         requires key { IsKeyAt self.old entry.key place }
         requires hash { IsHashOf (entries_of self.old) entry.key entry.hash }
@@ -186,8 +199,9 @@ impl Index {
         self.entries.update(place, |before| (entry, before))
     }
 
-    /// Writes another block, with what a write brings beside it, into the chunks of the item at a place, which are those that
-    /// the charge needs. It takes no memory.
+    /// Writes another block, and the fields of a write, into the chunks of the item at a place.
+    ///
+    /// They must be the chunks that the new charge needs. It takes no memory.
     pub(crate) fn rewrite<'a>(
         &mut self,
         place: Place,
@@ -225,8 +239,10 @@ impl Index {
         });
     }
 
-    /// Puts a block behind the one of the item at a place, with what a write brings beside it, in its chunks, which are those that
-    /// the charge needs then. It copies this block alone, and takes no memory.
+    /// Appends a block to that of the item at a place, and sets the fields of a write.
+    ///
+    /// The chunks must be those that the new charge needs. It copies only the new block, and takes
+    /// no memory.
     pub(crate) fn extend<'a>(&mut self, place: Place, write: &Write, unique: u64, block: &'a [u8])
         requires filled { (key : List ℕ) × IsKeyAt self.old key place }
         requires need { (entry : EntryState) → entry_at self.old place ≡ Some entry →
@@ -244,7 +260,7 @@ impl Index {
         });
     }
 
-    /// Takes the entry at a place out. It takes no memory.
+    /// Removes the entry at a place and returns it. It takes no memory.
     pub(crate) fn remove(&mut self, place: Place) -> Entry
         requires { IsFilled self.old place }
         ensures there { entry_at self.old place ≡ Some result }
@@ -257,9 +273,10 @@ impl Index {
         self.entries.remove(place)
     }
 
-    /// Finds the first entry whose number is at or above `at`, for a sweep over all entries: each
-    /// has one number, and a removal changes no lower one. Answers the number and the place. A
-    /// sweep goes on at the number after it, and if it removed the entry, at the number itself.
+    /// Returns the first entry whose number is at or above `at`, and that number, for a sweep.
+    ///
+    /// Each entry has one number, and a removal changes no lower one. A sweep goes on at the next
+    /// number, or at the same number if it removed the entry.
     pub(crate) fn filled_from(&self, at: usize) -> Option<(usize, Place)>
         ensures next { IsNext self.now at result }
         ensures keyed { EntriesAreKeyed (entries_of self.now) }
@@ -268,11 +285,11 @@ impl Index {
         self.entries.filled_from(at)
     }
 
-    /// Reads ahead on a sweep that has come to the entry of a number, if it hasn't read so far: the
-    /// headers of this entry and the next, 16 in all. Answers the number behind them.
+    /// Reads the headers of 16 entries ahead of a sweep, from `number` on, unless they were read.
     ///
-    /// A header lies in no cache. Read one right behind another they come together; with a removal
-    /// between two, or a search for the next, each waits for the one before.
+    /// Returns the number behind them. A header is in no cache. If headers are read one right after
+    /// another, their loads overlap; with a removal or a search between two, each load waits for
+    /// the one before.
     pub(crate) fn read_ahead(&self, ahead: usize, number: usize) -> usize {
         if number < ahead {
             return ahead;
@@ -280,7 +297,8 @@ impl Index {
         read_all(&self.entries_from(number), number)
     }
 
-    /// Lends the first entries whose numbers are at or above `from`, each with the number behind it.
+    /// Lends the first entries at or above number `from`, each with the number behind it.
+    ///
     /// It reads no item's memory.
     fn entries_from(&self, from: usize) -> [(usize, Option<&Entry>); AHEAD] {
         let mut entries = [(from, None); AHEAD];
@@ -295,8 +313,9 @@ impl Index {
         entries
     }
 
-    /// Finds an entry: the first whose number is at or above `at`, or the first of all if none is.
-    /// Answers the number and the place, and none only if no entry is there.
+    /// Returns the first entry whose number is at or above `at`, or else the first of all.
+    ///
+    /// It returns the number and the place, and `None` only if there is no entry.
     pub(crate) fn any_from(&self, at: usize) -> Option<(usize, Place)>
         ensures filled { IfSome result (λ found. IsFilled self.now found.1) }
         ensures none { result ≡ None → items_of self.now ≡ empty }
@@ -307,8 +326,9 @@ impl Index {
         }
     }
 
-    /// Finds the first entry in chunks of a class whose number is at or above `at`. Answers the number and the place. It reads the
-    /// index, and no item's memory but where the chunks are pages.
+    /// Returns the number and place of the first entry with chunks of a class, at or above `at`.
+    ///
+    /// It reads the index, and an item's memory only if its chunks are pages.
     pub(crate) fn of_class_from(&self, class: Class, at: usize) -> Option<(usize, Place)>
         ensures { IfSome result (λ found. IsOfClass self.now class found.1) }
     {
@@ -322,7 +342,7 @@ impl Index {
         None
     }
 
-    /// Returns whether the entry at a place lies in chunks of a class.
+    /// Returns whether the entry at a place has chunks of a class.
     fn is_of_class(&self, place: Place, class: Class) -> bool
         requires { IsFilled self.now place }
         ensures { result ≡ true → IsOfClass self.now class place }
@@ -330,7 +350,7 @@ impl Index {
         self.entries.get(place).unwrap().need().class() == class
     }
 
-    /// Gives the hash of the entry at a place.
+    /// Returns the hash of the entry at a place.
     pub(crate) fn hash_at(&self, place: Place) -> u64
         requires { IsFilled self.now place }
         ensures { (entry : EntryState) → entry_at self.now place ≡ Some entry →
@@ -339,14 +359,14 @@ impl Index {
         self.entries.get(place).unwrap().hash()
     }
 
-    /// Counts the entries of an old table, which are left to move.
+    /// Returns the number of entries of an old table, which are still to be moved.
     pub(crate) fn entries_to_move(&self) -> usize
         ensures { result ≡ left self.now }
     {
         self.entries.entries_to_move()
     }
 
-    /// Counts the items.
+    /// Returns the number of items.
     pub(crate) fn len(&self) -> usize
         ensures count { result ≡ len (items_of self.now) }
         ensures entries { result ≡ count self.now }
@@ -355,8 +375,7 @@ impl Index {
         self.entries.len()
     }
 
-    /// Counts the items, the homes of the table that new entries go to, the entries of an old table and the strays, and tells
-    /// whether a growth runs.
+    /// Returns the number of items, homes, entries to move and strays, and whether a growth runs.
     pub(crate) fn counts(&self) -> ShelfCounts
         ensures value { result ≡ counts_in self.now }
         ensures fits { FitTogether result }
@@ -370,7 +389,7 @@ impl Index {
         }
     }
 
-    /// Returns whether no entry is there.
+    /// Returns whether there is no entry.
     pub(crate) fn is_empty(&self) -> bool
         ensures items { result ≡ true → items_of self.now ≡ empty }
         ensures hashes { result ≡ true → hashes_of self.now ≡ empty }
@@ -379,8 +398,9 @@ impl Index {
         self.entries.len() == 0
     }
 
-    /// Returns whether an item may be dead at a moment, with a flush at `cut`: if not, none is. It
-    /// walks no entry.
+    /// Returns whether an item may be dead at a moment, with a flush at `cut`. It walks no entry.
+    ///
+    /// If it returns false no item is dead.
     pub(crate) fn may_have_dead(&self, cut: Option<u64>, now: Moment) -> bool
         ensures none { result ≡ false → NoneIsDead now cut (items_of self.now) }
         ensures keyed { EntriesAreKeyed (entries_of self.now) }
@@ -388,7 +408,7 @@ impl Index {
         self.soonest.may_be_dead(cut, now)
     }
 
-    /// Keeps the soonest expiry and write that a walk over all entries has found.
+    /// Keeps the soonest expiry and write that a walk over all entries found.
     pub(crate) fn keep_soonest(&mut self, soonest: Soonest)
         requires { DieNoSooner soonest (items_of self.old) }
         ensures { self.new ≡ self.old }
@@ -396,9 +416,10 @@ impl Index {
         self.soonest = soonest;
     }
 
-    /// Moves up to `n` entries of an old table, and answers how many it moved: as many as are left,
-    /// if they are fewer. The entries stay, and no memory is taken. The cost grows with `n`, and at
-    /// a growth's end with the entries that stand in no table.
+    /// Moves up to `n` entries of an old table, and returns how many it moved.
+    ///
+    /// It moves fewer only if fewer are left. The entries are unchanged, and it takes no memory.
+    /// The cost grows with `n`, and at the end of a growth with the strays.
     pub(crate) fn move_some(&mut self, n: usize) -> usize
         ensures moved { result ≡ min n (left self.old) }
         ensures left { left self.new ≡ left self.old - result }
@@ -411,10 +432,10 @@ impl Index {
     }
 }
 
-/// Reads the headers of entries, from their hash to the moment of their write, and returns the number
-/// behind the last; `from` if there is none.
+/// Reads the headers of entries, and returns the number behind the last, or `from` without entries.
 ///
-/// What was read decides between two answers, of which either does, so that none is left unread.
+/// Prefetch: the result of the reads picks one of two equal answers, so the compiler doesn't remove
+/// the loads.
 fn read_all(entries: &[(usize, Option<&Entry>)], from: usize) -> usize {
     let mut read = 0;
     let mut end = from;

@@ -1,26 +1,28 @@
-//! The store of one thread, by shelves: the items of some keys each, and the desk that they share.
+//! The store of one thread: shelves with the items of some keys each, and a desk that they share.
 //!
-//! A store has much that goes by key, and two things that all keys share: the memory that items lie
-//! in, and the unique number that the next write draws. So that threads can share a store without
-//! one lock, it is cut that way. A key is on the shelf that its hash names; a step on it needs that
-//! shelf, and only if it writes or removes an item the desk. This crate has the parts, each with a
-//! contract of its own, and puts them together for one thread; `mc_shared` does so for many.
+//! Most of a store goes by key, and two things are common to all keys: the memory of items, and the
+//! unique number of the next write. It is cut along that line, so that threads can share a store
+//! without one lock. A key's hash determines its shelf. A step on the key needs that shelf, and the
+//! desk only if it writes or removes an item. This crate has the parts, each with a contract of its
+//! own, and puts them together for one thread; `mc_shared` does so for many.
 //!
-//! A [`Shelf`] is an index of items (`mc_grow`) by their keys, and the flush that waits or has
-//! come. A [`Desk`] is the slab and the next number. A step is looked up first (`look`), which
-//! makes a [`Plan`] of it; a plan that needs no desk is settled at the shelf, and any other applied
-//! with the desk, in two parts if others wait for that: `begin` takes chunks and number, and
-//! `finish` copies the block when the desk is free ([`Begun`]). A read lends its item where it lies
-//! ([`Hit`]). A [`Store`] is as many shelves as its [`Settings`] say and their desk, and takes
-//! steps as every store does (`mc_protocol`'s `Steps`).
+//! A [`Shelf`] is an index of items (`mc_grow`) by their keys, and the pending or past flush. A
+//! [`Desk`] is the slab and the next number. `look` makes a [`Plan`] of a step. A plan that needs
+//! no desk is settled at the shelf, and any other is applied with the desk, in two parts if others
+//! wait for it: `begin` takes chunks and number, and `finish` copies the block after the desk was
+//! given back ([`Begun`]). A read lends its item in place ([`Hit`]). A [`Store`] is the desk and as
+//! many shelves as its [`Settings`] give, and takes steps as every store does (`mc_protocol`'s
+//! `Steps`).
 //!
-//! Contracts say of a shelf and a desk that they are *parts* of the plain machine's state: a step
-//! on one shelf takes the state to the machine's next, whatever the other shelves hold. The store's
-//! says that its replies and its state are the plain machine's. Growth, room and what lies aside
-//! after a flush change nothing that they see.
+//! By their contracts a shelf and a desk are *parts* of the plain machine's state: a step on one
+//! shelf takes the state to the machine's next, whatever the other shelves hold. The store's
+//! replies and its state are the plain machine's. Growth, room and shelves aside after a flush
+//! don't change what contracts see.
 //!
 //! Begin with `specs/States.antt` and `specs/Plans.antt`, then `src/shelf.rt`, `src/plan.rt` (what
-//! a step asks) and `src/write.rt` (a write with the desk).
+//! a step needs) and `src/write.rt` (a write with the desk).
+//!
+//! Tests: mc_shelf_tests, src/store_tests.rt.
 #![tactic(auto)]
 
 mod aside;

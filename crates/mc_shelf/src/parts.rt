@@ -38,9 +38,10 @@ use crate::shelf::Shelf;
 use mc_time::{Moment, cut_after};
 use std::alloc::{AllocError, Global};
 
-/// States that a step which a key's shelf takes with the desk, as parts of a state, takes the state
-/// to the plain machine's next: both are parts of that, and each other shelf stays one. One that is
-/// settled without the desk does so whatever desk the state has.
+/// States that a step at one shelf takes a state that has it to the plain machine's next state.
+///
+/// The shelf and the desk that took the step are parts of that state, and so is each other shelf. A
+/// step that is settled without the desk does so whatever desk the state has.
 pub fn steps_change_one_shelf()
     ensures taken { (hash_of : List ℕ → ℕ) (shelves at : ℕ) (state : Plain) (step : KeyStep)
         (now : ℕ) (reply : Reply) (old new : ShelfContent) (desk desk' : DeskState) →
@@ -56,9 +57,11 @@ pub fn steps_change_one_shelf()
         GoesWithoutDesk hash_of shelves at step now state reply new }
 {}
 
-/// States when a step that writes is refused at the desk. With the unique numbers spent, the plain
-/// machine is out of numbers too, in each state that stands for the shelf and the desk; and if
-/// the write needs pages, its answer is one that memory may be refused for.
+/// States when a write is refused at the desk.
+///
+/// If the unique numbers are used up, the plain machine has none left either, in each state with
+/// this shelf and this desk. If the write needs pages, its reply is one that memory may be refused
+/// for.
 pub fn refusals_are_plain()
     ensures spent { (step : KeyStep) (now : ℕ) (shelf : ShelfContent) (desk : DeskState) →
         IsOnKey step → writes (next_of shelf step now) ≡ true → has_no_number desk →
@@ -70,9 +73,10 @@ pub fn refusals_are_plain()
 {}
 
 impl Shelf {
-    /// Returns whether an item may be dead at a moment. If not, none is, and if the shelf is a part
-    /// of a state, purging its part changes nothing, so that the desk isn't needed. It walks no
-    /// item.
+    /// Returns whether an item may be dead at a moment. It walks no item.
+    ///
+    /// If it returns false no item is dead, and purging the shelf's part of a state changes
+    /// nothing, so that the desk isn't needed.
     pub fn may_have_dead(&self, now: Moment) -> bool
         ensures none { result ≡ false →
             NoneIsDead now self.now.content.cut self.now.content.items }
@@ -83,10 +87,11 @@ impl Shelf {
         self.index.may_have_dead(self.cut, now)
     }
 
-    /// Drops the items that are dead at a moment, of a shelf that is with this desk a part of a
-    /// state, and gives their chunks back: the state goes to the one purged of that shelf's dead.
-    /// It takes no memory. The cost is that of one pass over the items, and if none may be dead
-    /// it walks none. No entry is moved.
+    /// Drops the items that are dead at a moment, and gives their chunks back to the desk.
+    ///
+    /// The shelf is, with this desk, a part of a state; that state becomes the one purged of the
+    /// shelf's dead items. It takes no memory and moves no entry. It costs one pass over the items,
+    /// and walks none if none may be dead.
     pub fn purge_part(&mut self, now: Moment, desk: &mut Desk)
         requires { (hash_of : List ℕ → ℕ) × (shelves : ℕ) × (at : ℕ) × (state : Plain)
             × IsShelfOf hash_of shelves state at self.old.content × IsDeskOf state desk.old }
@@ -100,10 +105,11 @@ impl Shelf {
         self.purge(now, desk);
     }
 
-    /// Flushes the shelf, whose items' chunks are out of this desk: all items go at once, or the
-    /// dead go and the others are flushed after a delay, which is read as an exptime is. It takes
-    /// no memory. The cost is that of one pass over the items, and with a delay it walks none if
-    /// none may be dead.
+    /// Flushes the shelf, whose items' chunks are out of this desk.
+    ///
+    /// Without a delay all items are dropped. With a delay, which is read as an exptime, the dead
+    /// ones are dropped and the others are flushed later. It takes no memory. It costs one pass
+    /// over the items; with a delay it walks none if none may be dead.
     pub fn flush(&mut self, delay: u64, now: Moment, desk: &mut Desk)
         requires { AreOut self.old.content desk.old }
         ensures shelf { IsFlushed delay now self.old.content self.new.content }
@@ -119,10 +125,11 @@ impl Shelf {
     }
 }
 
-/// Flushes a state by its parts, all its shelves in their order and the desk: all items go at once,
-/// or the dead go and the others are flushed after a delay, which is read as an exptime is. It
-/// takes no memory. The cost is that of one pass over the items of each shelf where one may be
-/// dead, or, if all go at once, over all items.
+/// Flushes a state given by its parts: all its shelves in order, and the desk.
+///
+/// Without a delay all items are dropped. With a delay, which is read as an exptime, the dead ones
+/// are dropped and the others are flushed later. It takes no memory. It costs one pass over the
+/// items of each shelf where one may be dead, or over all items without a delay.
 pub fn flush_parts(shelves: &mut [Shelf], desk: &mut Desk, delay: u64, now: Moment)
     requires { (hash_of : List ℕ → ℕ) × (state : Plain) × (count : ℕ)
         × ArePartsOf hash_of state shelves.old count desk.old }
@@ -135,7 +142,7 @@ pub fn flush_parts(shelves: &mut [Shelf], desk: &mut Desk, delay: u64, now: Mome
     }
 }
 
-/// Makes so many shelves of no items. The one error is a refused allocation.
+/// Makes `count` empty shelves. The only error is a refused allocation.
 pub(crate) fn empty_shelves(
     alloc: Global,
     count: u32,

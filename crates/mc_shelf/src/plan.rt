@@ -1,4 +1,7 @@
-//! What a step does, by the protocol's table and the item that stands under its key.
+//! What a step does, by the protocol's table and the item under its key.
+//!
+//! A plan lends the step's key, so `settle` takes no step. `begin`, `finish` and `apply` take the
+//! step for its block, and require that it is the planned one.
 
 ghost use Rattle.std.specs.Prelude.{◌≡◌, ◌↔◌, ℕ, List, ◌≤◌, length, true, is_none, Option, IfOk, OnErr};
 ghost use Rattle.std.specs.FinMap.{get};
@@ -32,39 +35,39 @@ use mc_protocol::{Block, Body, Bytes, Draft, KeyStep, Reply, Row, Standing};
 use mc_time::{Expiry, Moment, is_dead};
 use std::alloc::{AllocError, Global};
 
-/// How many bytes an item's chunks hold beside its key and its block.
+/// Bytes that an item's chunks hold beside its key and its block.
 const CHUNK_HEAD: u64 = 48;
 
 /// What a step does.
 #[derive(Drop)]
 pub(crate) enum Next {
-    /// It is answered, and the key's item stays.
+    /// It has a reply, and the key's item stays.
     Answer(Reply),
-    /// The key's item expires then.
+    /// The expiry of the key's item is set.
     Expire(Expiry, Reply),
     /// The key's item is dropped: it is dead, or deleted.
     Discard(Reply),
-    /// An item of that charge is written, if there is a unique number and room for it.
+    /// An item of this charge is written, if there is a unique number and room for it.
     Write(u64, Draft),
 }
 
-/// What a shelf has found out about a step: what comes next at its key.
+/// What a step does at its key, as a shelf found.
 #[derive(Drop)]
 pub struct Plan<'a> {
     /// The step's key.
     pub(crate) key: Bytes<'a>,
     /// The hash of the key.
     pub(crate) hash: u64,
-    /// Where the key's item was found, and none if the key has no item.
+    /// Where the key's item was found, or `None` if the key has no item.
     pub(crate) place: Option<Place>,
     /// What comes next.
     pub(crate) next: Next,
-    /// The moment of the step: that of the look-up, and of a write.
+    /// The moment of the step, and of its write.
     pub(crate) moment: Moment,
 }
 
 impl<'a> Plan<'a> {
-    /// Makes the plan of a step that has been taken, with that answer.
+    /// Returns the plan of a step that was taken with this reply.
     pub fn of(reply: Reply) -> Plan<'a>
         ensures { result.next ≡ Answer reply }
     {
@@ -77,7 +80,8 @@ impl<'a> Plan<'a> {
         }
     }
 
-    /// Returns whether the step needs the desk: it does if it removes or writes an item, even if the write is then refused.
+    /// Returns whether the step needs the desk: it removes or writes an item, even if the write is
+    /// refused.
     pub fn needs_desk(&self) -> bool
         ensures told { result ≡ wants_desk self.now.next }
         ensures needed { (shelf : ShelfContent) (desk : DeskState) (step : Step) (now : ℕ) →
@@ -109,7 +113,7 @@ impl<'a> Plan<'a> {
     }
 }
 
-/// Finds out what comes next in a step, by the item that is found under its key. A hit's block is copied.
+/// Returns what a step does, given the item found under its key. A hit's block is copied.
 pub(crate) fn next_of(
     alloc: Global,
     step: &KeyStep<'_>,
@@ -143,7 +147,7 @@ pub(crate) fn next_of(
     }
 }
 
-/// Gives an answer that leaves the key's item. A dead one is dropped.
+/// Returns a reply that leaves the key's item; a dead item is dropped.
 fn answer_alone(dead: bool, reply: Reply) -> Next
     ensures { result ≡ plans.answered dead reply }
 {
@@ -154,7 +158,7 @@ fn answer_alone(dead: bool, reply: Reply) -> Next
     }
 }
 
-/// Answers with an item, and a copy of its block.
+/// Returns the reply of a hit, with a copy of the item's block.
 fn hit(alloc: Global, item: Option<&Entry>) -> Result<Reply, AllocError>
     ensures { IfOk result (λ reply. reply ≡ hit_of (item_in item.entry)) }
 {
@@ -168,7 +172,7 @@ fn hit(alloc: Global, item: Option<&Entry>) -> Result<Reply, AllocError>
     }
 }
 
-/// Copies the block of an item.
+/// Returns a copy of an item's block.
 fn copy_block(alloc: Global, item: &Entry) -> Result<Block, AllocError>
     ensures { IfOk result (λ block. block ≡ item.now.item.block) }
 {
@@ -177,7 +181,7 @@ fn copy_block(alloc: Global, item: &Entry) -> Result<Block, AllocError>
     Ok(Block::of(block))
 }
 
-/// Lends the item that stands: the one that is found, unless it is dead.
+/// Returns the item that was found, unless it is dead.
 fn standing_entry<'a>(found: Option<&'a Entry>, dead: bool) -> Option<&'a Entry>
     ensures { (cut : Option ℕ) (now : ℕ) → dead ≡ is_gone cut now (item_in found.entry) →
         item_in result ≡ machine.alive cut now (item_in found.entry) }
@@ -185,7 +189,7 @@ fn standing_entry<'a>(found: Option<&'a Entry>, dead: bool) -> Option<&'a Entry>
     if dead { None } else { found }
 }
 
-/// Returns whether the item that is found is dead.
+/// Returns whether the item that was found is dead.
 pub(crate) fn is_gone(found: Option<&Entry>, cut: Option<u64>, now: Moment) -> bool
     ensures { result ≡ is_gone cut now (item_in found.entry) }
 {
@@ -195,7 +199,7 @@ pub(crate) fn is_gone(found: Option<&Entry>, cut: Option<u64>, now: Moment) -> b
     }
 }
 
-/// Gives the charge of what a draft puts under a step's key, in bytes.
+/// Returns the charge in bytes of a draft under a step's key.
 fn charge_of(step: &KeyStep<'_>, item: Option<&Entry>, draft: Draft) -> u64
     requires { length (key_of step.now) ≤ 250 }
     ensures { result ≡ charge_of step.now (item_in item.entry) draft }
@@ -203,7 +207,7 @@ fn charge_of(step: &KeyStep<'_>, item: Option<&Entry>, draft: Draft) -> u64
     charge(step.key(), step.block(), block_len(item), draft.body)
 }
 
-/// Counts the bytes of an item's block, and none if there is no item.
+/// Returns the length of an item's block in bytes, or 0 without an item.
 pub(crate) fn block_len(item: Option<&Entry>) -> usize
     ensures value { result ≡ length (block_in (item_in item.entry)) }
     ensures most { result ≤ 8388560 }
@@ -214,7 +218,7 @@ pub(crate) fn block_len(item: Option<&Entry>) -> usize
     }
 }
 
-/// Gives the charge of a block that a body makes of a step's and of an old one of so many bytes.
+/// Returns the charge of the block that a body makes from a step's block and an old one.
 fn charge(key: &[u8], block: &[u8], old_len: usize, body: Body) -> u64
     requires key { length key.now ≤ 250 }
     requires old { old_len ≤ 8388560 }

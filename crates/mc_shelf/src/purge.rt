@@ -1,6 +1,8 @@
-//! Purges: the dead items of a shelf go, and the desk has their chunks back. If others wait for the
-//! desk, that is done in two parts, of which the long one, the walk over the items, takes the shelf
-//! alone.
+//! Purges: the dead items of a shelf are dropped, and the desk gets their chunks back.
+//!
+//! If others wait for the desk, a purge has two parts. The long one, the walk over the items, needs
+//! only the shelf, and collects the chunks in a list; the desk takes the list back in one step. If
+//! memory for the list is refused, the walk is made with the desk held.
 
 ghost use Rattle.std.specs.Prelude.{◌≡◌, ◌≤◌, ◌==◌, ℕ, List, [], vec_capacity};
 ghost use Rattle.std.specs.FinMap.{len};
@@ -21,20 +23,20 @@ use mc_slab::Chunks;
 use mc_time::Moment;
 use std::alloc::Global;
 
-/// How far a purge has come at the shelf alone.
+/// How far a purge came at the shelf alone.
 #[derive(Drop)]
 pub enum Purging {
-    /// The dead items are off the shelf, and the desk is to have these chunks back, which are
-    /// theirs.
+    /// The dead items are removed, and these are their chunks for the desk.
     Apart(Vec<Chunks>),
-    /// There was no memory for a list of chunks, and the shelf is as it was.
+    /// Memory for a list of chunks was refused, and the shelf is unchanged.
     Whole,
 }
 
 impl Shelf {
-    /// Drops the items that are dead at a moment, and gives their chunks back. It takes no memory.
-    /// The cost is that of one pass over the items, and if none may be dead it walks none. No entry
-    /// is moved.
+    /// Drops the items that are dead at a moment, and gives their chunks back.
+    ///
+    /// It takes no memory and moves no entry. It costs one pass over the items, and walks none if
+    /// none may be dead.
     pub fn purge(&mut self, now: Moment, desk: &mut Desk)
         requires { AreOut self.old.content desk.old }
         ensures shelf { IsPurged now self.old.content self.new.content }
@@ -59,10 +61,11 @@ impl Shelf {
         self.index.keep_soonest(soonest);
     }
 
-    /// Begins a purge at the shelf alone: takes off the items that are dead at a moment, and keeps
-    /// their chunks for `end_purge`. It reserves room for the chunks of all items at once, the only
-    /// memory that it takes; if that is refused all is left to `end_purge`. The cost is that of one
-    /// pass over the items. No entry is moved.
+    /// Removes the items that are dead at a moment, and keeps their chunks for `end_purge`.
+    ///
+    /// It needs the shelf alone. The only memory it takes is room for the chunks of all items, at
+    /// once; if that is refused, everything is left to `end_purge`. It costs one pass over the
+    /// items, and moves no entry.
     pub fn begin_purge(&mut self, alloc: Global, now: Moment) -> Purging
         ensures begins { BeginsPurge now self.old.content result self.new.content }
         ensures table { DropsAlone (counts_of self.old) (counts_of self.new) }
@@ -73,8 +76,9 @@ impl Shelf {
         }
     }
 
-    /// Takes off the items that are dead at a moment, and puts their chunks into a vector that has
-    /// room for those of all items.
+    /// Removes the items that are dead at a moment, and appends their chunks to `room`.
+    ///
+    /// `room` has room for the chunks of all items.
     fn take_dead(&mut self, now: Moment, room: Vec<Chunks>) -> Vec<Chunks>
         requires empty { room.items ≡ [] }
         requires room { len self.old.content.items ≤ vec_capacity room }
@@ -100,10 +104,12 @@ impl Shelf {
         chunks
     }
 
-    /// Ends a purge that was begun at this shelf, with no other step between: the desk has the
-    /// chunks back. If before the purge the shelf was with this desk a part of a state, that state
-    /// goes to the one purged of the shelf's dead, as `purge_part` has it. It takes no memory. The
-    /// cost is a few instructions for each dead item, if the purge could be begun. No entry is moved.
+    /// Ends a purge that was begun at this shelf, with no other step between.
+    ///
+    /// The desk gets the chunks back. If before the purge the shelf was, with this desk, a part of
+    /// a state, that state becomes the one purged of the shelf's dead items, as in `purge_part`. It
+    /// takes no memory and moves no entry. It costs a few instructions for each dead item if the
+    /// purge could be begun.
     pub fn end_purge(&mut self, purging: Purging, now: Moment, desk: &mut Desk)
         requires { (old : ShelfContent) × BeginsPurge now old purging self.old.content
             × (hash_of : List ℕ → ℕ) × (shelves : ℕ) × (at : ℕ) × (state : Plain)
@@ -124,7 +130,7 @@ impl Shelf {
 }
 
 impl Desk {
-    /// Takes many chunks back, of each class no more than are out. It takes no memory.
+    /// Gives many chunks back; of each class at least as many must be out. It takes no memory.
     fn take_back(&mut self, chunks: Vec<Chunks>)
         requires { (class : ℕ) → IsClass class →
             count_among chunks.items class ≤ out_of self.old.slab class }
@@ -132,7 +138,7 @@ impl Desk {
     {
         let mut chunks = chunks;
         while let Some(one) = chunks.pop() {
-            // what holds of all chunks, for the proof
+            // for the proof: the invariant of chunks
             let _need = one.need();
             self.give(one);
         }

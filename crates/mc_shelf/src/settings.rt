@@ -1,4 +1,7 @@
-//! How a store is set up.
+//! The settings of a store.
+//!
+//! They carry their ranges as ghost fields, so no call above requires them again. There are at most
+//! 256 shelves: a key's home in its shelf's table is its hash divided by 256.
 
 ghost use Rattle.std.specs.Prelude.{◌≡◌, ◌↔◌, IfSome, IsSome};
 ghost use Rattle.mc_shelf.specs.Ranges.{
@@ -9,14 +12,14 @@ ghost use Rattle.mc_shelf.specs.Ranges.{
   is_shelf_count,
 };
 
-/// How a store is set up. Each value is in its range.
+/// The settings of a store. Each value is in its range.
 #[derive(Clone, Copy, Debug, PartialEq, Eq)]
 pub struct Settings {
-    /// How many pages of 1048576 bytes it may have, 1 to 65536.
+    /// The limit of pages of 1048576 bytes, 1 to 65536.
     pub pages: u32,
     /// The greatest charge of an item, in bytes, 1048576 to 8388608.
     pub greatest: u64,
-    /// How many shelves it has: a power of two, 1 to 256.
+    /// The number of shelves: a power of two, 1 to 256.
     pub shelves: u32,
     pub ghost pages_fit: { IsPageCount pages },
     pub ghost greatest_fits: { IsGreatestCharge greatest },
@@ -24,21 +27,23 @@ pub struct Settings {
 }
 
 impl Settings {
-    /// The most pages that a store may have.
+    /// The most pages of a store.
     pub const MOST_PAGES: u32 = 65536;
 
-    /// The usual greatest charge of an item, in bytes: that of one page. A store may have no smaller one.
+    /// The default greatest charge of an item, in bytes: one page. A store can't have a smaller
+    /// one.
     pub const GREATEST: u64 = 1_048_576;
 
-    /// The most that a store may have as the greatest charge of an item, in bytes: that of eight pages.
+    /// The largest greatest charge of an item, in bytes: eight pages.
     pub const MOST_GREATEST: u64 = 8_388_608;
 
-    /// The most shelves that a store may have.
+    /// The most shelves of a store.
     pub const MOST_SHELVES: u32 = 256;
 
-    /// Makes settings of so many pages, 1 to 65536, the greatest charge of an item, 1048576 to
-    /// 8388608 bytes, and so many shelves, a power of two from 1 to 256. If one of them is out of
-    /// its range it makes none.
+    /// Makes settings, or returns `None` if a value is out of its range.
+    ///
+    /// The ranges: 1 to 65536 pages, a greatest charge of an item of 1048576 to 8388608 bytes, and
+    /// 1 to 256 shelves, a power of two.
     pub fn new(pages: u32, greatest: u64, shelves: u32) -> Option<Settings>
         ensures some { IfSome result (λ settings. (settings.pages ≡ pages)
             × (settings.greatest ≡ greatest) × (settings.shelves ≡ shelves)) }
@@ -60,7 +65,7 @@ impl Settings {
     }
 }
 
-/// Returns whether a store may have so many shelves.
+/// Returns whether a store may have this number of shelves.
 fn is_shelf_count(shelves: u32) -> bool
     ensures { result ≡ is_shelf_count shelves }
 {

@@ -1,4 +1,8 @@
 //! A shelf: the items of some keys, and the steps on one of its keys.
+//!
+//! `look` reserves room for a new key's entry, before the desk is taken, and the write uses it.
+//! `page_wanted` is a hint: a step that waits gives the desk back, allocates the pages, and takes
+//! the desk again; it decides nothing meanwhile.
 
 ghost use Rattle.std.specs.Prelude.{◌≡◌, ◌≢◌, ◌↔◌, ℕ, ◌+◌, ◌-◌, ◌%◌, ◌^◌, ◌<◌, ◌≤◌, length, min, slice_index, slice_set};
 ghost use Rattle.std.specs.Prelude.{Option, Some, None, Err, IfOk, IfSome, OnErr, OnOk, nat_lt, true, false};
@@ -60,21 +64,21 @@ use mc_time::{Expiry, Moment};
 use std::alloc::{AllocError, Global};
 use std::marker::Model;
 
-/// The greatest charge whose class isn't the last: an item of it has one chunk, and so has each other of its class.
+/// The greatest charge below the last class. Every item of such a class has one chunk.
 const SMALL: u64 = 493_552;
 
-/// The items of some keys, and the flush that is waiting or has come. Their chunks are counted in the slab of a desk.
+/// The items of some keys, and the pending or past flush. Their chunks are out of a desk's slab.
 ///
-/// Contracts see what it holds (the greatest charge, the items and the hashes under their keys, the flush), and beside that
-/// what moves: for how many more entries there is room, how many homes the table has, whether it grows, how many of an old table's
-/// entries are left to move then, and how many entries stand in no table.
+/// Contracts see what it holds: the greatest charge, the items and the hashes under their keys, and
+/// the flush. They also see what moves: the room for further entries, the homes of the table,
+/// whether it grows, the entries of an old table that are still to be moved, and the strays.
 #[derive(Drop)]
 pub struct Shelf {
     /// The greatest charge of an item, in bytes, 0 to 8388608.
     pub(crate) greatest: u64,
     /// The items, by their keys.
     pub(crate) index: Index,
-    /// The second of the flush that waits or has come, at which what was written before it dies.
+    /// The second of the pending or past flush. Items that were updated before it die then.
     pub(crate) cut: Option<u64>,
 }
 
@@ -106,8 +110,9 @@ impl Model for Shelf {
 }
 
 impl Shelf {
-    /// Makes a shelf that holds nothing, whose items have at most that charge in bytes, 0 to 8388608. The one error is a
-    /// refused allocation.
+    /// Makes an empty shelf with a greatest charge of an item in bytes, 0 to 8388608.
+    ///
+    /// The only error is a refused allocation.
     pub fn new(alloc: Global, greatest: u64) -> Result<Shelf, AllocError>
         requires { greatest ≤ 8388608 }
         ensures content { IfOk result (λ shelf. shelf.content ≡ nothing_held greatest) }
@@ -122,7 +127,7 @@ impl Shelf {
         })
     }
 
-    /// Counts the items.
+    /// Returns the number of items.
     pub fn len(&self) -> usize
         ensures count { result ≡ len self.now.content.items }
         ensures most { result < 2 ^ 64 - 1 }
@@ -130,10 +135,11 @@ impl Shelf {
         self.index.len()
     }
 
-    /// Counts the keys of each number, the hash modulo 4096: sets the place of each number that a
-    /// key has to how many keys have it. It is asked with 4096 places, 0 at these; the others stay.
-    /// It takes no memory. The cost is that of one pass over the items, and if there are none it
-    /// walks nothing.
+    /// Counts the keys of each number; a key's number is its hash modulo 4096.
+    ///
+    /// `counts` must have 4096 places. The place of each number that a key has must be 0, and is
+    /// set to how many keys have it; the others are unchanged. It takes no memory. It costs one
+    /// pass over the items, and without items it walks nothing.
     pub fn count_numbers(&self, counts: &mut [u64])
         requires { HasPlaces self.now.content counts.old }
         ensures { KeysAreCounted self.now.content counts.old counts.new }
@@ -148,13 +154,15 @@ impl Shelf {
         }
     }
 
-    /// Takes a step on one key at a moment: looks it up, and then settles it, or applies it at the
-    /// desk. Refused, or with the unique numbers spent, the shelf holds what it held, and the desk
-    /// is as it was. `hash` is the hash that the shelf has with the key, if it has the key.
+    /// Takes a step on one key at a moment, and returns its reply.
     ///
-    /// Numbers and room are asked before memory is: spent numbers, an item that is too large and one that finds no chunk are
-    /// always answered so. A growth of its table may begin, and of an old table 8 entries are moved at most, beside the key's own,
-    /// which may go.
+    /// It looks the step up, and then settles it, or applies it at the desk. After an error the
+    /// shelf holds what it held, and the desk is unchanged. `hash` is the hash that the shelf has
+    /// with the key, if it has the key.
+    ///
+    /// Numbers and room are checked before memory: used-up numbers, a too large item and a missing
+    /// chunk are always reported as such. A growth of its table may begin. At most 8 entries of an
+    /// old table are moved, beside the key's own, which may be removed.
     pub fn step(
         &mut self,
         alloc: Global,
@@ -180,10 +188,11 @@ impl Shelf {
         self.apply(alloc, plan, step, desk)
     }
 
-    /// Finds out what a step at a moment does. Copies the block of a hit, and makes room for an
-    /// entry that a write puts in: of a new key, or if a dead item gives way to it; nothing else
-    /// takes memory. The shelf holds what it held, though a growth of its table may begin, and one
-    /// that lags moves 8 entries.
+    /// Returns what a step at a moment does.
+    ///
+    /// It copies the block of a hit, and makes room for an entry that a write inserts, for a new
+    /// key or in place of a dead item. Nothing else takes memory. The shelf holds what it held,
+    /// though a growth of its table may begin, and one that lags moves 8 entries.
     pub fn look<'a>(
         &mut self,
         alloc: Global,
@@ -208,7 +217,9 @@ impl Shelf {
         Ok(plan)
     }
 
-    /// Answers a step that needs no desk. It takes no memory, and no entry of an old table is moved.
+    /// Takes a step that needs no desk, and returns its reply.
+    ///
+    /// It takes no memory, and moves no entry of an old table.
     #[tactic(auto, using(crate::proofs::CountLemmas::table_rules))]
     pub fn settle(&mut self, plan: Plan<'_>) -> Reply
         requires { CanSettle plan self.old.content }
@@ -234,9 +245,11 @@ impl Shelf {
         }
     }
 
-    /// Takes the step of a plan, and answers it: begins it, and finishes it. Pages that the slab gives to a class are all that
-    /// take memory. Refused, or with the unique numbers spent, the shelf holds what it held, and the desk is as it was. No entry
-    /// of an old table is moved, though the key's own may go.
+    /// Takes the step of a plan with the desk, and returns its reply: begins it and finishes it.
+    ///
+    /// Only pages that the slab gives to a class take memory. After an error the shelf holds what
+    /// it held, and the desk is unchanged. It moves no entry of an old table, though the key's own
+    /// may be removed.
     #[tactic(auto, using(crate::proofs::CountLemmas::table_rules))]
     pub fn apply(
         &mut self,
@@ -275,8 +288,9 @@ impl Shelf {
         }
     }
 
-    /// Returns the pages that the step of a plan asks for at the desk, if it asks for any. Pages
-    /// that are made before the desk is held may be brought to `begin` then.
+    /// Returns the pages that the step of a plan wants at the desk, or `None`.
+    ///
+    /// They can be allocated before the desk is held, and passed to `begin`.
     pub fn page_wanted(&self, plan: &Plan<'_>, desk: &Desk) -> Option<Wanted>
         requires { (step : Step) × (now : ℕ) × IsPlan plan.now self.now.content step now }
         ensures wanted { IfSome result (λ wanted. (needs : NeedsPages plan.now.next
@@ -299,20 +313,22 @@ impl Shelf {
         desk.wanted_pages(need, self.back(plan, need))
     }
 
-    /// Does what a plan's step needs the desk for; `finish` does the rest over the same plan, before the shelf is asked for
-    /// anything else.
+    /// Does the part of a plan's step that needs the desk. `finish` does the rest.
     ///
-    /// A write goes into the chunks of the key's old item if they are those that it needs, and the item is dead, or a number that
-    /// incr and decr count, or as many chunks are unused and the block is the step's own. A dead item that has other chunks of
-    /// the write's class gives them back first. Any other write takes its chunks while the old item still has its own. A block
-    /// that the step brings is left to `finish` if it goes into the old item's chunks, or is large, so that the cost doesn't grow
-    /// with it. A join that copies the old item into other chunks is left too, if chunks are brought in exchange for the old
-    /// one's (`exchange`).
+    /// `finish` takes the same plan, before any other call of the shelf.
     ///
-    /// Pages that the slab gives to a class are all that take memory; they are those that are
-    /// brought, if so many of that class are. Refused, or with the unique numbers spent, the shelf
-    /// holds what it held, and the desk is as it was. No entry of an old table is moved, though the
-    /// key's own may go.
+    /// A write goes into the chunks of the key's old item if they are those that it needs, and one
+    /// of these holds: the item is dead; the write is a number that incr or decr counts; as many
+    /// chunks are unused and the block is the step's own. A dead item with other chunks of the
+    /// write's class first gives them back. Any other write takes its chunks while the old item
+    /// still has its own. The copying of a step's block is left to `finish` if it goes into the old
+    /// item's chunks, or is large, so that the cost doesn't grow with it. A join that copies the
+    /// old item into other chunks is left too, if there are chunks in exchange for the old one's
+    /// (`exchange`).
+    ///
+    /// Only pages that the slab gives to a class take memory; the given pages are used if they are
+    /// enough and of that class. After an error the shelf holds what it held, and the desk is
+    /// unchanged. It moves no entry of an old table, though the key's own may be removed.
     #[tactic(auto, using(crate::proofs::CountLemmas::table_rules))]
     pub fn begin(
         &mut self,
@@ -362,8 +378,10 @@ impl Shelf {
         }
     }
 
-    /// Drops all items, and gives their chunks back. It takes no memory. The cost is that of one
-    /// pass over the items, and if there are none it walks nothing. No entry is moved.
+    /// Drops all items, and gives their chunks back.
+    ///
+    /// It takes no memory and moves no entry. It costs one pass over the items, and without items
+    /// it walks nothing.
     pub fn clear(&mut self, desk: &mut Desk)
         requires { AreOut self.old.content desk.old }
         ensures shelf { self.new.content
@@ -383,16 +401,18 @@ impl Shelf {
         self.index.keep_soonest(Soonest::empty());
     }
 
-    /// Sets the moment from which on what was updated before it is dead; with none, no flush is waiting or has come.
+    /// Sets the moment of a flush: from then on items updated before it are dead. `None` is no
+    /// flush.
     pub fn set_cut(&mut self, cut: Option<u64>)
         ensures { self.new ≡ record self.old { content = record self.old.content { cut = cut } } }
     {
         self.cut = cut;
     }
 
-    /// Moves up to `n` entries of an old table, and answers how many it moved: as many as are left,
-    /// if they are fewer. The shelf holds what it held, and no memory is taken. The cost grows with
-    /// `n`.
+    /// Moves up to `n` entries of an old table, and returns how many it moved.
+    ///
+    /// It moves fewer only if fewer are left. The shelf holds what it held, and it takes no memory.
+    /// The cost grows with `n`.
     pub fn grow(&mut self, n: usize) -> usize
         ensures content { self.new.content ≡ self.old.content }
         ensures moved { result ≡ min n self.old.left }
@@ -404,15 +424,15 @@ impl Shelf {
         self.index.move_some(n)
     }
 
-    /// Counts the entries of an old table that are left to move.
+    /// Returns the number of entries of an old table that are still to be moved.
     pub fn entries_to_move(&self) -> usize
         ensures { result ≡ self.now.left }
     {
         self.index.entries_to_move()
     }
 
-    /// Counts the items, the homes of the table that new entries go to, the entries of an old table
-    /// that are left to move, and those that stand in no table, and says whether the table grows.
+    /// Returns the number of items, homes, entries to move and strays, and whether the table grows.
+    ///
     /// It walks nothing.
     pub fn counts(&self) -> ShelfCounts
         ensures value { result ≡ counts_of self.now }
@@ -421,7 +441,7 @@ impl Shelf {
         self.index.counts()
     }
 
-    /// Finds out what a step at a moment does, and makes no room. A hit's block is copied, and nothing else takes memory.
+    /// Returns what a step at a moment does, without making room. Only a hit's block takes memory.
     fn plan<'a>(
         &self,
         alloc: Global,
@@ -448,7 +468,7 @@ impl Shelf {
         })
     }
 
-    /// Lends the entry of a key, if it has the key.
+    /// Lends the entry of a key, or `None`.
     pub(crate) fn entry(&self, place: Option<Place>, hash: u64, key: &[u8]) -> Option<&Entry>
         requires { IsKnown self.now.content key.now hash place }
         ensures item { item_in result ≡ get self.now.content.items key.now }
@@ -458,7 +478,7 @@ impl Shelf {
         self.index.found_entry(found)
     }
 
-    /// Lends the entry of a plan's key, if it has the key.
+    /// Lends the entry of a plan's key, or `None`.
     pub(crate) fn planned_entry(&self, plan: &Plan<'_>) -> Option<&Entry>
         requires { (step : Step) × (now : ℕ) × IsPlan plan.now self.now.content step now }
         ensures item { item_in result ≡ get self.now.content.items plan.now.key }
@@ -467,7 +487,7 @@ impl Shelf {
         self.entry(plan.place, plan.hash, plan.key.as_slice())
     }
 
-    /// Returns whether the key's item gives way to what comes next in a plan.
+    /// Returns whether the key's item gives its chunks back before the write of a plan.
     fn gives_way(&self, plan: &Plan<'_>) -> bool
         requires { (step : Step) × (now : ℕ) × IsPlan plan.now self.now.content step now }
         ensures { result
@@ -483,8 +503,7 @@ impl Shelf {
         gives_way(self.planned_entry(plan), need, self.cut, plan.moment)
     }
 
-    /// Counts the chunks of a need's class that come back if the key's item is dropped for being
-    /// dead.
+    /// Returns how many chunks of a need's class are given back if the key's dead item is dropped.
     fn back(&self, plan: &Plan<'_>, need: Need) -> u64
         requires { (step : Step) × (now : ℕ) × IsPlan plan.now self.now.content step now }
         ensures value { result ≡ back_at self.now.content plan.now.key plan.now.moment need }
@@ -493,7 +512,7 @@ impl Shelf {
         dead_chunks(self.planned_entry(plan), need, self.cut, plan.moment)
     }
 
-    /// Makes room for an entry, if a plan can be taken that puts it in.
+    /// Makes room for an entry, if a plan can be taken and inserts one.
     fn make_room(&mut self, alloc: Global, plan: &Plan<'_>, desk: &Desk) -> Result<(), AllocError>
         requires { (step : Step) × (now : ℕ) × IsPlan plan.now self.old.content step now }
         ensures content { self.new.content ≡ self.old.content }
@@ -511,7 +530,7 @@ impl Shelf {
         Ok(())
     }
 
-    /// Returns whether a plan can be taken, and then puts in an entry.
+    /// Returns whether a plan can be taken and inserts an entry.
     fn wants_room(&self, plan: &Plan<'_>, desk: &Desk) -> bool
         requires { (step : Step) × (now : ℕ) × IsPlan plan.now self.now.content step now }
         ensures wants { result ≡ true → CanWrite plan.now.next self.now.content plan.now.key
@@ -534,14 +553,14 @@ impl Shelf {
         desk.has_room(need, self.back(plan, need))
     }
 
-    /// Gives what a charge of at most the greatest needs.
+    /// Returns the need of a charge, cut to the greatest.
     pub(crate) fn need_for(&self, charge: u64) -> Need
         requires { charge ≤ self.now.content.greatest }
         ensures value { result ≡ need_for charge }
         ensures is_need { IsNeed result }
         ensures holds { charge ≤ size_in result }
     {
-        // Eight pages hold every charge of at most the greatest, so there is a need.
+        // Eight pages hold every charge up to the greatest, so there is a need.
         need_of(charge.min(self.greatest)).unwrap()
     }
 

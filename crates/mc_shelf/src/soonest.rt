@@ -1,4 +1,8 @@
-//! From when on some of a shelf's items may be dead.
+//! The moment before which none of a shelf's items is dead.
+//!
+//! A shelf keeps the soonest expiry and the soonest write of its items. Before these nothing is
+//! dead, so a purge is skipped. Writes only lower them, deletes leave them, and a purge computes
+//! them again. They are private: no contract mentions them.
 
 ghost use Rattle.std.specs.Prelude.{◌≡◌, ℕ, ◌≤◌, Some, true};
 ghost use Rattle.mc_time.specs.Death.{is_dead, is_expired};
@@ -10,8 +14,9 @@ use crate::entry::Entry;
 use mc_protocol::Standing;
 use mc_time::{Expiry, Moment, is_dead};
 
-/// Bounds over a set of items: none expires before `expiry`, and none was written before `updated`. As long as an item with
-/// exactly these two would be alive, all of them are.
+/// Bounds over a set of items: none expires before `expiry`, and none was written before `updated`.
+///
+/// As long as an item with exactly these two would be alive, all of them are.
 #[derive(Clone, Copy)]
 pub(crate) struct Soonest {
     /// The soonest expiry.
@@ -29,7 +34,7 @@ impl Soonest {
         }
     }
 
-    /// Adds an item.
+    /// Returns the bounds with one item more.
     pub(crate) fn with(self, expiry: Expiry, updated: Moment) -> Soonest
         ensures one { (item : Item) → item.expiry ≡ expiry → item.updated ≡ updated →
             DiesNoSooner result item }
@@ -41,7 +46,7 @@ impl Soonest {
         }
     }
 
-    /// Sets the expiry of one of the items.
+    /// Returns the bounds after one of the items gets this expiry.
     pub(crate) fn with_expiry(self, expiry: Expiry) -> Soonest
         ensures one { (item : Item) → DiesNoSooner self item →
             DiesNoSooner result (record item { expiry = expiry }) }
@@ -53,7 +58,7 @@ impl Soonest {
         }
     }
 
-    /// Adds the item that is found, if one is.
+    /// Returns the bounds with the item that was found, if one was.
     pub(crate) fn with_found(self, found: Option<&Entry>) -> Soonest
         ensures found { (item : Item) → item_in found.entry ≡ Some item → DiesNoSooner result item }
         ensures others { (item : Item) → DiesNoSooner self item → DiesNoSooner result item }
@@ -72,7 +77,7 @@ impl Soonest {
     }
 }
 
-/// Gives the one of two expiries that comes first.
+/// Returns the expiry that comes first.
 fn sooner(one: Expiry, other: Expiry) -> Expiry
     ensures one { (now : ℕ) → is_expired one now ≡ true → is_expired result now ≡ true }
     ensures other { (now : ℕ) → is_expired other now ≡ true → is_expired result now ≡ true }
@@ -83,7 +88,7 @@ fn sooner(one: Expiry, other: Expiry) -> Expiry
     }
 }
 
-/// Gives the earlier of two moments.
+/// Returns the earlier moment.
 fn earlier(one: Moment, other: Moment) -> Moment
     ensures one { result ≤ one }
     ensures other { result ≤ other }

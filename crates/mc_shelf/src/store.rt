@@ -1,5 +1,8 @@
-//! The store of one thread, as callers see it: how it is set up, its hasher, and the plain
-//! machine's state.
+//! The store of one thread, as callers see it: its settings, its hasher, and the plain machine's
+//! state.
+//!
+//! The store keeps the flush cut beside its shelves' equal cuts, so its model needs no shelf.
+//! `into_parts` returns shelves and desk under contracts, for a store with other locks.
 
 ghost use Rattle.std.specs.Prelude.{◌≡◌, ◌↔◌, ◌-◌, ◌≤◌, min, length, replicate, slice_index, slice_set, IfOk, OnErr, Err, refl};
 ghost use Rattle.mc_protocol.specs.Commands.{key_of, longest_key};
@@ -19,22 +22,23 @@ use mc_time::Moment;
 use std::alloc::{AllocError, Global};
 use std::marker::Model;
 
-/// What a store is made of. A key is on the shelf that its hash names, modulo their number.
+/// The parts of a store. A key's shelf is its hash modulo the number of shelves.
 #[derive(Drop)]
 pub struct StoreParts<K: KeyHash + Drop> {
-    /// How it is set up.
+    /// Its settings.
     pub settings: Settings,
-    /// What hashes its keys.
+    /// The hash function of its keys.
     pub hasher: K,
-    /// Its shelves, in their order.
+    /// Its shelves, in order.
     pub shelves: Vec<Shelf>,
     /// The desk that they share.
     pub desk: Desk,
 }
 
-/// A store of one thread: shelves of items, and the desk that they share. Contracts see how it was
-/// set up, its hasher, and the plain machine's state; and beside these, of each shelf how many
-/// entries of an old table are left to move.
+/// A store of one thread: shelves of items, and the desk that they share.
+///
+/// Contracts see its settings, its hasher, the plain machine's state, and for each shelf how many
+/// entries of an old table are still to be moved.
 #[derive(Drop)]
 pub struct Store<K: KeyHash + Drop> {
     parts: StoreParts<K>,
@@ -60,8 +64,7 @@ impl<K: KeyHash + Drop> Model for Store<K> {
 }
 
 impl<K: KeyHash + Drop> Store<K> {
-    /// Makes a store of no items, no class of which has a page. The one error is a refused
-    /// allocation.
+    /// Makes an empty store; no class has a page. The only error is a refused allocation.
     pub fn new(alloc: Global, settings: Settings, hasher: K) -> Result<Store<K>, AllocError>
         ensures plain { IfOk result (λ store.
             store.plain ≡ opening settings.pages settings.greatest) }
@@ -72,8 +75,9 @@ impl<K: KeyHash + Drop> Store<K> {
         Store::starting(alloc, settings, hasher, 1)
     }
 
-    /// Makes the same, whose first write draws the unique number `next`, at least 1. At 2^64 - 1 the
-    /// numbers are spent. The one error is a refused allocation.
+    /// Makes an empty store whose first write uses the unique number `next`, at least 1.
+    ///
+    /// At 2^64 - 1 the numbers are used up. The only error is a refused allocation.
     pub fn starting(
         alloc: Global,
         settings: Settings,
@@ -99,7 +103,7 @@ impl<K: KeyHash + Drop> Store<K> {
         })
     }
 
-    /// Makes a store of parts that keep a state. It takes no memory.
+    /// Returns a store of parts that keep a state. It takes no memory.
     pub fn from_parts(parts: StoreParts<K>) -> Store<K>
         requires { (state : Plain) × IsSetUp parts.settings state
             × ArePartsOf (K.hash_of parts.hasher)
@@ -115,7 +119,7 @@ impl<K: KeyHash + Drop> Store<K> {
         Store { parts }
     }
 
-    /// Gives the parts, which keep the store's state. It takes no memory.
+    /// Returns the parts, which keep the store's state. It takes no memory.
     pub fn into_parts(self) -> StoreParts<K>
         ensures settings { result.settings ≡ self.settings }
         ensures hasher { result.hasher ≡ self.hasher }
@@ -128,7 +132,7 @@ impl<K: KeyHash + Drop> Store<K> {
         parts
     }
 
-    /// Tells how it was set up.
+    /// Returns its settings.
     pub fn settings(&self) -> Settings
         ensures value { result ≡ self.now.settings }
         ensures set_up { IsSetUp self.now.settings self.now.plain }
@@ -136,9 +140,10 @@ impl<K: KeyHash + Drop> Store<K> {
         self.parts.settings
     }
 
-    /// Drops the dead items of a shelf, and no other. Of a shelf that isn't there it drops none. It
-    /// takes no memory. The cost is that of one pass over the shelf's items, and if none may be
-    /// dead it walks none.
+    /// Drops the dead items of a shelf, and none if there is no such shelf.
+    ///
+    /// It takes no memory. It costs one pass over the shelf's items, and walks none if none may be
+    /// dead.
     pub fn purge(&mut self, shelf: u32, now: Moment)
         ensures plain { self.new.plain ≡ shelf_purged (K.hash_of self.old.hasher)
             self.old.settings.shelves shelf now self.old.plain }
@@ -151,9 +156,10 @@ impl<K: KeyHash + Drop> Store<K> {
         }
     }
 
-    /// Moves up to `n` entries of a shelf's old table, and answers how many it moved: as many as
-    /// are left, if they are fewer, and 0 of a shelf that isn't there. All else is as it was,
-    /// and no memory is taken. The cost grows with `n`.
+    /// Moves up to `n` entries of a shelf's old table, and returns how many it moved.
+    ///
+    /// It moves fewer only if fewer are left, and 0 if there is no such shelf. Everything else is
+    /// unchanged, and it takes no memory. The cost grows with `n`.
     pub fn grow(&mut self, shelf: u32, n: usize) -> usize
         ensures moved { result ≡ min n (slice_index self.old.left shelf) }
         ensures left { self.new ≡ record self.old {
@@ -167,8 +173,7 @@ impl<K: KeyHash + Drop> Store<K> {
         }
     }
 
-    /// Takes a step on one key, on the key's shelf. If it isn't taken the store holds what it
-    /// held.
+    /// Takes a step on one key, on the key's shelf. After an error the store holds what it held.
     fn step_on_key(
         &mut self,
         alloc: Global,

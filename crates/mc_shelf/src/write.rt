@@ -1,4 +1,8 @@
-//! Writing the item of a step: in the chunks of the key's item, or in others.
+//! Writing the item of a step: into the chunks of the key's item, or into others.
+//!
+//! A set of an existing key with the same need goes into the item's own chunks if as many are free,
+//! because taking some and giving the item's back leaves the slab unchanged. An append goes behind
+//! the existing block under the same rule, so the existing block isn't copied.
 
 ghost use Rattle.std.specs.Prelude.{◌≡◌, ◌↔◌, ◌++◌, ℕ, ◌+◌, ◌≤◌, ◌<◌, ◌-◌, ◌^◌, List, length};
 ghost use Rattle.std.specs.Prelude.{Option, Some, None, Err, IfOk, IfErr, IfSome, OnOk, OnErr, true, false};
@@ -61,7 +65,7 @@ use mc_slab::{Chunks, Need, Pages};
 use mc_time::Moment;
 use std::alloc::Global;
 
-/// From how many bytes on the block of an item that takes other chunks is copied when the desk has been given back.
+/// Bytes from which on a block for other chunks is copied after the desk was given back.
 const LARGE: usize = 4096;
 
 /// A write that comes next.
@@ -69,13 +73,13 @@ const LARGE: usize = 4096;
 pub(crate) struct Write {
     /// The hash of the step's key.
     pub(crate) hash: u64,
-    /// Where the key's item was found, and none if the key has no item.
+    /// Where the key's item was found, or `None` if the key has no item.
     pub(crate) place: Option<Place>,
     /// The moment of the step.
     pub(crate) moment: Moment,
     /// The charge of the item, in bytes.
     pub(crate) charge: u64,
-    /// What is written, but for its unique number and its moment.
+    /// What is written, without its unique number and its moment.
     pub(crate) draft: Draft,
 }
 
@@ -90,8 +94,10 @@ impl Write {
         }
     }
 
-    /// Returns whether the item may go into the chunks of the key's item all the same: they are those that it needs, as many
-    /// others are unused, and the block is the step's own, or comes behind the one that stands.
+    /// Returns whether the item may also go into the chunks of the key's item.
+    ///
+    /// It may if they are those that it needs, as many others are unused, and the block is the
+    /// step's own or comes behind the present one.
     fn goes_over(&self, same: bool, need: Need, desk: &Desk) -> bool
         ensures same { result ≡ true → same ≡ true }
         ensures body { result ≡ true → MayBeLeft self.now.draft.body }
@@ -103,7 +109,7 @@ impl Write {
         }
     }
 
-    /// Returns whether the step's block comes behind the one that stands.
+    /// Returns whether the step's block comes behind the present one.
     pub(crate) fn appends(&self) -> bool
         ensures yes { result ≡ true → self.now.draft.body ≡ Body.Appended }
         ensures no { result ≡ false → self.now.draft.body ≡ Body.Appended → ⊥ }
@@ -114,7 +120,9 @@ impl Write {
         }
     }
 
-    /// Returns whether the step's own block is written, and is so large that copying it costs more than coming back for it.
+    /// Returns whether the step's own block is written, and is so large that its copying is left.
+    ///
+    /// Copying it then costs more than coming back for it.
     fn leaves_block(&self, step: &KeyStep<'_>) -> bool
         ensures { result ≡ true → self.now.draft.body ≡ Body.Given }
     {
@@ -124,7 +132,7 @@ impl Write {
         }
     }
 
-    /// Makes the entry of the write in chunks, beside an old item.
+    /// Writes the item of the write into chunks, given an old item, and returns its entry.
     fn entry_in(
         &self,
         chunks: Chunks,
@@ -170,7 +178,7 @@ impl Write {
         }
     }
 
-    /// Makes the entry whose block is an old item's, followed by `block`.
+    /// Writes the item whose block is an old item's, followed by `block`.
     fn append_block<'a>(
         &self,
         chunks: Chunks,
@@ -196,7 +204,7 @@ impl Write {
         entry
     }
 
-    /// Makes the entry whose block is `block`, followed by an old item's.
+    /// Writes the item whose block is `block`, followed by an old item's.
     fn prepend_block<'a>(
         &self,
         chunks: Chunks,
@@ -222,7 +230,7 @@ impl Write {
         entry
     }
 
-    /// Makes the entry of a block of so many bytes, which are of any content.
+    /// Writes the item with a block of `block_len` unspecified bytes.
     fn head_of(&self, chunks: Chunks, unique: u64, key: &[u8], block_len: usize) -> Entry
         requires key { length key.now ≤ 250 }
         requires need { need_in chunks ≡ need_for (48 + length key.now + block_len) }
@@ -248,7 +256,7 @@ impl Write {
         )
     }
 
-    /// Makes the entry of a block.
+    /// Writes the item with this block, and returns its entry.
     pub(crate) fn entry_of<'a>(
         &self,
         chunks: Chunks,
@@ -285,13 +293,13 @@ impl Write {
 struct Fit {
     /// They are those that the write needs.
     same: bool,
-    /// And the write goes there in any case, since the item is dead, or a number that is counted.
+    /// They are also used in any case: the item is dead, or the write is a counted number.
     reused: bool,
-    /// If it doesn't, how many of them a dead item gives back that are of the write's class.
+    /// Otherwise, how many chunks of the write's class a dead item gives back.
     back: u64,
 }
 
-/// Returns whether the item that is found has the chunks that a need asks for.
+/// Returns whether the item that was found has the chunks of a need.
 pub(crate) fn has_need(found: Option<&Entry>, need: Need) -> bool
     ensures { (key : List ℕ) → IfSome found.entry (λ entry. entry.now.key ≡ key) →
         result ≡ plans.has_need key (item_in found.entry) need }
@@ -302,15 +310,16 @@ pub(crate) fn has_need(found: Option<&Entry>, need: Need) -> bool
     }
 }
 
-/// Returns whether two needs ask for the same.
+/// Returns whether two needs are the same.
 pub(crate) fn is_same(one: Need, other: Need) -> bool
     ensures { result ≡ same_need one other }
 {
     one.class().number() == other.class().number() && one.count() == other.count()
 }
 
-/// Returns whether the item that is found gives way to a write of a need: it is dead, and has chunks of the need's class,
-/// though not as many.
+/// Returns whether the item that was found gives its chunks back before a write of a need.
+///
+/// It does if it is dead and has chunks of the need's class, but another number of them.
 pub(crate) fn gives_way(found: Option<&Entry>, need: Need, cut: Option<u64>, now: Moment) -> bool
     ensures { (key : List ℕ) → IfSome found.entry (λ entry. entry.now.key ≡ key) →
         result ≡ plans.gives_way cut now key (item_in found.entry) need }
@@ -318,8 +327,7 @@ pub(crate) fn gives_way(found: Option<&Entry>, need: Need, cut: Option<u64>, now
     !has_need(found, need) && 0 < dead_chunks(found, need, cut, now)
 }
 
-/// Counts the chunks of a need's class that come back if the item that is found is dropped for
-/// being dead.
+/// Returns how many chunks of a need's class are given back if the dead item is dropped.
 pub(crate) fn dead_chunks(found: Option<&Entry>, need: Need, cut: Option<u64>, now: Moment) -> u64
     ensures value { (key : List ℕ) → IfSome found.entry (λ entry. entry.now.key ≡ key) →
         result ≡ plans.dead_chunks cut now key (item_in found.entry) need.class }
@@ -378,7 +386,8 @@ impl Shelf {
             return Ok(self.rewrite(write, unique, step));
         }
         if write.goes_over(same, need, desk) {
-            // To take as many chunks that are unused, and give the item's back, would leave the slab as it is.
+            // Taking as many unused chunks and giving the item's back would leave the slab
+            // unchanged.
             let unique = desk.draw();
             return Ok(Begun::Left(Unwritten {
                 unique,
@@ -398,7 +407,8 @@ impl Shelf {
         Ok(self.put(write, unique, chunks, exchange, step, desk))
     }
 
-    /// Finds out how the chunks of the key's item suit a write. The item is looked for where it was found before.
+    /// Returns how the chunks of the key's item suit a write. It searches first where it was found
+    /// before.
     fn fit(&self, write: &Write, need: Need, key: &[u8]) -> Fit
         requires { IsKnown self.now.content key.now write.now.hash write.now.place }
         ensures same { result.same
@@ -420,9 +430,10 @@ impl Shelf {
         Fit { same, reused, back }
     }
 
-    /// Puts the item of a write in the place of a dead one of its key, which gives way to it: that one's chunks go back, and
-    /// some of them or all serve the write. Pages that the class wants then are all that takes memory. Refused, the shelf and the
-    /// desk are as they were.
+    /// Replaces a dead item of the write's key whose chunks go back before the write.
+    ///
+    /// Some or all of them serve the write. Only pages that the class then wants take memory. An
+    /// error leaves the shelf and the desk unchanged.
     #[tactic(auto, using(crate::proofs::CountLemmas::table_rules))]
     fn give_way(
         &mut self,
@@ -454,7 +465,7 @@ impl Shelf {
         self.discard(write.place, write.hash, step.key(), desk);
         let unique = desk.draw();
         let chunks = desk.take_unused(alloc, need);
-        // The key has no item now, so that the write's is a new one.
+        // The key has no item now, so the write inserts a new one.
         let Write {
             hash,
             moment,
@@ -472,7 +483,8 @@ impl Shelf {
         Ok(self.put(&write, unique, chunks, None, step, desk))
     }
 
-    /// Writes a number in the chunks of the key's item. The step's block, which is the whole then, is left to be written there.
+    /// Writes a number into the chunks of the key's item. A step's own block is left to be written
+    /// there.
     #[tactic(auto, using(crate::proofs::CountLemmas::table_rules))]
     fn rewrite(&mut self, write: &Write, unique: u64, step: &KeyStep<'_>) -> Begun
         requires key { length (key_of step.now) ≤ 250 }
@@ -504,7 +516,7 @@ impl Shelf {
         }
     }
 
-    /// Writes a block in the chunks of a key's item.
+    /// Writes a block into the chunks of a key's item.
     #[tactic(auto, using(crate::proofs::CountLemmas::table_rules))]
     pub(crate) fn overwrite<'a>(
         &mut self,
@@ -525,7 +537,7 @@ impl Shelf {
         }
     }
 
-    /// Puts a block behind the one of a key's item, in its chunks.
+    /// Appends a block to that of a key's item, in its chunks.
     #[tactic(auto, using(crate::proofs::CountLemmas::table_rules))]
     pub(crate) fn extend<'a>(&mut self, write: &Write, unique: u64, key: &[u8], block: &'a [u8])
         requires sought { IsSought self.old.content key.now write.now.hash write.now.place }
@@ -542,8 +554,11 @@ impl Shelf {
         }
     }
 
-    /// Puts the item of a write into chunks and under its key. Those of the item that stood there go back. A large block that is
-    /// the step's own is left to be written, and so is all if the desk has chunks in exchange for that item's.
+    /// Writes the item of a write into chunks and puts it under its key. The old item's chunks go
+    /// back.
+    ///
+    /// A large block that is the step's own is left to be written, and so is the whole item if the
+    /// desk has chunks in exchange for the old item's.
     fn put(
         &mut self,
         write: &Write,
@@ -580,8 +595,10 @@ impl Shelf {
         Begun::Done
     }
 
-    /// Puts the item of a write into chunks and under its key, but for the bytes of its block. Those of the item that stood there
-    /// go back. A new key's chunks wait for the whole.
+    /// Puts the item of a write under its key, without the bytes of its block. The old item's
+    /// chunks go back.
+    ///
+    /// A new key's chunks wait for the whole.
     #[tactic(auto, using(crate::proofs::CountLemmas::table_rules))]
     fn begin_put(
         &mut self,
@@ -620,7 +637,7 @@ impl Shelf {
         }
     }
 
-    /// Puts the item of a write into chunks and under its key, block and all. Those of the item that stood there go back.
+    /// Puts the item of a write under its key, with its block. The old item's chunks go back.
     fn put_whole(
         &mut self,
         write: &Write,
@@ -644,7 +661,7 @@ impl Shelf {
         }
     }
 
-    /// Puts the item of a write into chunks and under its key, block and all. Returns the entry that stood there.
+    /// Puts the item of a write under its key, with its block. Returns the old entry.
     #[tactic(auto, using(crate::proofs::CountLemmas::table_rules))]
     pub(crate) fn put_into(
         &mut self,

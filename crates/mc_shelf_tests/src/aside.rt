@@ -1,11 +1,13 @@
-//! A store that is flushed at once, as a store is that others wait for.
+//! A store that is flushed at once as the shared store does it.
 
 use crate::stores::set_up;
 use mc_hop::KeyHash;
 use mc_shelf::{Store, StoreParts};
 use std::alloc::{AllocError, Global};
 
-/// Flushes a store at once: its desk lays its shelves aside, and those of a new store come in their places. No flush waits then.
+/// Flushes a store at once: its desk lays its shelves aside, and a new store's replace them.
+///
+/// No flush is pending afterwards.
 pub(crate) fn laid_aside<K: KeyHash + Drop + Copy>(
     alloc: Global,
     store: Store<K>,

@@ -1,8 +1,9 @@
-//! Items that lie aside, of which a need takes chunks.
+//! Items that lie aside, and needs that take chunks of them.
 //!
-//! Contracts don't say which chunks are collected when, and no call tells it. But a slab hands out the chunk that came back last, and
-//! one that was an item's keeps of it what the next item there doesn't write. So a test puts items of no block, takes their chunks,
-//! and reads whose they were before.
+//! Contracts don't state which chunks are collected when, and no call returns it. But a slab hands
+//! out the chunk that was given back last, and a chunk keeps the bytes of its old item that the
+//! next item doesn't write. So a test writes items without a block, takes their chunks, and reads
+//! which item was there before.
 
 use crate::aside::laid_aside;
 use crate::seen::{account, dead_chunks};
@@ -20,16 +21,16 @@ use std::test::*;
 /// The length of a block. A page has one chunk for an item of it.
 const LARGE: usize = 600_000;
 
-/// How many small items lie aside.
+/// The number of small items aside.
 const SMALL: u8 = 60;
 
-/// Where the second byte of a key stands in an item's chunk, behind the header of 48 bytes and the first.
+/// The place of a key's second byte in an item's chunk: 48 bytes of header, and the first byte.
 const NUMBER: usize = 49;
 
-/// Where a byte of a small item's block stands, which an item of no block doesn't write.
+/// The place of a byte of a small item's block, which an item without a block doesn't write.
 const WITHIN: usize = 60;
 
-/// Sets a key of two bytes, the second of them this number, and names the answer.
+/// Sets a key of two bytes, the second one this number, and returns the name of the reply.
 fn put(
     store: &mut Store<Constant>,
     alloc: Global,
@@ -42,7 +43,7 @@ fn put(
     told_of(&ask_step(store, alloc, &step, Moment::from_seconds_at_most(1000)))
 }
 
-/// Puts small items of these numbers. The bytes of the block of each are its number and one.
+/// Sets small items of these numbers. The bytes of each block are its number plus one.
 fn put_small(store: &mut Store<Constant>, alloc: Global, from: u8, to: u8) {
     for number in from..to {
         let block = [number.saturating_add(1); 20];
@@ -50,8 +51,9 @@ fn put_small(store: &mut Store<Constant>, alloc: Global, from: u8, to: u8) {
     }
 }
 
-/// A store of two pages and one shelf, in which all keys have one hash. It has a large item and 60
-/// small ones, so many of them before it.
+/// Returns a store of two pages and one shelf, with one hash for all keys.
+///
+/// It has a large item and 60 small ones, `before` of them set before it.
 fn store_of(alloc: Global, before: u8, large: &[u8]) -> Result<Store<Constant>, AllocError> {
     let settings = Settings {
         pages: 2,
@@ -65,11 +67,12 @@ fn store_of(alloc: Global, before: u8, large: &[u8]) -> Result<Store<Constant>, 
     Ok(store)
 }
 
-/// Of items of no block, by their numbers, what stood in their chunks before: a small item's number and
-/// one, or 0 in a chunk that is new.
+/// For items without a block, by number, what was in their chunks before.
+///
+/// That is a small item's number plus one, or 0 in a new chunk.
 type Before = [u8; 64];
 
-/// Reads what stood in the chunks of such items before.
+/// Reads what was in the chunks of such items before.
 fn read_chunks(chunks: &[Chunks]) -> Before {
     let mut before = [0u8; 64];
     for one in chunks {
@@ -83,8 +86,9 @@ fn read_chunks(chunks: &[Chunks]) -> Before {
     before
 }
 
-/// Puts 63 items of no block, and tells what stood in their chunks before. Nothing is told if there
-/// was no memory for a list of them.
+/// Sets 63 items without a block, and returns what was in their chunks before.
+///
+/// It is `None` if memory for a list of them was refused.
 fn chunks_that_come(mut store: Store<Constant>, alloc: Global) -> Option<Before> {
     for number in 0..63 {
         let _ = put(&mut store, alloc, number, 1, b"");
@@ -95,7 +99,7 @@ fn chunks_that_come(mut store: Store<Constant>, alloc: Global) -> Option<Before>
     Some(read_chunks(&chunks))
 }
 
-/// The same of the chunks alone that were used before, in their order.
+/// Returns the same for the chunks alone that were used before, in order.
 fn used(before: &Before) -> Before {
     let mut used = [0u8; 64];
     let mut count = 0;
@@ -110,26 +114,27 @@ fn used(before: &Before) -> Before {
     used
 }
 
-/// Counts the chunks that were used before.
+/// Returns how many chunks were used before.
 fn count_used(before: &Before) -> usize {
     before.iter().filter(|byte| **byte != 0).count()
 }
 
-/// What the class of small items has out, and that of large ones.
+/// Returns how many chunks of the small items' class are out, and of the large item's.
 fn out(store: Store<Constant>) -> (Store<Constant>, (u32, u32)) {
     let (store, (_, small)) = account(store, 55);
     let (store, (_, large)) = account(store, LARGE as u64 + 50);
     (store, (small, large))
 }
 
-/// The chunks that come for items of no block behind a flush at once, with nothing between.
+/// Returns the chunks of items without a block right after a flush.
 fn come_alone(alloc: Global, before: u8, large: &[u8]) -> Result<Option<Before>, AllocError> {
     let store = laid_aside(alloc, store_of(alloc, before, large)?)?;
     Ok(chunks_that_come(store, alloc))
 }
 
-/// The chunks that come for them behind a large item too, which has that of the large one aside. No
-/// page is left for a second one.
+/// Returns their chunks after a large item, which takes the chunk of the large one aside.
+///
+/// No page is left for a second one.
 fn come_behind(
     rt: &impl Abort,
     alloc: Global,
@@ -148,15 +153,19 @@ fn come_behind(
     Ok(chunks_that_come(store, alloc))
 }
 
-/// Returns whether a large item left the small ones aside. A write collects one item for having drawn a number. So alone the first
-/// chunk is new, and those of the small items come behind it, one with each write; and where a large item was written before, the
-/// same come in the same order. Had that one collected others for its need, these would come before their turn.
+/// Returns whether a large item left the small ones aside.
+///
+/// A write collects one item, because it takes a number. So alone the first chunk is new, and the
+/// small items' chunks follow, one with each write. After a large item the same chunks come in the
+/// same order. If that item had collected others for its need, their chunks would come earlier.
 fn are_left(alone: &Before, behind: &Before) -> bool {
     alone[0] == 0 && count_used(alone) == usize::from(SMALL) && used(alone) == *behind
 }
 
-/// Each small item has one chunk, and the large one too. In the table that grows the large one is the second; the 33rd of one hash is
-/// a stray; and the 40th stands in the new table.
+/// Each small item has one chunk, and so has the large one.
+///
+/// The large one is the second in the table that grows; the 33rd of one hash is a stray; and the
+/// 40th is in the new table.
 #[test]
 fn a_need_collects_its_own_class_alone(rt: HostRuntime) -> Result<(), Fail> {
     let alloc = rt.alloc();

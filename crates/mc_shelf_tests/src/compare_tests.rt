@@ -1,6 +1,7 @@
-//! The store by shelves beside the plain store: the same steps, drawn at random, are answered
-//! alike, while tables grow and the dead are purged between them, and the clock goes back at times.
-//! If an allocation is refused, a store takes the step when it is asked again.
+//! The store by shelves beside the plain store: the same random steps have the same replies.
+//!
+//! Tables grow and dead items are purged between them, and sometimes the clock goes back. If memory
+//! is refused, a store takes the step at the second try.
 
 ghost use Rattle.std.specs.Prelude.{◌<◌, ◌≤◌, length};
 ghost use Rattle.mc_protocol.specs.Commands.{key_of};
@@ -16,10 +17,10 @@ use std::alloc::{AllocError, Global};
 use std::process::Abort;
 use std::test::*;
 
-/// Letters and digits, each once: two that stand side by side make a key.
+/// Letters and digits, each once: each two neighbours make a key.
 const LETTERS: &[u8] = b"abcdefghijklmnopqrstuvwxyzABCDEFGHIJKLMNOPQRSTUVWXYZ0123456789";
 
-/// One of 64 keys, all different, of which a table of one hash can't take all.
+/// Returns one of 64 different keys, more than a table of one hash takes.
 fn key_at(number: u64) -> &'static [u8]
     requires { number < 64 }
     ensures { length result.now ≤ 250 }
@@ -37,7 +38,7 @@ fn key_at(number: u64) -> &'static [u8]
     }
 }
 
-/// Blocks from none to one of a whole page, and numbers among them.
+/// Returns a block, from an empty one to one of a whole page, with numbers among them.
 fn block_at(bytes: &[u8], number: u64) -> &[u8] {
     let len = match number {
         0 => 600000,
@@ -73,7 +74,7 @@ fn verb_at(number: u64) -> Verb {
     }
 }
 
-/// A step of any kind.
+/// Returns a random step of any kind.
 fn step_of<'a>(dice: &mut Dice, bytes: &'a [u8]) -> KeyStep<'a>
     ensures { length (key_of result) ≤ 250 }
 {
@@ -85,7 +86,7 @@ fn step_of<'a>(dice: &mut Dice, bytes: &'a [u8]) -> KeyStep<'a>
     step_with(Bytes::of(key), Bytes::of(block), exptime, number, kind)
 }
 
-/// The step of that kind, 0 to 39.
+/// Returns a step of a kind, 0 to 39.
 fn step_with<'a>(
     key: Bytes<'a>,
     block: Bytes<'a>,
@@ -124,7 +125,7 @@ fn step_with<'a>(
     }
 }
 
-/// Takes a step in both stores, and returns whether the replies are alike.
+/// Takes a step in both stores, and returns whether the replies are equal.
 fn is_answered_alike<K: KeyHash + Drop>(
     alloc: Global,
     store: &mut Store<K>,
@@ -139,12 +140,12 @@ fn is_answered_alike<K: KeyHash + Drop>(
     Ok(is_same(&reply, &wanted))
 }
 
-/// A moment of that turn: 20 turns take a second, and up to 11 more are drawn.
+/// Returns a moment for a turn: 20 turns take a second, and up to 11 seconds are added at random.
 fn moment_after(dice: &mut Dice, turn: u64) -> Moment {
     Moment::from_seconds_at_most((1000 + turn / 20).saturating_add(dice.roll(12)))
 }
 
-/// Eight hashes of one shelf, whose homes stand side by side.
+/// Eight hashes on one shelf, with neighbouring homes.
 #[derive(Clone, Copy)]
 struct EightHashes;
 
@@ -173,7 +174,7 @@ impl KeyTest for AllKeys {
     }
 }
 
-/// Drops the dead of all shelves, and of the plain store.
+/// Drops the dead items of all shelves, and of the plain store.
 fn purge_both<K: KeyHash + Drop>(store: &mut Store<K>, plain: &mut PlainStore, now: Moment) {
     for shelf in 0..64 {
         store.purge(shelf, now);
@@ -181,8 +182,7 @@ fn purge_both<K: KeyHash + Drop>(store: &mut Store<K>, plain: &mut PlainStore, n
     plain.purge(now, &AllKeys);
 }
 
-/// What is compared: a store and the plain store, of four pages, and the bytes that blocks are
-/// taken of.
+/// A store and the plain store, of four pages, and the bytes that blocks are taken from.
 #[derive(Drop)]
 struct Pair<K: KeyHash + Drop> {
     store: Store<K>,
@@ -206,9 +206,11 @@ impl<K: KeyHash + Drop> Pair<K> {
         })
     }
 
-    /// Takes 4000 steps in both, each up to 11 seconds after a moment that rises, so that many come
-    /// before the last one's. After each one entry of the first shelf's old table is moved, and
-    /// after some the dead of another such moment are dropped. Returns whether any entry was moved.
+    /// Takes 4000 steps in both, and returns whether any entry was moved.
+    ///
+    /// Each step is up to 11 seconds after a moment that rises, so that many are before the last
+    /// one's. After each step one entry of the first shelf's old table is moved, and after some the
+    /// items that are dead at another such moment are dropped.
     fn compare(&mut self, rt: &impl Abort, alloc: Global) -> Result<bool, Fail> {
         let mut dice = Dice::new(1);
         let mut moved = false;

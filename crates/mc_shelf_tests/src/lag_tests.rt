@@ -1,4 +1,4 @@
-//! A shelf to which all keys go, and whose growth gets no turn.
+//! A shelf that gets all keys, and whose growth gets no other call.
 
 use crate::lengths::{ByLength, front};
 use crate::seen::counts;
@@ -10,7 +10,7 @@ use mc_time::Moment;
 use std::alloc::{AllocError, Global};
 use std::test::*;
 
-/// A store with keys of each length from 1 to that, at most 250.
+/// Returns a store with keys of each length from 1 to `keys`, at most 250.
 fn store_of(alloc: Global, keys: usize) -> Result<Store<ByLength>, AllocError> {
     let long = filled_block(alloc, 250)?;
     let mut store = open_with(alloc, 64, ByLength)?;
@@ -23,9 +23,11 @@ fn store_of(alloc: Global, keys: usize) -> Result<Store<ByLength>, AllocError> {
     Ok(store)
 }
 
-/// The table of 64 homes grows before the 49th key comes. The growth lags from the 97th key on, when there are more than three
-/// for every four of 128 homes, and each key that comes moves 8 entries; the 102nd moves the last, and the table of 256 homes is
-/// made. Its growth lags from the 193rd on, and is over with the 205th.
+/// The table of 64 homes grows before the 49th key comes.
+///
+/// The growth lags from the 97th key on, when there are more than three for every four of 128
+/// homes, and each key that comes moves 8 entries. The 102nd moves the last, and the table of 256
+/// homes is made. Its growth lags from the 193rd on, and is over with the 205th.
 #[test]
 fn a_growth_that_lags_is_moved_on_by_new_keys(rt: HostRuntime) -> Result<(), Fail> {
     let rows: [(usize, usize); 9] = [
@@ -46,10 +48,11 @@ fn a_growth_that_lags_is_moved_on_by_new_keys(rt: HostRuntime) -> Result<(), Fai
     Ok(())
 }
 
-/// Each home has one entry at most, so that none is a stray.
+/// Each home has at most one entry, so that none is a stray.
 #[test]
 fn a_shelf_counts_what_its_table_has(rt: HostRuntime) -> Result<(), Fail> {
-    // So many keys, and what is counted then: the homes, whether the table grows, and how many entries are left to move.
+    // The number of keys, and then: the homes, whether the table grows, and the entries left to
+    // move.
     let rows: [(usize, u64, bool, u64); 6] = [
         (0, 64, false, 0),
         (48, 64, false, 0),

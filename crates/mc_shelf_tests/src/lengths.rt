@@ -1,11 +1,12 @@
-//! Keys that a hash knows by their lengths.
+//! A hash of keys by their lengths.
 
 ghost use Rattle.std.specs.Prelude.{◌≤◌, length};
 
 use mc_hop::KeyHash;
 
-/// Gives keys of each length another hash, all of the first shelf, and each of a home of its own, if there are that many homes.
-/// Lengths that are alike modulo 16 have one number, 256 times the rest.
+/// A hash for each length of key, on the first shelf, with a home of its own if there are enough.
+///
+/// Lengths that are equal modulo 16 have one number, 256 times the rest.
 #[derive(Clone, Copy, Drop)]
 pub(crate) struct ByLength;
 
@@ -19,7 +20,7 @@ impl KeyHash for ByLength {
     }
 }
 
-/// Lends the first bytes, as many as are asked for, at most 250 and at most all.
+/// Lends the first `len` bytes, at most 250 and at most all.
 pub(crate) fn front(bytes: &[u8], len: usize) -> &[u8]
     ensures { length result.now ≤ 250 }
 {

@@ -1,15 +1,15 @@
 //! The tests of `mc_shelf`: the store of one thread, its shelves, and the desk that they share.
 //!
-//! A crate that has tests is proved twice, without them and with them. So these stand in a crate of
-//! their own, and the library, which the store for many threads waits for, is proved once.
+//! A crate that has tests is proved twice, without them and with them. So these have a crate of
+//! their own, and the library, which the store for many threads needs, is proved once.
 //!
-//! A test goes through a whole store wherever it can: its invariant is what the calls of shelves and
-//! desk require. What a test sees of the parts it sees by taking the store apart and making it again
-//! of its parts, which changes nothing and takes no memory (`src/seen.rt`). A step in two parts, and
-//! a flush that lays the shelves aside, go the same way (`src/parted.rt`, `src/aside.rt`).
+//! A test uses a whole store wherever it can: its invariant is what the calls of shelves and desk
+//! require. A test sees the parts by taking the store apart and making it again from its parts,
+//! which changes nothing and takes no memory (`src/seen.rt`). A step in two parts, and a flush that
+//! lays the shelves aside, work the same way (`src/parted.rt`, `src/aside.rt`).
 //!
-//! Begin with `src/store_tests.rt`. `src/compare_tests.rt` has random steps, answered as by the
-//! plain store.
+//! Begin with `src/store_tests.rt`. `src/compare_tests.rt` has random steps, with the plain store's
+//! replies.
 #![tactic(auto)]
 
 mod aside;

@@ -1,4 +1,4 @@
-//! How many items a shelf has, and how many keys of each number, the hash modulo 4096.
+//! The number of items of a shelf, and of its keys by number, the hash modulo 4096.
 
 use crate::lengths::{ByLength, front};
 use crate::seen::{counts, dead_chunks, keys};
@@ -11,17 +11,20 @@ use mc_time::Moment;
 use std::alloc::{AllocError, Global};
 use std::test::*;
 
-/// Drops the dead of the first shelf, if that is asked.
+/// Drops the dead items of the first shelf, if `purges`.
 fn purge_at(store: &mut Store<Constant>, seconds: u64, purges: bool) {
     if purges {
         store.purge(0, Moment::from_seconds_at_most(seconds));
     }
 }
 
-/// Keys of one hash, of the first shelf and of the number 960. A dead item counts until a step on its key, or a purge, drops it.
+/// Keys of one hash, on the first shelf, with the number 960.
+///
+/// A dead item counts until a step on its key, or a purge, drops it.
 #[test]
 fn a_shelf_counts_its_items(rt: HostRuntime) -> Result<(), Fail> {
-    // After each row, and a purge at its second if there is one, how many items the shelf has.
+    // The number of the shelf's items after each row, and after a purge at its second if there is
+    // one.
     let rows: [(Row<'_>, bool, usize); 16] = [
         ((1000, b"a", Ask::Get, Want::Told("miss")), false, 0),
         (set(1000, b"a", 0, b"x", "stored"), false, 1),
@@ -58,15 +61,16 @@ fn a_shelf_counts_its_items(rt: HostRuntime) -> Result<(), Fail> {
     Ok(())
 }
 
-/// Begins a purge of a shelf, again if memory is refused, and counts the items that went and those
-/// that stay. None is counted if it found no memory twice.
+/// Begins a purge of a shelf, and returns the number of removed items and of those left.
+///
+/// It tries again if memory is refused, and returns `None` after the second refusal.
 fn begun_at(alloc: Global, shelf: &mut Shelf, seconds: u64) -> Option<(usize, usize)> {
     let now = Moment::from_seconds_at_most(seconds);
     let chunks = dead_chunks(alloc, shelf, now)?;
     Some((chunks.len(), shelf.len()))
 }
 
-/// Dead items are off the shelf once its purge has begun, and their chunks are kept for the desk.
+/// Dead items are removed once the purge has begun, and their chunks are kept for the desk.
 #[test]
 fn a_purge_begins_at_the_shelf_alone(rt: HostRuntime) -> Result<(), Fail> {
     let rows = [
@@ -80,7 +84,7 @@ fn a_purge_begins_at_the_shelf_alone(rt: HostRuntime) -> Result<(), Fail> {
     let mut store = open_with(alloc, 64, Constant(5056))?;
     assert_eq!(rt; first_unlike(&mut store, alloc, &rows)?, None);
     let mut shelves = store.into_parts().shelves;
-    // at which second, how many go, and how many stay
+    // the second, the items that are removed, and those that are left
     for (seconds, gone, stay) in [
         (1004, 0, 5),
         (1005, 1, 4),
@@ -97,7 +101,9 @@ fn a_purge_begins_at_the_shelf_alone(rt: HostRuntime) -> Result<(), Fail> {
     Ok(())
 }
 
-/// A store with keys of each length from 1 to that, at most 250. A few entries are moved after each key, so that a growth runs for a while.
+/// Returns a store with keys of each length from 1 to a length of at most 250.
+///
+/// A few entries are moved after each key, so that a growth runs for a while.
 fn store_of<K: KeyHash + Drop + Copy>(
     alloc: Global,
     hasher: K,
@@ -118,7 +124,7 @@ fn store_of<K: KeyHash + Drop + Copy>(
 /// The table of 64 homes grows before the 49th key comes, and that of 128 before the 97th.
 #[test]
 fn keys_are_counted_by_their_numbers(rt: HostRuntime) -> Result<(), Fail> {
-    // So many keys, a number, and how many keys have it.
+    // The number of keys, a number, and how many keys have it.
     let rows: [(usize, usize, u64); 12] = [
         (0, 256, 0),
         (1, 256, 1),
@@ -141,7 +147,7 @@ fn keys_are_counted_by_their_numbers(rt: HostRuntime) -> Result<(), Fail> {
     Ok(())
 }
 
-/// How many entries of the first shelf stand in no table, and how many in an old one.
+/// Returns how many entries of the first shelf are strays, and how many are in an old table.
 fn apart<K: KeyHash + Drop>(store: Store<K>) -> (u64, u64) {
     match counts(store) {
         Some(counts) => (counts.strays, counts.left),
@@ -149,8 +155,9 @@ fn apart<K: KeyHash + Drop>(store: Store<K>) -> (u64, u64) {
     }
 }
 
-/// A table takes 32 keys of one hash, and two are moved after each key. So the 33rd is a stray, and with the 34th a growth
-/// begins.
+/// A table takes 32 keys of one hash, and two are moved after each key.
+///
+/// So the 33rd is a stray, and with the 34th a growth begins.
 #[test]
 fn keys_that_find_no_bucket_are_strays(rt: HostRuntime) -> Result<(), Fail> {
     let rows: [(usize, (u64, u64)); 4] = [(32, (0, 0)), (33, (1, 0)), (34, (1, 30)), (35, (1, 28))];
@@ -162,7 +169,7 @@ fn keys_that_find_no_bucket_are_strays(rt: HostRuntime) -> Result<(), Fail> {
     Ok(())
 }
 
-/// Keys of one hash, of which a table takes 32, and the others are strays. From the 34th on a growth runs.
+/// Keys of one hash: a table takes 32, and the others are strays. From the 34th on a growth runs.
 #[test]
 fn strays_are_counted(rt: HostRuntime) -> Result<(), Fail> {
     let rows: [(usize, usize, u64); 8] = [

@@ -1,6 +1,7 @@
-//! Sets of keys that stand, whose items are written over, and what is appended to them: if their
-//! class has a free chunk, the new item goes into the chunk of the old one. If an allocation is
-//! refused the store answers as before, and takes the step when it is asked again.
+//! Sets and joins of existing keys, which write over the old item or behind its block.
+//!
+//! If their class has a free chunk, the new item goes into the chunk of the old one. If memory is
+//! refused the store is unchanged, and takes the step at the second try.
 
 use crate::seen::account;
 use crate::store_tests::answers;
@@ -13,8 +14,10 @@ use mc_time::Moment;
 use std::alloc::Global;
 use std::test::*;
 
-/// Expiry, moment and unique number are the new item's: the expiry of the one before is over at 1010, and a flush at 1020 kills
-/// what was written before then.
+/// Expiry, moment and unique number are the new item's.
+///
+/// The expiry of the item before is over at 1010, and a flush at 1020 drops what was written before
+/// then.
 #[test]
 fn the_item_is_the_new_one(rt: HostRuntime) -> Result<(), Fail> {
     let rows: [Row<'_>; 9] = [
@@ -45,7 +48,7 @@ fn set_flags(store: &mut Store<Fnv>, alloc: Global, flags: u32) -> bool {
     ask_step(store, alloc, &step, now).is_ok()
 }
 
-/// The flags of the key `k`.
+/// Returns the flags of the key `k`.
 fn flags_of(store: &mut Store<Fnv>, alloc: Global) -> Option<u32> {
     let step = KeyStep::Read {
         key: Bytes::of(b"k"),
@@ -70,7 +73,7 @@ fn the_flags_are_the_new_ones(rt: HostRuntime) -> Result<(), Fail> {
     Ok(())
 }
 
-/// The class of the least chunks has a page and one item's chunk out after each set, and after the delete none.
+/// The smallest class has a page and one chunk out after each set, and none after the delete.
 #[test]
 fn the_account_of_the_class_stays(rt: HostRuntime) -> Result<(), Fail> {
     let rows: [(Row<'_>, u32); 5] = [
@@ -91,7 +94,9 @@ fn the_account_of_the_class_stays(rt: HostRuntime) -> Result<(), Fail> {
     Ok(())
 }
 
-/// A page has one chunk of a block of 600,000 bytes. With one page there is none free beside the item's, and the old item stays.
+/// A page has one chunk for a block of 600,000 bytes.
+///
+/// With one page none is free beside the item's, and the old item stays.
 #[test]
 fn no_chunk_is_free_and_no_page_left(rt: HostRuntime) -> Result<(), Fail> {
     let large = filled_block(rt.alloc(), 600_000)?;
@@ -111,8 +116,10 @@ fn no_chunk_is_free_and_no_page_left(rt: HostRuntime) -> Result<(), Fail> {
     Ok(())
 }
 
-/// With a second page left the class takes that, if memory for it is to be had; a write that is
-/// refused it leaves the old item. From there on a chunk is free, and no page more is taken.
+/// With a second page left the class takes that, if memory for it isn't refused.
+///
+/// A write that is refused memory leaves the old item. From then on a chunk is free, and no further
+/// page is taken.
 #[test]
 fn no_chunk_is_free_and_a_page_comes(rt: HostRuntime) -> Result<(), Fail> {
     let large = filled_block(rt.alloc(), 600_000)?;
@@ -133,15 +140,17 @@ fn no_chunk_is_free_and_a_page_comes(rt: HostRuntime) -> Result<(), Fail> {
     Ok(())
 }
 
-/// A block of 49 bytes, of whose middle 47 make a chunk of the least class with a key of one.
+/// A block of 49 bytes. Its middle 47 fill a chunk of the smallest class with a key of one.
 const WHOLE: &[u8] = b"daxxxxxxxxxxxxxxxxxxxxxxxxxxxxxxxxxxxxxxxxxxxxxbc";
 
-/// Makes the row of a join.
+/// Returns the row of a join.
 fn join<'a>(seconds: u64, verb: Verb, block: &'a [u8], told: &'static str) -> Row<'a> {
     (seconds, b"k", Ask::Store(verb, 0, block), Want::Told(told))
 }
 
-/// What is appended stays in the chunk up to its last byte. One byte more takes a chunk of the next class, and the first is free.
+/// Appended bytes stay in the chunk up to its last byte.
+///
+/// One byte more takes a chunk of the next class, and the first is free.
 #[test]
 fn joins_end_where_a_chunk_does(rt: HostRuntime) -> Result<(), Fail> {
     let rows: [(Row<'_>, u32, u32); 9] = [
@@ -168,8 +177,9 @@ fn joins_end_where_a_chunk_does(rt: HostRuntime) -> Result<(), Fail> {
     Ok(())
 }
 
-/// A join keeps the expiry, and is of its own moment: a flush at 1020 kills what was joined before then. Nothing is joined to a dead
-/// item.
+/// A join keeps the expiry, and has its own moment: a flush at 1020 drops what was joined before.
+///
+/// Nothing is joined to a dead item.
 #[test]
 fn a_join_is_of_its_moment(rt: HostRuntime) -> Result<(), Fail> {
     let rows: [Row<'_>; 12] = [
@@ -190,8 +200,7 @@ fn a_join_is_of_its_moment(rt: HostRuntime) -> Result<(), Fail> {
     answers(&rt, rt.alloc(), &mut store, &rows)
 }
 
-/// If no chunk is free and no page left, a join that would stay in the chunk is refused all the
-/// same.
+/// Without a free chunk and a page, a join that would stay in the chunk is refused too.
 #[test]
 fn a_join_wants_a_free_chunk(rt: HostRuntime) -> Result<(), Fail> {
     let large = filled_block(rt.alloc(), 600_000)?;
@@ -209,7 +218,7 @@ fn a_join_wants_a_free_chunk(rt: HostRuntime) -> Result<(), Fail> {
     Ok(())
 }
 
-/// The first join takes the second page. From there on a chunk is free, and joins stay in theirs.
+/// The first join takes the second page. From then on a chunk is free, and joins stay in theirs.
 #[test]
 fn a_join_takes_a_page_once(rt: HostRuntime) -> Result<(), Fail> {
     let first = filled_block(rt.alloc(), 600_000)?;

@@ -1,4 +1,4 @@
-//! Items of several pages: what takes the place of which, and what a dead one gives back first.
+//! Items of several pages: which chunks they take, and what a dead one gives back first.
 
 ghost use Rattle.std.specs.Prelude.{◌≤◌};
 
@@ -25,7 +25,8 @@ const ONE: usize = 1_048_527;
 /// A charge of the last class, whose chunks are pages.
 const PAGE: u64 = 1_048_576;
 
-/// A store of that many pages, whose items may take eight, asked for again if memory is refused.
+/// Returns a store of some pages, with items of up to eight. It allocates twice if memory is
+/// refused.
 fn open(alloc: Global, pages: u32) -> Result<Store<Fnv>, AllocError>
     requires { (1 ≤ pages) × (pages ≤ 65536) }
 {
@@ -37,8 +38,7 @@ fn open(alloc: Global, pages: u32) -> Result<Store<Fnv>, AllocError>
     set_up(alloc, settings, Fnv)
 }
 
-/// A new store of that many pages answers each row as it wants, and has so many pages of the last class and chunks of it out
-/// then.
+/// Checks the replies of a new store to rows, and the account of the last class afterwards.
 fn answers(
     rt: &impl Abort,
     alloc: Global,
@@ -70,7 +70,7 @@ fn one_that_stands_gives_its_pages_last(rt: HostRuntime) -> Result<(), Fail> {
     answers(&rt, rt.alloc(), 4, &rows, (2, 0))
 }
 
-/// A dead item of three pages gives way to one of two, and the third serves another.
+/// A dead item of three pages gives way to one of two, and another item takes the third.
 #[test]
 fn a_dead_one_gives_way_to_a_shorter(rt: HostRuntime) -> Result<(), Fail> {
     let one = filled_block(rt.alloc(), ONE)?;
@@ -86,7 +86,7 @@ fn a_dead_one_gives_way_to_a_shorter(rt: HostRuntime) -> Result<(), Fail> {
     answers(&rt, rt.alloc(), 3, &rows, (3, 3))
 }
 
-/// A dead item of two pages gives way to one of three, for which one page comes.
+/// A dead item of two pages gives way to one of three, which takes one page more.
 #[test]
 fn a_dead_one_gives_way_to_a_longer(rt: HostRuntime) -> Result<(), Fail> {
     let two = filled_block(rt.alloc(), TWO)?;
@@ -99,7 +99,7 @@ fn a_dead_one_gives_way_to_a_longer(rt: HostRuntime) -> Result<(), Fail> {
     answers(&rt, rt.alloc(), 3, &rows, (3, 3))
 }
 
-/// The dead item goes even if its pages, too, are too few.
+/// The dead item is dropped even if its pages are also too few.
 #[test]
 fn a_dead_one_goes_where_no_room_is(rt: HostRuntime) -> Result<(), Fail> {
     let one = filled_block(rt.alloc(), ONE)?;
@@ -114,13 +114,13 @@ fn a_dead_one_goes_where_no_room_is(rt: HostRuntime) -> Result<(), Fail> {
     answers(&rt, rt.alloc(), 3, &rows, (3, 3))
 }
 
-/// Makes the row of a join.
+/// Returns the row of a join.
 fn join<'a>(verb: Verb, block: &'a [u8]) -> Row<'a> {
     let ask = Ask::Store(verb, 0, block);
     (1000, b"k", ask, Want::Told("stored"))
 }
 
-/// A block that lies in several pages is joined of others.
+/// A block in several pages is joined from others.
 #[test]
 fn joins_go_over_pages(rt: HostRuntime) -> Result<(), Fail> {
     let middle = filled_block(rt.alloc(), 1_000_000)?;
@@ -136,7 +136,9 @@ fn joins_go_over_pages(rt: HostRuntime) -> Result<(), Fail> {
     answers(&rt, rt.alloc(), 6, &rows, (6, 3))
 }
 
-/// What is appended to an item of two pages stays in them while as many are free. One that needs three finds too few.
+/// Bytes appended to an item of two pages stay in them while as many are free.
+///
+/// One that needs three finds too few.
 #[test]
 fn joins_stay_in_their_pages(rt: HostRuntime) -> Result<(), Fail> {
     let first = filled_block(rt.alloc(), 1_500_000)?;
@@ -158,7 +160,7 @@ fn joins_stay_in_their_pages(rt: HostRuntime) -> Result<(), Fail> {
     answers(&rt, rt.alloc(), 4, &rows, (4, 2))
 }
 
-/// Makes so many bytes, of which the first and the last are others.
+/// Returns `many` bytes; the first and the last differ from the others.
 fn bounded(alloc: Global, many: usize) -> Result<Vec<u8>, AllocError> {
     let mut bytes = filled_block(alloc, many)?;
     if let Some(first) = bytes.get_mut(0) {
@@ -170,7 +172,7 @@ fn bounded(alloc: Global, many: usize) -> Result<Vec<u8>, AllocError> {
     Ok(bytes)
 }
 
-/// A join that is begun, with pages in exchange for the item's own, and then finished is the whole join.
+/// A join that is begun, with pages in exchange, and then finished is the whole join.
 #[test]
 fn joins_of_pages_go_in_two_parts(rt: HostRuntime) -> Result<(), Fail> {
     let alloc = rt.alloc();
@@ -201,15 +203,16 @@ fn joins_of_pages_go_in_two_parts(rt: HostRuntime) -> Result<(), Fail> {
     Ok(())
 }
 
-/// What is left to the second part: a join that copies pages, and none that copies a smaller item.
+/// What is left to the second part: a join that copies pages, but not one that copies a smaller
+/// item.
 #[test]
 fn a_join_of_pages_is_left(rt: HostRuntime) -> Result<(), Fail> {
     let alloc = rt.alloc();
     let small = filled_block(alloc, 400_000)?;
     let large = filled_block(alloc, 700_000)?;
     let larger = filled_block(alloc, 1_000_000)?;
-    // What is joined, and whether it is left: to one chunk, to two pages that are to be three, to three that are copied for what comes
-    // before, and to three that stay.
+    // The join, and whether it is left: to one chunk, to two pages that become three, to three that
+    // are copied for a prepend, and to three that stay.
     let rows: [(Verb, &[u8], bool); 5] = [
         (Verb::Append, large.as_slice(), false),
         (Verb::Append, larger.as_slice(), true),

@@ -1,4 +1,4 @@
-//! Steps that are taken in two parts, as a store does that others wait for.
+//! Steps in two parts, as the shared store takes them.
 
 ghost use Rattle.std.specs.Prelude.{◌≡◌, ◌≤◌, length, IfOk, OnErr};
 ghost use Rattle.mc_protocol.specs.Commands.{key_of};
@@ -14,7 +14,7 @@ use mc_shelf::{Begun, Brought, Desk, Shelf, Store, StoreParts};
 use mc_time::Moment;
 use std::alloc::Global;
 
-/// Returns whether something of a step was left.
+/// Returns whether something of a step is left.
 fn is_left(begun: &Begun) -> bool {
     match begun {
         Begun::Left(_) => true,
@@ -22,8 +22,9 @@ fn is_left(begun: &Begun) -> bool {
     }
 }
 
-/// Takes a step on a shelf's key in two parts, with nothing between them, and with pages in exchange for those of an item that it
-/// joins to. Tells whether something was left to the second.
+/// Takes a step on a shelf's key in two parts. Returns whether something was left to the second.
+///
+/// Nothing comes between them. A join gets pages in exchange for those of its item.
 fn step_in_parts(
     alloc: Global,
     shelf: &mut Shelf,
@@ -51,7 +52,7 @@ fn step_in_parts(
     Ok(shelf.finish(&mut plan, begun, step))
 }
 
-/// Takes a step at its key's shelf in two parts. Tells whether something was left to the second.
+/// Takes a step at its key's shelf in two parts. Returns whether something was left to the second.
 fn begin_and_finish<K: KeyHash + Drop>(
     store: Store<K>,
     alloc: Global,
@@ -71,8 +72,9 @@ fn begin_and_finish<K: KeyHash + Drop>(
     (Store::from_parts(parts), answer)
 }
 
-/// Takes a step on one key in two parts, again if memory is refused, and tells whether something was left to the second. A flush
-/// is taken whole.
+/// Takes a step on one key in two parts, and returns whether something was left to the second.
+///
+/// It tries again if memory is refused. A flush is taken whole.
 pub(crate) fn asked_in_parts(
     mut store: Store<Fnv>,
     alloc: Global,
@@ -94,8 +96,9 @@ pub(crate) fn asked_in_parts(
     }
 }
 
-/// Returns whether two desks have the same number next, and as many chunks of the two least classes
-/// out.
+/// Returns whether two desks have the same next number and the same chunks out.
+///
+/// It compares the chunks of the two smallest classes.
 fn are_alike(desk: &Desk, other: &Desk) -> bool {
     let mut alike = desk.next_unique() == other.next_unique();
     for charge in [96, 120] {
@@ -104,14 +107,14 @@ fn are_alike(desk: &Desk, other: &Desk) -> bool {
     alike
 }
 
-/// Two stores, of which one takes its steps whole and the other in two parts.
+/// Two stores: one takes its steps whole, and the other in two parts.
 #[derive(Drop)]
 pub(crate) struct Both {
     pub(crate) whole: Store<Fnv>,
     pub(crate) parted: Store<Fnv>,
 }
 
-/// Returns whether the desks of both are alike.
+/// Returns whether the desks of both are equal.
 fn have_alike(both: Both) -> (Both, bool) {
     let Both { whole, parted } = both;
     let (whole, parted) = (whole.into_parts(), parted.into_parts());
@@ -123,7 +126,7 @@ fn have_alike(both: Both) -> (Both, bool) {
     (both, alike)
 }
 
-/// Returns whether a row is answered as it wants both whole and in two parts.
+/// Returns whether both have the expected reply to a row.
 fn are_wanted(alloc: Global, both: Both, row: Row<'_>) -> (Both, bool) {
     let (seconds, key, ask, want) = row;
     if key.len() > 250 {
@@ -139,8 +142,7 @@ fn are_wanted(alloc: Global, both: Both, row: Row<'_>) -> (Both, bool) {
     (Both { whole, parted }, wanted)
 }
 
-/// Returns whether a row is answered as it wants both whole and in two parts, and leaves the two
-/// stores' desks alike.
+/// Returns whether both have the expected reply to a row, and their desks are equal afterwards.
 pub(crate) fn goes_alike(alloc: Global, both: Both, row: Row<'_>) -> (Both, bool) {
     let (both, wanted) = are_wanted(alloc, both, row);
     let (both, alike) = have_alike(both);

@@ -1,4 +1,4 @@
-//! What tests see of a store's parts. Most give the store back, made again of its parts.
+//! What tests see of a store's parts. Most calls return the store, made again from its parts.
 
 ghost use Rattle.std.specs.Prelude.{◌≡◌};
 
@@ -8,14 +8,14 @@ use mc_slab::{Account, Chunks, class_of};
 use mc_time::Moment;
 use std::alloc::Global;
 
-/// Makes a store again of its parts.
+/// Makes a store again from its parts.
 pub(crate) fn remade(store: Store<Fnv>) -> Store<Fnv>
     ensures { result.plain ≡ store.plain }
 {
     Store::from_parts(store.into_parts())
 }
 
-/// Tells what the class of a charge has at a desk: its pages, and its chunks that are out.
+/// Returns a desk's pages and chunks out in the class of a charge.
 pub(crate) fn account_at(desk: &Desk, charge: u64) -> (u32, u32) {
     match class_of(charge) {
         Some(class) => {
@@ -26,7 +26,7 @@ pub(crate) fn account_at(desk: &Desk, charge: u64) -> (u32, u32) {
     }
 }
 
-/// Tells the same of a store.
+/// Returns the same for a store.
 pub(crate) fn account<K: KeyHash + Drop>(store: Store<K>, charge: u64) -> (Store<K>, (u32, u32)) {
     let parts = store.into_parts();
     let account = account_at(&parts.desk, charge);
@@ -40,7 +40,7 @@ pub(crate) fn may_have_dead<K: KeyHash + Drop>(store: Store<K>, now: Moment) -> 
     (Store::from_parts(parts), may)
 }
 
-/// Tells what is counted of the first shelf.
+/// Returns the counts of the first shelf.
 pub(crate) fn counts<K: KeyHash + Drop>(store: Store<K>) -> Option<ShelfCounts> {
     let StoreParts { shelves, .. } = store.into_parts();
     match shelves.first() {
@@ -49,8 +49,9 @@ pub(crate) fn counts<K: KeyHash + Drop>(store: Store<K>) -> Option<ShelfCounts> 
     }
 }
 
-/// Counts the items of the first shelf, and its keys of a number, the hash modulo 4096: what the place of that number has, where
-/// the keys were counted into places of 0.
+/// Returns the number of the first shelf's items, and of its keys with a number.
+///
+/// A key's number is its hash modulo 4096. The keys are counted into places of 0.
 fn count_keys(shelves: &[Shelf], number: usize) -> (usize, u64) {
     let Some(shelf) = shelves.first() else {
         return (0, 0);
@@ -63,15 +64,16 @@ fn count_keys(shelves: &[Shelf], number: usize) -> (usize, u64) {
     }
 }
 
-/// Tells the same of a store.
+/// Returns the same for a store.
 pub(crate) fn keys<K: KeyHash + Drop>(store: Store<K>, number: usize) -> (Store<K>, (usize, u64)) {
     let parts = store.into_parts();
     let has = count_keys(&parts.shelves, number);
     (Store::from_parts(parts), has)
 }
 
-/// Begins a purge of a shelf, again if memory is refused, and gives the chunks of its dead items. There are none if it was refused
-/// twice.
+/// Begins a purge of a shelf, and returns the chunks of its dead items.
+///
+/// It tries again if memory is refused, and returns none after the second refusal.
 pub(crate) fn dead_chunks(alloc: Global, shelf: &mut Shelf, now: Moment) -> Option<Vec<Chunks>> {
     let purging = match shelf.begin_purge(alloc, now) {
         Purging::Whole => shelf.begin_purge(alloc, now),

@@ -1,9 +1,9 @@
-//! Numbers that a store may be set up by, and others.
+//! Settings that a store may have, and others.
 
 use mc_shelf::Settings;
 use std::test::*;
 
-/// Pages, a greatest charge and shelves, and whether a store may be set up so.
+/// Pages, a greatest charge and shelves, and whether these are settings.
 type Row = (u32, u64, u32, bool);
 
 const ROWS: [Row; 23] = [

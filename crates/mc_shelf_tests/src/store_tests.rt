@@ -1,6 +1,7 @@
-//! Keys of different shelves over one desk: by Fnv `a` is on shelf 12 of 64, `b` on 37 and `k` on
-//! 10. If an allocation is refused the store answers as before, and takes the step when it is
-//! asked again.
+//! Keys on different shelves over one desk: by Fnv `a` is on shelf 12 of 64, `b` on 37 and `k` on
+//! 10.
+//!
+//! If memory is refused the store is unchanged, and takes the step at the second try.
 
 use crate::parted::{Both, goes_alike};
 use crate::seen::{account, may_have_dead, remade};
@@ -14,7 +15,7 @@ use std::alloc::{AllocError, Global};
 use std::process::Abort;
 use std::test::*;
 
-/// How stores of one shelf, of 64 and of 256 are set up.
+/// Settings of stores with one shelf, 64 and 256.
 const EACH: [Settings; 3] = [
     Settings {
         pages: 64,
@@ -33,7 +34,7 @@ const EACH: [Settings; 3] = [
     },
 ];
 
-/// A store of one page, of whose unique numbers one is left, asked for again if memory is
+/// Returns a store of one page with one unique number left. It allocates twice if memory is
 /// refused.
 fn open_at_the_last(alloc: Global) -> Result<Store<Fnv>, AllocError> {
     let settings = Settings {
@@ -47,7 +48,7 @@ fn open_at_the_last(alloc: Global) -> Result<Store<Fnv>, AllocError> {
     }
 }
 
-/// The store answers each row as it wants.
+/// Checks that the store has the expected reply to each row.
 pub(crate) fn answers(
     rt: &impl Abort,
     alloc: Global,
@@ -58,7 +59,7 @@ pub(crate) fn answers(
     Ok(())
 }
 
-/// A new store that is set up so answers each row as it wants.
+/// The same for a new store with these settings.
 fn answers_with(
     rt: &impl Abort,
     alloc: Global,
@@ -69,7 +70,7 @@ fn answers_with(
     answers(rt, alloc, &mut store, rows)
 }
 
-/// The same, of each number of shelves.
+/// The same, with each number of shelves.
 fn answers_with_each(rt: &impl Abort, alloc: Global, rows: &[Row<'_>]) -> Result<(), Fail> {
     for settings in &EACH {
         answers_with(rt, alloc, *settings, rows)?;
@@ -144,7 +145,7 @@ fn a_key_is_written_in_chunks(rt: HostRuntime) -> Result<(), Fail> {
     answers(&rt, rt.alloc(), &mut store, &rows)
 }
 
-/// Drops the dead of all shelves.
+/// Drops the dead items of all shelves.
 fn purge_all(store: &mut Store<Fnv>, seconds: u64) {
     let now = Moment::from_seconds_at_most(seconds);
     for shelf in 0..64 {
@@ -154,7 +155,7 @@ fn purge_all(store: &mut Store<Fnv>, seconds: u64) {
 
 #[test]
 fn chunks_of_the_dead_come_back(rt: HostRuntime) -> Result<(), Fail> {
-    // After each row and a purge at its second, how many chunks of the least class are out.
+    // The chunks out of the smallest class, after each row and a purge at its second.
     let rows: [(Row<'_>, u32); 14] = [
         (set(1000, b"a", 0, b"1", "stored"), 1),
         (set(1000, b"b", 10, b"2", "stored"), 2),
@@ -183,7 +184,7 @@ fn chunks_of_the_dead_come_back(rt: HostRuntime) -> Result<(), Fail> {
     Ok(())
 }
 
-/// What a step at 1000 is told that isn't tried again.
+/// Returns the name of the result of a step at 1000 that isn't tried again.
 fn told_once(store: &mut Store<Fnv>, alloc: Global, key: u8, ask: Ask<'_>) -> &'static str {
     let key = [key];
     let step = step_of(&key, ask);
@@ -191,8 +192,9 @@ fn told_once(store: &mut Store<Fnv>, alloc: Global, key: u8, ask: Ask<'_>) -> &'
     told_of(&store.step(alloc, &step, now))
 }
 
-/// The one number that is left is drawn, and then each write is told that the numbers are spent, a
-/// new key's too and whatever memory there is. A step that draws none goes on.
+/// The one number left is used, and then each write gets the error that the numbers are used up.
+///
+/// A new key's write does too, whatever memory there is. A step that needs no number goes on.
 #[test]
 fn spent_numbers_are_told(rt: HostRuntime) -> Result<(), Fail> {
     let alloc = rt.alloc();
@@ -219,8 +221,9 @@ fn spent_numbers_are_told(rt: HostRuntime) -> Result<(), Fail> {
     answers(&rt, alloc, &mut store, &rows)
 }
 
-/// The one page goes to the class of the longer item. A write that finds no chunk is told so at
-/// once, a new key's too and whatever memory there is.
+/// The one page goes to the class of the longer item.
+///
+/// A write without a chunk gets that reply at once, a new key's too, whatever memory there is.
 #[test]
 fn a_chunk_that_is_not_left_is_told(rt: HostRuntime) -> Result<(), Fail> {
     let alloc = rt.alloc();
@@ -248,7 +251,7 @@ fn a_chunk_that_is_not_left_is_told(rt: HostRuntime) -> Result<(), Fail> {
     answers(&rt, alloc, &mut store, &rows)
 }
 
-// A page has one chunk that holds a charge of more than 493552 bytes, and here there is one page.
+// A page has one chunk for a charge above 493552 bytes, and this store has one page.
 
 #[test]
 fn a_chunk_that_comes_back_serves_another_shelf(rt: HostRuntime) -> Result<(), Fail> {
@@ -261,7 +264,7 @@ fn a_chunk_that_comes_back_serves_another_shelf(rt: HostRuntime) -> Result<(), F
         (1000, b"a", Ask::Delete, Want::Told("deleted")),
         set(1000, b"b", 10, large, "stored"),
         set(1010, b"a", 0, large, "no chunk"),
-        // A flush with a delay drops the dead of all shelves.
+        // A flush with a delay drops the dead items of all shelves.
         (1010, b"k", Ask::Flush(10), Want::Told("flushed")),
         set(1010, b"a", 0, large, "stored"),
         (1010, b"k", Ask::Flush(0), Want::Told("flushed")),
@@ -295,11 +298,12 @@ fn a_purge_drops_the_dead_of_one_shelf(rt: HostRuntime) -> Result<(), Fail> {
     answers(&rt, rt.alloc(), &mut store, &free)
 }
 
-/// From the soonest expiry on, or a flush, an item may be dead, and not before, until a purge has
-/// dropped those that are.
+/// From the soonest expiry or a flush on, an item may be dead, until a purge.
+///
+/// The purge drops those that are.
 #[test]
 fn shelves_tell_whether_one_may_be_dead(rt: HostRuntime) -> Result<(), Fail> {
-    // After each row, a second and whether an item may be dead then.
+    // A second after each row, and whether an item may be dead then.
     let rows: [(Row<'_>, u64, bool); 13] = [
         ((1000, b"a", Ask::Get, Want::Told("miss")), 9000, false),
         (set(1000, b"a", 0, b"x", "stored"), 9000, false),
@@ -367,7 +371,7 @@ fn a_store_of_parts_answers_as_before(rt: HostRuntime) -> Result<(), Fail> {
     answers(&rt, rt.alloc(), &mut store, &then)
 }
 
-/// The answer to what is asked of the key of one byte at 1000.
+/// Returns the reply to a step on the key of one byte at 1000.
 fn answered(store: &mut Store<Constant>, alloc: Global, key: u8, ask: Ask<'_>) -> &'static str {
     let key = [key];
     let step = step_of(&key, ask);
@@ -375,9 +379,10 @@ fn answered(store: &mut Store<Constant>, alloc: Global, key: u8, ask: Ask<'_>) -
     told_of(&ask_step(store, alloc, &step, now))
 }
 
-/// Keys of one hash, of which a table takes 32, and the others are strays. The table of 64 homes
-/// grows before the 34th comes, since there is a stray, and that of 128 before the 38th. Each has
-/// 32 entries then, of which 8 are moved after each key.
+/// Keys of one hash: a table takes 32, and the others are strays.
+///
+/// The table of 64 homes grows before the 34th comes, since there is a stray, and that of 128
+/// before the 38th. Each has 32 entries then, and 8 are moved after each key.
 #[test]
 fn entries_are_moved_while_a_table_grows(rt: HostRuntime) -> Result<(), Fail> {
     let alloc = rt.alloc();
@@ -399,9 +404,11 @@ fn entries_are_moved_while_a_table_grows(rt: HostRuntime) -> Result<(), Fail> {
     Ok(())
 }
 
-/// A step that is begun and then finished answers and leaves what it does whole: of a new key, of a live item that one of its
-/// class replaces and one of another, of a dead item in whose chunk one is written, of a join and of a number; and of large
-/// blocks, which are copied last.
+/// A step that is begun and then finished has the reply and the result of the whole step.
+///
+/// Steps: of a new key; of a live item that is replaced by one of its class, and by one of another;
+/// of a dead item whose chunk is reused; of a join and of a number; and of large blocks, which are
+/// copied last.
 #[test]
 fn a_step_in_two_parts_is_the_whole_step(rt: HostRuntime) -> Result<(), Fail> {
     let long = [b'x'; 62];

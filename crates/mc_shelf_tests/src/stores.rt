@@ -1,4 +1,4 @@
-//! Stores as tests set them up. One that is refused memory is asked for again.
+//! Stores for tests. Each allocates twice if memory is refused.
 
 ghost use Rattle.std.specs.Prelude.{◌≡◌, ◌≤◌, IfOk};
 ghost use Rattle.mc_protocol.specs.Plain.{opening};
@@ -7,7 +7,7 @@ use mc_hop::{Fnv, KeyHash};
 use mc_shelf::{Settings, Store};
 use std::alloc::{AllocError, Global};
 
-/// Makes a store of no items that is set up so.
+/// Returns an empty store with these settings.
 pub(crate) fn set_up<K: KeyHash + Drop + Copy>(
     alloc: Global,
     settings: Settings,
@@ -24,7 +24,7 @@ pub(crate) fn set_up<K: KeyHash + Drop + Copy>(
     }
 }
 
-/// Makes one of 64 shelves and that many pages, whose items take one page at most.
+/// Returns a store with 64 shelves and some pages, with items of at most one page.
 pub(crate) fn open_with<K: KeyHash + Drop + Copy>(
     alloc: Global,
     pages: u32,
@@ -40,7 +40,7 @@ pub(crate) fn open_with<K: KeyHash + Drop + Copy>(
     set_up(alloc, settings, hasher)
 }
 
-/// Makes the same, whose keys have the hashes of Fnv.
+/// Returns the same, with Fnv as the hash of keys.
 pub(crate) fn open(alloc: Global, pages: u32) -> Result<Store<Fnv>, AllocError>
     requires { (1 ≤ pages) × (pages ≤ 65536) }
 {

@@ -1,4 +1,8 @@
-//! Connections that were accepted, on their way to the workers.
+//! Accepted connections on their way to the workers.
+//!
+//! Connections are dealt to workers in turn. One that waited 10 ms for a busy worker (250 ms for a
+//! worker that was woken and doesn't run yet) is taken by another. An inbox has no limit of its
+//! own: `-c` bounds it.
 
 use crate::connection::Connection;
 use crossbeam_queue::SegQueue;
@@ -9,21 +13,25 @@ use std::sync::Wait;
 use std::sync::atomic::{AtomicBool, AtomicU32, AtomicU64, Ordering};
 use std::time::{Clock, Duration, Instant};
 
-/// How long a worker rests at most, in milliseconds: what is to be done once a second is done in time.
+/// The longest rest of a worker, in milliseconds, short enough for what is done once a second.
 const REST: u64 = 500;
 
-/// The same when the program is about to end.
+/// The longest rest while the program ends, in milliseconds.
 const SHORT_REST: u64 = 20;
 
-/// How long a connection waits for a worker that is busy until another takes it, in milliseconds.
+/// How long a connection waits for a busy worker before another takes it, in milliseconds.
 const PATIENCE: u64 = 10;
 
-/// The same when the worker was called and the system doesn't let it run: it will soon, and if
-/// others took its connections meanwhile, they would have more to do than it from then on.
+/// The same in milliseconds for a worker that was woken and that the system doesn't run yet.
+///
+/// It will run soon. If others took its connections meanwhile, they would have more to do than it
+/// from then on.
 const LONG_PATIENCE: u64 = 250;
 
-/// What becomes of connections that come: they are accepted; they are, and whoever accepts is asked to
-/// stop; no more are accepted, and those that are open may end by themselves; all end.
+/// The phases of the program: connections are accepted, and then less and less is done.
+///
+/// `OPEN`: they are accepted. `ASKED`: they are accepted, and the acceptors are asked to stop.
+/// `CLOSING`: no more are accepted, and open ones may end by themselves. `OVER`: all end.
 const OPEN: u32 = 0;
 
 const ASKED: u32 = 1;
@@ -31,25 +39,26 @@ const ASKED: u32 = 1;
 const CLOSING: u32 = 2;
 
 const OVER: u32 = 3;
-/// Likewise, as no more can be accepted.
+/// All end, because no more can be accepted.
 const FAILED: u32 = 4;
 
-/// The connections that were dealt to a worker and wait for it, and what calls it. There is no bound but
-/// that of the connections that may be open.
+/// The connections that were dealt to a worker and wait for it, and the worker's waker.
+///
+/// The only limit is that of open connections.
 #[derive(Drop)]
 pub struct Inbox {
     queue: SegQueue<Connection>,
-    /// How many have waited until now.
+    /// The number of connections dealt so far.
     dealt: AtomicU64,
-    /// How many of them were taken.
+    /// The number of these that were taken.
     taken: AtomicU64,
     waker: Waker,
-    /// Whether the worker rests, or is about to, or has still to begin.
+    /// Whether the worker rests, is about to rest, or hasn't begun.
     rests: AtomicBool,
 }
 
 impl Inbox {
-    /// Makes an empty one, of a worker that has still to begin. The one error is a refused allocation.
+    /// Makes an empty inbox of a worker that hasn't begun. The only error is a refused allocation.
     pub fn new(alloc: Global, waker: Waker) -> Result<Inbox, AllocError> {
         Ok(Inbox {
             queue: SegQueue::new(alloc)?,
@@ -60,26 +69,26 @@ impl Inbox {
         })
     }
 
-    /// Lets a connection wait. One for which there is no memory is closed.
+    /// Appends a connection; if memory is refused, it is closed.
     fn push<R: Wait>(&self, rt: &R, connection: Connection) {
         if self.queue.push(rt, connection).is_ok() {
             self.dealt.fetch_add(1, Ordering::SeqCst);
         }
     }
 
-    /// Gives the one that has waited longest.
+    /// Takes the connection that has waited longest.
     fn take<R: Wait>(&self, rt: &R) -> Option<Connection> {
         let connection = self.queue.pop(rt)?;
         self.taken.fetch_add(1, Ordering::SeqCst);
         Some(connection)
     }
 
-    /// Returns whether one of the first so many waits.
+    /// Returns whether one of the first `dealt` connections still waits.
     fn has_of(&self, dealt: u64) -> bool {
         self.taken.load(Ordering::SeqCst) < dealt
     }
 
-    /// Says after how many milliseconds others take what waits.
+    /// Returns after how many milliseconds other workers take a waiting connection.
     fn patience(&self) -> u64 {
         if self.rests.load(Ordering::SeqCst) {
             LONG_PATIENCE
@@ -88,12 +97,12 @@ impl Inbox {
         }
     }
 
-    /// Returns whether one waits.
+    /// Returns whether a connection waits.
     fn waits(&self) -> bool {
         self.has_of(self.dealt.load(Ordering::SeqCst))
     }
 
-    /// Calls the worker if it rests or is about to, and returns whether it does.
+    /// Wakes the worker if it rests or is about to, and returns whether it does.
     fn ring(&self) -> bool {
         let rests = self.rests.load(Ordering::SeqCst);
         if rests {
@@ -104,24 +113,26 @@ impl Inbox {
     }
 }
 
-/// Connections that wait for a worker. They are dealt to the workers turn about. A worker takes
-/// those that were dealt to it, and, if one has waited too long since the worker that it was dealt
-/// to is busy, that one too.
+/// Connections that wait for a worker, dealt to the workers in turn.
 ///
-/// No call is lost: a worker tells that it rests before it looks for the last time whether one waits,
-/// and the acceptor looks who rests after it let one wait. A worker that doesn't rest looks in each
-/// round.
+/// A worker takes the connections that were dealt to it, and also one that has waited too long for
+/// another worker, which is busy.
+///
+/// No wake-up is lost: a worker sets `rests` before it checks for the last time whether a
+/// connection waits, and the acceptor reads `rests` after it appended one. A worker that doesn't
+/// rest checks in each round.
 #[derive(Drop)]
 pub struct Arrivals {
     inboxes: Vec<Inbox>,
-    /// The sockets at which the program listens, as ones that can be shut down.
+    /// The listeners' sockets as streams, which can be shut down.
     sockets: Vec<TcpStream>,
     phase: AtomicU32,
 }
 
 impl Arrivals {
-    /// Takes the workers' inboxes, in the order of their numbers, and the sockets at which the program
-    /// listens.
+    /// Returns the arrivals of workers, in the order of their numbers, and of listeners.
+    ///
+    /// `sockets` are the listeners' sockets.
     pub fn new(inboxes: Vec<Inbox>, sockets: Vec<TcpStream>) -> Arrivals {
         Arrivals {
             inboxes,
@@ -130,8 +141,9 @@ impl Arrivals {
         }
     }
 
-    /// Deals a connection to the worker whose turn it is, calls that one, or another one that rests
-    /// if it doesn't, and says whose turn is next.
+    /// Deals a connection to the worker in turn, wakes a worker, and returns whose turn is next.
+    ///
+    /// It wakes that worker if it rests, and otherwise another one that rests.
     pub fn deal<R: Wait>(&self, rt: &R, connection: Connection, turn: usize) -> usize {
         let turn = if turn < self.inboxes.len() { turn } else { 0 };
         if let Some(inbox) = self.inboxes.get(turn) {
@@ -143,7 +155,7 @@ impl Arrivals {
         turn.saturating_add(1)
     }
 
-    /// Calls one of the workers that rest, if there is one.
+    /// Wakes one of the workers that rest, if there is one.
     fn call_another(&self) {
         for inbox in &self.inboxes {
             if inbox.ring() {
@@ -152,7 +164,7 @@ impl Arrivals {
         }
     }
 
-    /// Gives a connection that waits, if one was dealt to this worker, or has waited too long.
+    /// Takes a connection that was dealt to this worker, or that has waited too long for another.
     pub fn pop<R: Wait + Clock>(&self, rt: &R, share: &mut Share) -> Option<Connection> {
         let own = self.inboxes.get(share.worker)?;
         if own.waits() {
@@ -170,8 +182,9 @@ impl Arrivals {
         None
     }
 
-    /// Tells that a worker is about to rest, and says for how long it may: not at all if one waits
-    /// that was dealt to it, and shortly if others wait.
+    /// Notes that a worker is about to rest, and returns for how long it may.
+    ///
+    /// That is 0 if a connection waits for it, and short if connections wait for others.
     pub fn begin_rest<R: Clock>(&self, rt: &R, share: &mut Share) -> Duration {
         let Some(own) = self.inboxes.get(share.worker) else {
             return self.longest_rest();
@@ -189,19 +202,19 @@ impl Arrivals {
         self.longest_rest()
     }
 
-    /// Gives how long one who has nothing to do rests at most, until it looks whether the program ends.
+    /// Returns the longest rest, after which an idle thread checks whether the program ends.
     pub fn longest_rest(&self) -> Duration {
         Duration::from_millis(if self.is_closing() { SHORT_REST } else { REST })
     }
 
-    /// Tells that a worker rests no more.
+    /// Notes that a worker no longer rests.
     pub fn end_rest(&self, share: &Share) {
         if let Some(own) = self.inboxes.get(share.worker) {
             own.rests.store(false, Ordering::SeqCst);
         }
     }
 
-    /// Returns whether one that a worker saw waiting does so still.
+    /// Returns whether a connection that a worker saw waiting still waits.
     fn is_still_there(&self, seen: Option<Seen>) -> bool {
         match seen {
             Some(seen) => match self.inboxes.get(seen.worker) {
@@ -212,7 +225,7 @@ impl Arrivals {
         }
     }
 
-    /// Looks whether one waits for any worker.
+    /// Returns a connection that waits for any worker.
     fn seen_waiting<R: Clock>(&self, rt: &R) -> Option<Seen> {
         let mut worker = 0usize;
         for inbox in &self.inboxes {
@@ -230,15 +243,16 @@ impl Arrivals {
         None
     }
 
-    /// Asks whoever accepts to stop, and returns whether that is so. If nobody can be woken, all
-    /// stays as it was.
+    /// Asks the acceptors to stop, and returns whether it did. If none can be woken, nothing
+    /// changes.
     pub fn ask_to_close(&self) -> bool {
         self.turn(OPEN, ASKED);
         self.wake_acceptors() || !self.turn(ASKED, OPEN)
     }
 
-    /// Returns whether whoever accepts is asked to stop. The first who looks, as each does behind every
-    /// connection, tells that they do, and calls all workers.
+    /// Returns whether the acceptors are asked to stop; each calls it after every connection.
+    ///
+    /// The first call that returns true enters the closing phase, and wakes all workers.
     pub fn begins_to_close(&self) -> bool {
         if self.turn(ASKED, CLOSING) {
             self.call_all();
@@ -246,8 +260,7 @@ impl Arrivals {
         self.is_closing()
     }
 
-    /// Tells that no more connections come and that all that are open end, and calls all who accept and all
-    /// workers.
+    /// Ends all connections: no more are accepted. It wakes all acceptors and all workers.
     pub fn end(&self) {
         if !self.turn(CLOSING, OVER) {
             self.phase.store(FAILED, Ordering::SeqCst);
@@ -256,8 +269,8 @@ impl Arrivals {
         self.call_all();
     }
 
-    /// Ends the calls in which those wait who accept, and all that they would make. Returns whether
-    /// that could be done for one at least.
+    /// Ends the acceptors' waiting accepts, and all later ones. Returns whether one was ended at
+    /// least.
     fn wake_acceptors(&self) -> bool {
         let mut woken = false;
         for socket in &self.sockets {
@@ -266,7 +279,7 @@ impl Arrivals {
         woken
     }
 
-    /// Returns whether it is over since that was asked.
+    /// Returns whether all ended because that was asked for.
     pub fn is_over_as_asked(&self) -> bool {
         self.phase.load(Ordering::SeqCst) == OVER
     }
@@ -276,12 +289,12 @@ impl Arrivals {
         self.phase.load(Ordering::SeqCst) >= CLOSING
     }
 
-    /// Returns whether no more connections come, and all that are open end.
+    /// Returns whether no more connections are accepted, and all open ones end.
     pub fn is_over(&self) -> bool {
         self.phase.load(Ordering::SeqCst) >= OVER
     }
 
-    /// Goes from one phase to another, and returns whether it was in the one.
+    /// Changes the phase, and returns whether it was `from`.
     fn turn(&self, from: u32, to: u32) -> bool {
         let turned = self
             .phase
@@ -289,7 +302,7 @@ impl Arrivals {
         turned.is_ok()
     }
 
-    /// Calls all workers.
+    /// Wakes all workers.
     fn call_all(&self) {
         for inbox in &self.inboxes {
             let _ = inbox.waker.wake();
@@ -297,12 +310,12 @@ impl Arrivals {
     }
 }
 
-/// Which of the arrivals are a worker's.
+/// A worker's part of the arrivals.
 #[derive(Clone, Copy)]
 pub struct Share {
-    /// The worker's place among all.
+    /// The worker's index.
     worker: usize,
-    /// Which ones it saw waiting for another.
+    /// The connections that it saw waiting for another worker.
     seen: Option<Seen>,
 }
 
@@ -310,13 +323,13 @@ pub struct Share {
 #[derive(Clone, Copy)]
 struct Seen {
     worker: usize,
-    /// How many had been dealt to it until then.
+    /// How many were dealt to that worker until then.
     dealt: u64,
     since: Instant,
 }
 
 impl Seen {
-    /// Returns whether they were seen so many milliseconds ago.
+    /// Returns whether they were seen at least `patience` milliseconds ago.
     fn is_past<R: Clock>(&self, rt: &R, patience: u64) -> bool {
         match self.since.elapsed(rt) {
             Ok(time) => time >= Duration::from_millis(patience),
@@ -326,7 +339,7 @@ impl Seen {
 }
 
 impl Share {
-    /// Makes the share of the worker with this number, from 0 on.
+    /// Returns the part of the worker with this number, from 0.
     pub fn new(worker: u32) -> Share {
         Share {
             worker: worker as usize,

@@ -1,18 +1,24 @@
-//! Whose turn it is to be looked at, if connections may not be idle for ever.
+//! Which connections are checked for being idle.
+//!
+//! A connection is idle since a look at it and not since its event, so an event reads no clock.
+//! About once a second a worker looks at its places, a few at a time. An idle connection ends as if
+//! its client had closed it.
 
 use std::time::{Duration, Instant};
 
-/// How long it is at least from one look to the next, in milliseconds.
+/// The shortest time between two looks, in milliseconds.
 const BETWEEN: u64 = 125;
 
-/// In which time each place is looked at once, in milliseconds, if the worker isn't held up.
+/// The time in which each place is looked at once, in milliseconds, unless the worker is delayed.
 const ROUND: u64 = 1000;
 
-/// How many places one look takes at least, if there are as many.
+/// The fewest places of a look, if there are as many.
 const LEAST: usize = 256;
 
-/// How long a connection may be idle, and which places were looked at. What a look costs is for the time
-/// since the one before, so that a worker with many connections doesn't stay away from them for long.
+/// The idle timeout, and the places that were looked at.
+///
+/// A look takes as many places as the time since the last look is worth, so that a worker with many
+/// connections isn't away for long.
 #[derive(Clone, Copy)]
 pub struct Watch {
     limit: Duration,
@@ -23,7 +29,7 @@ pub struct Watch {
 }
 
 impl Watch {
-    /// Lets a connection be idle for so many seconds; with 0 for ever, for which none has to look.
+    /// Returns the watch of an idle timeout in seconds, or `None` for 0, which disables it.
     pub fn new(seconds: u32) -> Option<Watch> {
         if seconds == 0 {
             return None;
@@ -35,13 +41,14 @@ impl Watch {
         })
     }
 
-    /// Gives how long a connection may be idle.
+    /// Returns the idle timeout.
     pub fn limit(&self) -> Duration {
         self.limit
     }
 
-    /// Says how many of so many places are to be looked at, at this moment: none shortly after the
-    /// last look, and all if that was a second ago or more.
+    /// Returns how many of `places` are to be looked at now.
+    ///
+    /// None is shortly after the last look, and all are if that was at least a second ago.
     pub fn due(&mut self, places: usize, now: Instant) -> usize {
         let time = match self.looked {
             Some(looked) => now.duration_since(looked),
@@ -54,7 +61,7 @@ impl Watch {
         share(places, time).max(LEAST).min(places)
     }
 
-    /// Gives the place whose turn it is, of so many.
+    /// Returns the next of `places` in turn.
     pub fn turn(&mut self, places: usize) -> usize {
         let at = if self.at < places { self.at } else { 0 };
         self.at = at.saturating_add(1);
@@ -62,7 +69,7 @@ impl Watch {
     }
 }
 
-/// Gives how many of so many places a time stands for.
+/// Returns the share of `places` for a time.
 fn share(places: usize, time: Duration) -> usize {
     if time >= Duration::from_millis(ROUND) {
         return places;

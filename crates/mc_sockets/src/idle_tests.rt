@@ -4,7 +4,7 @@ use crate::idle::Watch;
 use std::test::Fail;
 use std::time::{Duration, Instant};
 
-/// Milliseconds after the start, how many places there are then, and how many are due.
+/// Milliseconds after the start, the number of places then, and how many are due.
 const LOOKS: [(u64, usize, usize); 9] = [
     (0, 1000, 1000),
     (124, 1000, 0),

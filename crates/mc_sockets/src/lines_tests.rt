@@ -1,16 +1,16 @@
-//! Which lines wait, and how many are told to be dropped.
+//! Which lines wait, and how many are counted as dropped.
 
 use crate::connection::Parting;
 use crate::lines::{Line, Lines, Waiting};
 use std::test::*;
 
-/// Lets a line of the connection with this number wait.
+/// Appends a line of the connection with this number.
 fn push(lines: &Lines, number: u64) {
     let parting = Parting::Ended;
     lines.push(Line::Closed { number, parting });
 }
 
-/// Gives the connection of a line, and how many were dropped before it.
+/// Returns the connection of a line, and how many lines were dropped before it.
 fn told(waiting: Option<Waiting>) -> Option<(u64, u64)> {
     let Waiting { line, dropped } = waiting?;
     match line {

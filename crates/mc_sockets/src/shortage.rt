@@ -1,24 +1,24 @@
-//! Stores that are refused as no chunk is left, of which one line a minute tells.
+//! The full notice: one line a minute while steps are refused for want of a chunk.
 
 use crate::log::Log;
 use mc_guests::{Outcome, Tally};
 use mc_protocol::{KeyStep, Verb};
 use std::sync::atomic::{AtomicU64, Ordering};
 
-/// How many bytes an item takes beside its key and its block.
+/// Bytes that an item takes beside its key and its block.
 const HEAD: u64 = 48;
 
-/// What a step wanted that was refused.
+/// What a refused step needed.
 #[derive(Clone, Copy, Debug, PartialEq, Eq)]
 pub enum Wanted {
-    /// A chunk for an item of so many bytes.
+    /// A chunk for an item of this many bytes.
     Size(u64),
-    /// A chunk for an item that grows. The step alone doesn't tell how large it would have been.
+    /// A chunk for an item that grows. The step alone doesn't have the item's size.
     Growth,
 }
 
 impl Wanted {
-    /// Gives what the step wanted.
+    /// Returns what the step needed.
     fn of(step: &KeyStep<'_>) -> Wanted {
         match step {
             KeyStep::Store {
@@ -36,7 +36,7 @@ impl Wanted {
         }
     }
 
-    /// Gives the word that stands for it, which is 2 or more.
+    /// Returns the word that encodes it, which is 2 or more.
     fn word(self) -> u64 {
         match self {
             Wanted::Size(size) => size.max(HEAD),
@@ -45,29 +45,31 @@ impl Wanted {
     }
 }
 
-/// The words for: nothing was refused since it may be told again; what was refused was told; an item that
-/// grows was refused. A greater one is the size of what was.
+/// The words for: nothing was refused since the last report; what was refused is reported; an item
+/// that grows was refused.
+///
+/// A greater word is the size of a refused item.
 const NOTHING: u64 = 0;
 
 const TOLD: u64 = 1;
 
 const GROWTH: u64 = 2;
 
-/// What was refused first since it may be told again. All others cost a load.
+/// The first refusal since the last report. Each later one costs a load.
 #[derive(Drop)]
 pub struct Shortage {
     word: AtomicU64,
 }
 
 impl Shortage {
-    /// Begins where nothing was refused.
+    /// Returns the state without a refusal.
     pub fn new() -> Shortage {
         Shortage {
             word: AtomicU64::new(NOTHING),
         }
     }
 
-    /// Notes a step that was refused, and returns whether it is to be told of.
+    /// Notes a refused step, and returns whether it is to be reported.
     pub fn note(&self, step: &KeyStep<'_>) -> bool {
         if self.word.load(Ordering::SeqCst) != NOTHING {
             return false;
@@ -78,7 +80,7 @@ impl Shortage {
             .is_ok()
     }
 
-    /// Gives what is to be told of, which counts as told from then on.
+    /// Takes the unreported refusal, if any.
     pub fn take(&self) -> Option<Wanted> {
         let wanted = match self.word.load(Ordering::SeqCst) {
             NOTHING | TOLD => return None,
@@ -89,20 +91,20 @@ impl Shortage {
         Some(wanted)
     }
 
-    /// Lets the next step that is refused be told of.
+    /// Lets the next refused step be reported.
     pub fn reopen(&self) {
         self.word.store(NOTHING, Ordering::SeqCst);
     }
 }
 
-/// Hears of the steps of a worker, and calls the logger at the first that is refused as no chunk is left.
+/// A tally that wakes the logger at the first step that is refused for want of a chunk.
 #[derive(Clone, Copy)]
 pub struct Refusals<'a> {
     log: &'a Log,
 }
 
 impl<'a> Refusals<'a> {
-    /// Tells this log.
+    /// Returns a tally that reports to this log.
     pub fn new(log: &'a Log) -> Refusals<'a> {
         Refusals { log }
     }

@@ -1,12 +1,14 @@
-//! What links leave behind.
+//! Connections whose sessions ended before their output was sent.
+//!
+//! Output left when a session ends stays with its worker until the system takes it, in a map by
+//! place: `quit` behind many answers loses none.
 
 use crate::channel::Channel;
 use mc_guests::Gathering;
 use std::alloc::Global;
 use std::collections::BTreeMap;
 
-/// The places of links that are gone, and, under their places, the connections whose sessions have ended
-/// before all of their output was sent.
+/// The free places of links, and the connections with output left, by place.
 #[derive(Drop)]
 pub struct Yard {
     free: Vec<usize>,
@@ -22,13 +24,15 @@ impl Yard {
         }
     }
 
-    /// Gives a place that is free.
+    /// Returns a free place.
     pub fn free_place(&mut self) -> Option<usize> {
         self.free.pop()
     }
 
-    /// Takes what is gathered for the channel of a link that is gone, and closes it if there is
-    /// nothing more to do, or no memory. Without memory the place may not be used again.
+    /// Takes in the gathered output of a link that is dropped.
+    ///
+    /// It closes the channel if there is nothing left to do, or if memory is refused; the place may
+    /// then stay unused.
     pub fn take_in(&mut self, place: usize, gathering: Gathering<Channel>) {
         if is_done(&gathering) {
             drop(gathering);
@@ -41,8 +45,9 @@ impl Yard {
         }
     }
 
-    /// Sends what the link at this place has left, if there may be room, and closes the connection
-    /// if all was sent, nothing is read any more, or it is to end.
+    /// Sends what the link at this place has left, if there may be room.
+    ///
+    /// It closes the connection if all was sent, nothing is read any more, or it is to end.
     pub fn send_rest(&mut self, place: usize) {
         if self.is_done_sending(place) {
             let _ = self.leaving.remove(&place);
@@ -50,8 +55,9 @@ impl Yard {
         }
     }
 
-    /// Sends what is left of one, and returns whether that was all that there is to do: not if none
-    /// is leaving at this place.
+    /// Sends what is left of one connection, and returns whether that was all.
+    ///
+    /// It returns false if none is left at this place.
     fn is_done_sending(&mut self, place: usize) -> bool {
         let Some(gathering) = self.leaving.get_mut(&place) else {
             return false;
@@ -61,7 +67,7 @@ impl Yard {
     }
 }
 
-/// Returns whether there is nothing more to do: all was sent, or the channel failed or is to end.
+/// Returns whether nothing is left to do: all was sent, or the channel failed or is to end.
 fn is_done(gathering: &Gathering<Channel>) -> bool {
     gathering.is_empty() || gathering.link().is_over()
 }

@@ -4,9 +4,10 @@ ghost use Rattle.mc_time.specs.declared.steady.Reading.{Reading};
 ghost use Rattle.mc_time.specs.declared.steady.ClockState.{ClockState};
 ghost use Rattle.mc_time.specs.Readings.{NeverFall, lead_of, moment_by, moments_given, state_after};
 
-/// States that a clock's moments don't fall, whatever the system's clocks read. Where the system's
-/// clock is set back, the moment is at least the monotonic clock's with the lead that was read
-/// before; and a step forward of the system's clock is taken.
+/// States that a clock's moments never decrease, whatever the system's clocks read.
+///
+/// If the system's clock is set back, the moment is at least the monotonic clock's with the lead
+/// that was read before. If it is set forward, the moment follows.
 pub fn clock_never_goes_back()
     ensures never_fall { (state : ClockState) (readings : List Reading) →
         NeverFall state.latest (moments_given state readings) }

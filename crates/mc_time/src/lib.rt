@@ -15,10 +15,10 @@
 //! step forward at once.
 //!
 //! Contracts see a moment as its number, and a clock as the set of moments that it may return: for
-//! [`Fixed`] its own alone, for the system's any. A [`ClockState`] is what a [`SteadyClock`] keeps,
-//! and the law [`clock_never_goes_back`] says of each list of readings that its moments don't fall.
-//! Threads share the state in atomics, whose values no contract knows: each call returns at least
-//! the moment that it found there.
+//! [`Fixed`] its own alone, for the system's any. A [`ClockState`] is the state of a
+//! [`SteadyClock`], and by the law [`clock_never_goes_back`] the moments for a list of readings
+//! never decrease. Threads share the state in atomics, whose values no contract knows: each call
+//! returns at least the moment that it found there.
 //!
 //! Begin with `src/expiry.rt` and `specs/Death.antt`, then `src/steady.rt`.
 //!

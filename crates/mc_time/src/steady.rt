@@ -1,4 +1,4 @@
-//! A clock that goes on where the system's is set back.
+//! A clock that goes on with the monotonic clock while the system's is set back.
 ghost use Rattle.std.specs.Prelude.{◌≡◌, ◌≤◌, max};
 ghost use Rattle.mc_time.specs.Readings.{moment_by};
 
@@ -7,36 +7,36 @@ use crate::moment::Moment;
 use std::sync::atomic::{AtomicU64, Ordering};
 use std::time::{self, Duration, Instant};
 
-/// What the system's two clocks read at one time.
+/// One reading of the system's two clocks.
 #[derive(Clone, Copy)]
 pub struct Reading {
     /// The system's clock in Unix seconds: 0 before 1970 and if it can't be read.
     pub system: Moment,
     /// The same in milliseconds.
     pub system_millis: u64,
-    /// The monotonic clock in milliseconds since its own start: 0 if it can't be read.
+    /// The monotonic clock in milliseconds since its own start, or 0 if it can't be read.
     pub monotonic_millis: u64,
 }
 
-/// What a clock keeps from one reading to the next.
+/// The state of a clock from one reading to the next.
 #[derive(Clone, Copy)]
 pub struct ClockState {
-    /// The latest moment that it gave.
+    /// The latest moment that it returned.
     pub latest: Moment,
-    /// The greatest lead of the system's clock over the monotonic one that was read, in milliseconds
-    /// and 2^62 more; 0 before the first reading.
+    /// The greatest lead read of the system's clock over the monotonic one, or 0 before a reading.
+    ///
+    /// It is in milliseconds, plus 2^62.
     pub lead: u64,
 }
 
-/// What is added to each lead, so that a system's clock that is behind the monotonic one has a lead
-/// too.
+/// The offset of each lead, so that a system's clock behind the monotonic one has a lead too.
 const NO_LEAD: u64 = 1 << 62;
 
 impl Reading {
     ghost use Rattle.std.specs.Prelude.{◌≡◌};
     ghost use Rattle.mc_time.specs.Readings.{lead_of};
 
-    /// Returns by how many milliseconds and 2^62 the system's clock is ahead of the monotonic one.
+    /// Returns the system clock's lead over the monotonic one, in milliseconds plus 2^62.
     fn lead(&self) -> u64
         ensures { result ≡ lead_of self.now }
     {
@@ -50,8 +50,10 @@ impl ClockState {
     ghost use Rattle.std.specs.Prelude.{◌≡◌};
     ghost use Rattle.mc_time.specs.Readings.{state_after};
 
-    /// Returns the state after a reading. Its moment is the latest of three: the moment before, the
-    /// system's, and the monotonic clock's with the greatest lead.
+    /// Returns the state after a reading.
+    ///
+    /// Its moment is the latest of three: the moment before, the system's, and the monotonic
+    /// clock's with the greatest lead.
     pub fn after(self, reading: Reading) -> ClockState
         ensures { result ≡ state_after self reading }
     {
@@ -77,7 +79,7 @@ fn later(first: Moment, second: Moment) -> Moment
     }
 }
 
-/// Returns the moment of a monotonic clock with a lead, and the first moment if there was none.
+/// Returns the moment of a monotonic clock with a lead; without a lead, that of 0 seconds.
 fn moment_by(monotonic_millis: u64, lead: u64) -> Moment
     ensures { result ≡ moment_by monotonic_millis lead }
 {
@@ -87,19 +89,21 @@ fn moment_by(monotonic_millis: u64, lead: u64) -> Moment
     Moment::from_seconds_at_most(millis / 1000)
 }
 
-/// The system's clock in Unix seconds, for all threads, whose moments don't fall. While the
-/// system's clock is behind what was given, it goes on with the monotonic clock.
+/// The system's clock in Unix seconds, for all threads; its moments never decrease.
+///
+/// While the system's clock is behind a moment that was returned, it goes on with the monotonic
+/// clock.
 #[derive(Drop)]
 pub struct SteadyClock<R: time::Clock + Drop> {
     rt: R,
-    /// Where the monotonic clock stood at first, if it can be read.
+    /// The first reading of the monotonic clock, if it can be read.
     started: Option<Instant>,
     latest: AtomicU64,
     lead: AtomicU64,
 }
 
 impl<R: time::Clock + Drop> SteadyClock<R> {
-    /// Makes the clock of a runtime.
+    /// Returns the clock of a runtime.
     pub fn new(rt: R) -> SteadyClock<R> {
         let started = Instant::now(&rt).ok();
         SteadyClock {
@@ -114,7 +118,7 @@ impl<R: time::Clock + Drop> SteadyClock<R> {
 impl<R: time::Clock + Drop> Clock for SteadyClock<R> {
     ghost use Rattle.std.specs.Prelude.{◌≤◌, ◌^◌};
 
-    // What the system gives is known to nobody beforehand.
+    // Contracts promise nothing more of the system's time.
     ghost may_give = { λ clock now. now ≤ 2 ^ 62 };
 
     fn now(&self) -> Moment {
@@ -130,15 +134,16 @@ impl<R: time::Clock + Drop> Clock for SteadyClock<R> {
     }
 }
 
-/// Raises the word to a lead, if that is greater than the one that was read there.
+/// Raises the word to a lead, if that is above the lead `before` that was read there.
 fn raise_lead(word: &AtomicU64, before: u64, lead: u64) {
     if before < lead {
         word.fetch_max(lead, Ordering::SeqCst);
     }
 }
 
-/// Returns the later of `moment` and the moment in the word, which the word then has. The word had
-/// `before`, and never falls.
+/// Returns the later of `moment` and the moment in the word, and stores it there.
+///
+/// The word had `before`, and never decreases.
 fn raised(word: &AtomicU64, before: Moment, moment: Moment) -> Moment
     ensures { moment ≤ result }
 {
@@ -150,8 +155,9 @@ fn raised(word: &AtomicU64, before: Moment, moment: Moment) -> Moment
     Moment::from_seconds_at_most(found.max(seconds))
 }
 
-/// Reads the system's clock and then the monotonic one: a pause between the two makes the lead
-/// smaller, and never greater.
+/// Reads the system's clock and then the monotonic one.
+///
+/// A pause between the two makes the lead smaller, never greater.
 fn read_clocks(rt: &impl time::Clock, started: Option<Instant>) -> Reading {
     let system = unix_time(rt);
     Reading {
@@ -161,7 +167,7 @@ fn read_clocks(rt: &impl time::Clock, started: Option<Instant>) -> Reading {
     }
 }
 
-/// Returns the time since an instant, 0 if the clock can't be read.
+/// Returns the time since an instant, or 0 if the clock can't be read.
 fn time_since(rt: &impl time::Clock, started: Option<Instant>) -> Duration {
     let Some(started) = started else {
         return Duration::ZERO;

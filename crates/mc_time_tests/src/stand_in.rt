@@ -6,7 +6,7 @@ use std::io::{self, ErrorKind};
 use std::sync::atomic::{AtomicU64, Ordering};
 use std::time::{Clock, Duration};
 
-/// What a clock reads that can't be read.
+/// The reading of a clock that can't be read.
 pub(crate) const UNREADABLE: u64 = u64::MAX;
 
 /// The system's two clocks, as a test sets them, in milliseconds.
@@ -17,7 +17,7 @@ pub(crate) struct StandIn {
 }
 
 impl StandIn {
-    /// Makes clocks that read 0.
+    /// Returns clocks that read 0.
     pub(crate) fn new() -> StandIn {
         StandIn {
             system: AtomicU64::new(0),

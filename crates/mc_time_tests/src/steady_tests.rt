@@ -1,4 +1,4 @@
-//! The moments of a steady clock, by what the system's clocks read.
+//! The moments of a steady clock, given the readings of the system's clocks.
 
 use crate::stand_in::{StandIn, UNREADABLE};
 use mc_time::{Clock, SteadyClock};
@@ -10,10 +10,12 @@ use std::thread;
 /// An hour in milliseconds.
 const HOUR: u64 = 3_600_000;
 
-/// What the system's clock and the monotonic one read, in milliseconds, and the moment that is wanted.
+/// The readings of both clocks, in milliseconds, and the expected moment.
+///
+/// The system's clock comes first, then the monotonic one.
 type Row = (u64, u64, u64);
 
-/// Asserts the moments of a clock that is made at the first row's readings.
+/// Checks the moments of a clock that is made at the first row's readings.
 fn gives(rt: &impl Abort, rows: &[Row]) {
     let system = StandIn::new();
     if let Some(first) = rows.first() {
@@ -37,7 +39,7 @@ fn goes_with_the_systems_clock(rt: HostRuntime) {
             (65_000, 60_000, 65),
         ],
     );
-    // the machine runs for longer than the system's clock reads, as one without a battery
+    // the machine has run for longer than the system's clock reads, as one without a battery
     gives(&rt, &[(5_000, HOUR, 5), (6_000, HOUR + 1_000, 6)]);
 }
 
@@ -88,7 +90,7 @@ fn stands_where_no_clock_can_be_read(rt: HostRuntime) {
             (8_000, UNREADABLE, 8),
         ],
     );
-    // a monotonic clock that falls, which no system has
+    // a monotonic clock that decreases, which no system has
     gives(
         &rt,
         &[
@@ -100,11 +102,10 @@ fn stands_where_no_clock_can_be_read(rt: HostRuntime) {
     );
 }
 
-/// How often each thread asks for the moment.
+/// The number of moments that each thread reads.
 const TIMES: u64 = 2_000;
 
-/// Counts how often a moment is before the one that was given last, while the system's clock goes back and
-/// forward.
+/// Returns how often a moment is before the last one, while the system's clock jumps.
 fn falls(system: &StandIn, clock: &SteadyClock<&StandIn>, rounds: &AtomicU64) -> u64 {
     let mut fallen = 0u64;
     let mut before = 0u64;

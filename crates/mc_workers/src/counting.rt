@@ -1,4 +1,7 @@
-//! Steps of which a tally hears.
+//! A store that reports its steps to a tally.
+//!
+//! `Counting` is a store around another. Contracts see the inner one, so a worker's promises don't
+//! change. A tally gets each step and its outcome, not its block.
 
 ghost use Rattle.std.specs.Prelude.{◌≡◌, ◌%◌};
 ghost use Rattle.mc_workers.specs.Tending.{tidied_at_once, Tidied};
@@ -14,7 +17,7 @@ use std::cell::Cell;
 use std::marker::Model;
 use std::sync::Wait;
 
-/// A store that takes steps, with a tally that hears of each which was taken. Contracts see the store.
+/// A store that reports each step that was taken to a tally. Contracts see the inner store.
 #[derive(Drop)]
 pub struct Counting<'a, S: Steps + Drop, T: Tally> {
     steps: S,
@@ -30,14 +33,14 @@ impl<'a, S: Steps + Drop, T: Tally> Model for Counting<'a, S, T> {
 }
 
 impl<'a, S: Steps + Drop, T: Tally> Counting<'a, S, T> {
-    /// Has the tally hear of the steps that the store takes from now on.
+    /// Returns a store that reports the steps of `steps` to the tally.
     pub fn new(steps: S, tally: &'a T) -> Counting<'a, S, T>
         ensures { result ≡ steps }
     {
         Counting { steps, tally }
     }
 
-    /// Gives the store back.
+    /// Returns the inner store.
     pub fn into_steps(self) -> S
         ensures { result ≡ self.entry }
     {
@@ -45,14 +48,14 @@ impl<'a, S: Steps + Drop, T: Tally> Counting<'a, S, T> {
         steps
     }
 
-    /// Has the tally hear of a step, if it was taken.
+    /// Reports a step to the tally, if it was taken.
     fn count(&self, step: &KeyStep<'_>, answer: &Result<Reply, StepFault>) {
         if let Ok(reply) = answer {
             self.tally.took(step, Outcome::of(reply));
         }
     }
 
-    /// Has the tally hear of a step whose reply was to be told, if it was taken.
+    /// Reports a step whose reply goes to an `Answer` to the tally, if it was taken.
     fn count_told(
         &self,
         step: &KeyStep<'_>,
@@ -66,7 +69,8 @@ impl<'a, S: Steps + Drop, T: Tally> Counting<'a, S, T> {
 }
 
 impl<'a, 'b, R: Wait, K: KeyHash + Drop, G: Gate, T: Tally> Counting<'a, Tending<'b, R, K, G>, T> {
-    /// Drops the dead items of the next shelves in turn, as `Tending::tidy` does. The tally doesn't hear of it.
+    /// Drops the dead items of the next shelves in turn, as `Tending::tidy` does. It isn't
+    /// reported.
     pub fn tidy(&mut self, turn: u32, now: Moment) -> u32
         ensures { Tidied K.hash_of now (tidied_at_once self.old.began.settings.shelves)
             (turn % self.old.began.settings.shelves) result self.old self.new }
@@ -108,7 +112,7 @@ impl<'a, S: Steps + Drop, T: Tally> Steps for Counting<'a, S, T> {
     }
 }
 
-/// Notes how the step comes out that an answer is to be told, and hands on what it is told.
+/// Passes a reply on to an `Answer`, and notes the step's outcome.
 #[derive(Drop)]
 struct Noting<'a, A: Answer> {
     answer: &'a mut A,

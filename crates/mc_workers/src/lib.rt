@@ -1,19 +1,21 @@
 //! Worker loops over links.
 //!
-//! A server has thousands of connections and a few threads. Each thread is a worker: it goes round
-//! its connections and does for each the one thing that is due. What a visit of one does, and who is
-//! visited in a round, is `mc_guests`'. Here is the loop, over the store that threads share.
+//! A server has thousands of connections and a few threads. Each thread is a worker: it visits its
+//! connections in rounds, and does what is due for each. What a visit does, and which connections a
+//! round visits, is in `mc_guests`. This crate has the loop over the store that threads share.
 //!
-//! A [`Worker`] makes rounds of its guests for as long as links come: it takes their steps as one
-//! caller of the store, lets the step's shelf grow a little behind each, tidies shelves in turn when
-//! the clock has risen, opens the door for those that come, keeps guests waiting that want much
-//! memory when others hold it, and lets a tally hear of each step. The last is [`Counting`], over
-//! any store that takes steps.
+//! A [`Worker`] makes rounds of its guests as long as there are links. It takes their steps as one
+//! caller of the store, and after each step lets the step's shelf grow a little. When the clock has
+//! risen it tidies the next shelves. It admits new links. Guests that want much memory wait while
+//! others hold it. A tally counts each step by [`Counting`], over any store that takes steps.
 //!
-//! A worker gives its caller back under further calls alone, and contracts tell its rounds one by
-//! one: who was visited, which shelves were tidied, who went.
+//! A worker returns its caller with further calls in its past and nothing else. Contracts describe
+//! its rounds one by one: which guests were visited, which shelves were tidied, and which guests
+//! ended.
 //!
 //! Begin with `specs/Rounds.antt` and `src/worker.rt`.
+//!
+//! Tests: mc_workers_tests, src/worker_tests.rt.
 #![tactic(auto)]
 
 mod counting;

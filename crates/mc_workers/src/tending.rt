@@ -1,4 +1,4 @@
-//! Steps with the growth that follows them.
+//! Steps, each followed by some growth.
 ghost use Rattle.std.specs.Prelude.{◌≡◌, ◌<◌, ◌≤◌, ◌%◌, length, Err, IfOk, OnErr};
 ghost use Rattle.mc_protocol.specs.Commands.{key_of};
 ghost use Rattle.mc_shared.specs.Asking.{AsksOnce, AsksStep, AsksInVain};
@@ -14,18 +14,19 @@ use std::alloc::Global;
 use std::marker::Model;
 use std::sync::Wait;
 
-/// How many entries of a shelf's index move after a step on a key of it.
+/// The number of index entries of a shelf that move after a step on it.
 const MOVED: usize = 8;
 
-/// In how many tidyings each shelf has its turn, at most.
+/// The most tidyings until each shelf had its turn.
 const TIDYINGS: u32 = 64;
 
-/// A caller whose steps are each followed by some growth of the key's shelf, and who tidies shelves
-/// in turn. Contracts see what they see of the caller.
+/// A caller whose steps are each followed by some growth of the key's shelf.
+///
+/// It also tidies shelves in turn. Contracts see what they see of the caller.
 #[derive(Drop)]
 pub struct Tending<'a, R: Wait, K: KeyHash + Drop, G: Gate> {
     asking: Asking<'a, R, K, G>,
-    /// How many shelves the store has.
+    /// The number of the store's shelves.
     shelves: u32,
 }
 
@@ -59,7 +60,7 @@ impl<'a, R: Wait, K: KeyHash + Drop, G: Gate> Tending<'a, R, K, G> {
         }
     }
 
-    /// Gives the caller back, whose past a legal history keeps.
+    /// Returns the caller; a legal history keeps its past.
     pub fn into_caller(self) -> Caller
         ensures same { (result.table ≡ self.entry.table) × (result.past ≡ self.entry.past) }
         ensures kept { Agrees (start_of K.hash_of self.entry.began) result.past }
@@ -69,8 +70,9 @@ impl<'a, R: Wait, K: KeyHash + Drop, G: Gate> Tending<'a, R, K, G> {
         asking.into_caller()
     }
 
-    /// Drops the dead items of the shelf whose turn it is, modulo their number; of more than 64 shelves those of
-    /// so many in turn that 64 calls come to all. Returns the shelf whose turn is next.
+    /// Drops the dead items of shelf `turn`, modulo their number, and returns the next turn.
+    ///
+    /// With more than 64 shelves it takes several in turn, so that 64 calls reach all shelves.
     pub fn tidy(&mut self, turn: u32, now: Moment) -> u32
         ensures { Tidied K.hash_of now (tidied_at_once self.old.began.settings.shelves)
             (turn % self.old.began.settings.shelves) result self.old self.new }
@@ -82,14 +84,14 @@ impl<'a, R: Wait, K: KeyHash + Drop, G: Gate> Tending<'a, R, K, G> {
         shelf
     }
 
-    /// Tells how many shelves are tidied at once.
+    /// Returns how many shelves one call of `tidy` takes.
     fn at_once(&self) -> u32
         ensures { result ≡ tidied_at_once self.now.began.settings.shelves }
     {
         self.asking.shelves().div_ceil(TIDYINGS)
     }
 
-    /// Drops the dead items of a shelf, and returns the one whose turn is next.
+    /// Drops the dead items of a shelf, and returns the next in turn.
     fn tidy_one(&mut self, shelf: u32, now: Moment) -> u32
         requires { shelf < self.old.began.settings.shelves }
         ensures next { result ≡ in_turn self.old.began.settings.shelves shelf }
@@ -101,8 +103,9 @@ impl<'a, R: Wait, K: KeyHash + Drop, G: Gate> Tending<'a, R, K, G> {
         next_in_turn(shelf, self.shelves)
     }
 
-    /// Moves some entries of the last step's shelf, if some are left to move. A flush is on no
-    /// shelf.
+    /// Moves some entries of the last step's shelf, if any are left to move.
+    ///
+    /// A flush has no shelf.
     fn grow_after(&mut self)
         ensures { self.new ≡ self.old }
     {
@@ -110,7 +113,7 @@ impl<'a, R: Wait, K: KeyHash + Drop, G: Gate> Tending<'a, R, K, G> {
     }
 }
 
-/// Tells which shelf's turn is next: the first one's behind the last.
+/// Returns the next shelf in turn; after the last comes the first.
 fn next_in_turn(shelf: u32, shelves: u32) -> u32
     requires { shelf < shelves }
     ensures next { result ≡ in_turn shelves shelf }

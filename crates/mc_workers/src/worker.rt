@@ -1,4 +1,8 @@
 //! A worker's loop.
+//!
+//! Each shelf is tidied once in 64 clock ticks, at any number of shelves, and before the visits of
+//! a round: all workers' clocks rise together, so tidying after visits made three workers wait for
+//! each other.
 ghost use Rattle.std.specs.Prelude.{◌≡◌};
 ghost use Rattle.mc_shared.specs.Asking.{GoesFurther, Further};
 ghost use Rattle.mc_shared.specs.History.{start_of};
@@ -14,34 +18,35 @@ use mc_time::{Clock, Moment};
 use std::alloc::Global;
 use std::sync::Wait;
 
-/// How a worker works beside serving: what it calls, what hears of it, by which clock it goes, and where
-/// it begins to tidy.
+/// The settings of a worker's loop.
 #[derive(Drop)]
 pub struct Worker<'a, G: Gate, T: Tally, C: Clock> {
     /// Called once in each step, while the step's shelf is held.
     pub gate: &'a G,
-    /// Hears of each step that was taken, and of how it came out.
+    /// Gets each step that was taken, and its outcome.
     pub tally: &'a T,
     pub clock: &'a C,
-    /// The shelf that is tidied first, modulo their number: workers that begin apart don't meet.
+    /// The shelf that is tidied first, modulo their number. Workers that start apart don't meet.
     pub first: u32,
-    /// How many bytes its guests are meant to hold of what they were sent and what they are to be told. Beyond
-    /// that one waits who wants more than 131072, until others hold less; and whoever holds most, and whose link
-    /// was quiet for 5 seconds, makes room for those who wait.
+    /// Bytes of input and output that its guests may hold.
+    ///
+    /// Above it, a guest that needs more than 131072 bytes waits. The guest that holds most and was
+    /// idle for 5 seconds is closed to make room for those that wait.
     pub share: usize,
 }
 
 impl<'a, G: Gate, T: Tally, C: Clock> Worker<'a, G, T, C> {
-    /// Serves links until none comes any more and all sessions have ended: makes rounds of the
-    /// guests that are awake, and after each asks for the next link until none comes, or 32 came. A
-    /// step is followed by the growth of its key's shelf by 8 entries; when the clock has risen, a
-    /// round begins by dropping the dead items of the next shelf in turn, and of more than 64 shelves
-    /// those of so many that 64 risings come to all. The clock is asked once a round, for all of its
-    /// visits.
+    /// Serves links until no link comes any more and all sessions have ended.
     ///
-    /// The caller comes back under further calls alone, each at a moment that the clock may give, and
-    /// there is a legal history that keeps its past. A fault of one link, and one session's want of
-    /// memory, end that session alone.
+    /// It makes rounds of the guests that are awake. After each round it admits up to 32 new links.
+    /// Each step is followed by the growth of its key's shelf by 8 entries. When the clock has
+    /// risen, a round begins by dropping the dead items of the next shelf in turn; with more than
+    /// 64 shelves it takes several, so that 64 risings reach all shelves. The clock is read once a
+    /// round, for all of its visits.
+    ///
+    /// The caller is returned with further calls in its past and nothing else, each at a moment
+    /// that the clock may give; there is a legal history that keeps this past. A fault of one link,
+    /// or one session's want of memory, ends only that session.
     pub fn work<R: Wait, K: KeyHash + Drop, L: Link + Drop, Q: Links<L>>(
         &self,
         rt: &R,
@@ -82,7 +87,7 @@ impl<'a, G: Gate, T: Tally, C: Clock> Worker<'a, G, T, C> {
     }
 }
 
-/// Serves links as a `Worker` does, of whose steps nobody hears, and who tidies the first shelf first.
+/// Serves links as a `Worker` does, without a tally, and tidies the first shelf first.
 pub fn work<R: Wait, K: KeyHash + Drop, L: Link + Drop, Q: Links<L>, G: Gate, C: Clock>(
     rt: &R,
     alloc: Global,
@@ -108,11 +113,12 @@ pub fn work<R: Wait, K: KeyHash + Drop, L: Link + Drop, Q: Links<L>, G: Gate, C:
     worker.work(rt, alloc, shared, caller, links)
 }
 
-/// Makes a round: drops the dead items of the next shelves when the clock has risen, and then visits those
-/// that are awake, all at one moment. Returns the shelf whose turn is next.
+/// Makes a round: tidies the next shelves if the clock has risen, then visits all awake guests.
 ///
-/// The clocks of all workers rise at once. None of them asks for a shelf whose dead items another
-/// drops, if it first drops those of its own.
+/// All visits are at one moment. Returns the shelf whose turn is next.
+///
+/// The clocks of all workers rise at once. A worker that tidies its own shelves first doesn't want
+/// a shelf that another tidies.
 fn make_round<R: Wait, K: KeyHash + Drop, L: Link + Drop, G: Gate, T: Tally>(
     alloc: Global,
     guests: &mut Guests<L>,
@@ -130,8 +136,9 @@ fn make_round<R: Wait, K: KeyHash + Drop, L: Link + Drop, G: Gate, T: Tally>(
     next
 }
 
-/// Drops the dead items of the next shelves when the clock has risen. Returns the shelf whose turn is
-/// next.
+/// Drops the dead items of the next shelves if the clock has risen.
+///
+/// Returns the shelf whose turn is next.
 fn tidy_if_risen<R: Wait, K: KeyHash + Drop, G: Gate, T: Tally>(
     counting: &mut Counting<'_, Tending<'_, R, K, G>, T>,
     turn: u32,
@@ -148,11 +155,12 @@ fn tidy_if_risen<R: Wait, K: KeyHash + Drop, G: Gate, T: Tally>(
     }
 }
 
-/// How many links are let end at most when the clock has risen.
+/// The most links that are closed at one rising of the clock.
 const ENDED: usize = 16;
 
-/// Lets links end whose guests are to make room for those that are kept waiting, when the clock has
-/// risen: no more than these are.
+/// Closes links of guests that hold most, if the clock has risen, to make room for waiting guests.
+///
+/// It closes at most as many as are waiting.
 fn make_room<L: Link + Drop, Q: Links<L>>(
     guests: &mut Guests<L>,
     links: &mut Q,
@@ -166,7 +174,7 @@ fn make_room<L: Link + Drop, Q: Links<L>>(
     }
 }
 
-/// Lets links end whose guests hoard most, as many as are kept waiting.
+/// Closes the links of the guests that hold most, at most as many as are waiting.
 fn end_hoarders<L: Link + Drop, Q: Links<L>>(guests: &mut Guests<L>, links: &mut Q, now: Moment)
     ensures { guests.new ≡ guests.old }
 {

@@ -1,4 +1,4 @@
-//! What a tally hears.
+//! The reports that a tally gets.
 
 use crate::held::{HeldLink, HeldLinks, Seen};
 use mc_guests::{Outcome, Tally};
@@ -14,24 +14,24 @@ use std::cell::Cell;
 use std::sync::Wait;
 use std::test::*;
 
-/// How stores of one page are set up.
+/// The settings of stores with one page.
 const SETTINGS: Settings = Settings {
     pages: 1,
     greatest: Settings::GREATEST,
     shelves: 64,
 };
 
-/// What was heard: how often, and last of a key of which length and of which outcome.
+/// The number of reports, and the last one's key length and outcome.
 type Hearing = (usize, usize, Option<Outcome>);
 
-/// A tally that keeps what it heard.
+/// A tally that keeps its reports.
 #[derive(Drop)]
 struct Heard {
     hearing: Cell<Hearing>,
 }
 
 impl Heard {
-    /// Has heard nothing.
+    /// Returns a tally without reports.
     fn nothing() -> Heard {
         Heard {
             hearing: Cell::new((0, 0, None)),
@@ -47,7 +47,7 @@ impl Tally for Heard {
     }
 }
 
-/// Takes what it is told, or refuses it.
+/// Accepts each reply, or refuses it.
 #[derive(Drop)]
 struct Listener {
     is_deaf: bool,
@@ -73,7 +73,8 @@ impl Answer for Listener {
     }
 }
 
-/// How a step is taken: with its reply, or with its reply told, which is taken or refused.
+/// How a step is taken: with its reply returned, or delivered to a listener that accepts or refuses
+/// it.
 #[derive(Clone, Copy)]
 enum Way {
     Answered,
@@ -101,7 +102,7 @@ fn take<S: Steps>(store: &mut S, alloc: Global, key: &[u8], ask: Ask<'_>, way: W
     }
 }
 
-/// A key, what is asked of it, and how the step comes out.
+/// A key, a step on it, and its outcome.
 type Row = (&'static [u8], Ask<'static>, Outcome);
 
 const ROWS: [Row; 12] = [
@@ -119,7 +120,7 @@ const ROWS: [Row; 12] = [
     (b"", Ask::Flush(0), Outcome::Flushed),
 ];
 
-/// Finds the first step of which a tally doesn't hear once as the row says.
+/// Returns the first step that isn't reported once with the row's outcome.
 fn first_unheard(alloc: Global, way: Way) -> Result<Option<usize>, AllocError> {
     let heard = Heard::nothing();
     let mut counting = Counting::new(Store::new(alloc, SETTINGS, Fnv)?, &heard);
@@ -141,7 +142,7 @@ fn a_tally_hears_how_each_step_came_out(rt: HostRuntime) -> Result<(), Fail> {
     Ok(())
 }
 
-/// What is heard of a set of a block of so many bytes, where `a` has the one page.
+/// Returns the report of a set of a block of this length, where `a` has the one page.
 fn heard_of_set(alloc: Global, length: usize, way: Way) -> Result<Hearing, AllocError> {
     let (large, block) = (filled_block(alloc, 600000)?, filled_block(alloc, length)?);
     let mut store = Store::new(alloc, SETTINGS, Fnv)?;
@@ -165,7 +166,7 @@ fn a_tally_hears_of_sets_that_store_nothing(rt: HostRuntime) -> Result<(), Fail>
     Ok(())
 }
 
-/// What is heard of a set if the unique numbers are spent.
+/// Returns the report of a set with used-up unique numbers.
 fn heard_of_none(alloc: Global, way: Way) -> Result<Hearing, AllocError> {
     let heard = Heard::nothing();
     let store = Store::starting(alloc, SETTINGS, Fnv, 18446744073709551615)?;
@@ -188,7 +189,7 @@ fn a_tally_hears_of_no_step_that_is_not_taken(rt: HostRuntime) -> Result<(), Fai
     Ok(())
 }
 
-/// What is heard of the steps of one link.
+/// Returns the reports of the steps of one link.
 fn heard_of_link<R: Wait>(
     rt: &R,
     alloc: Global,

@@ -1,4 +1,4 @@
-//! Two workers over one store, one of which waits inside a step for the other.
+//! Two workers over one store; one waits inside a step for the other.
 
 ghost use Rattle.std.specs.Prelude.{◌≡◌, IfOk};
 
@@ -16,10 +16,10 @@ use std::test::*;
 use std::thread;
 use std::thread::Threads;
 
-/// How many times a held step looks whether the other was answered, before it gives up.
+/// How often a held step checks the other's reply before it gives up.
 const TURNS: u32 = 1_000_000;
 
-/// A gate that holds the first step on a shelf until another link took so many bytes.
+/// A gate that holds the first step on a shelf until another link took some bytes.
 #[derive(Drop)]
 struct HoldsShelf<'a> {
     shelf: u32,
@@ -27,7 +27,7 @@ struct HoldsShelf<'a> {
     held: &'a AtomicU64,
     other: &'a Seen,
     wanted: u64,
-    /// 1 if the other link wasn't answered in time.
+    /// 1 if the other link had no reply in time.
     gave_up: &'a AtomicU64,
 }
 
@@ -46,7 +46,7 @@ impl<'a> Gate for HoldsShelf<'a> {
     }
 }
 
-/// Serves one link at second 1000, and gives the caller back.
+/// Serves one link at second 1000, and returns the caller.
 fn serves<R: Wait, G: Gate>(
     rt: &R,
     alloc: Global,
@@ -63,7 +63,7 @@ fn serves<R: Wait, G: Gate>(
     work(rt, alloc, shared, caller, &mut links, gate, &clock)
 }
 
-/// What a link gives, and what it is to take.
+/// A link's input, and its expected output.
 const GET_A: (&[u8], &[u8]) = (b"get a\r\n", b"VALUE a 0 1\r\nx\r\nEND\r\n");
 
 const GET_B: (&[u8], &[u8]) = (b"get b\r\n", b"VALUE b 0 1\r\ny\r\nEND\r\n");
@@ -73,13 +73,15 @@ const GET_B: (&[u8], &[u8]) = (b"get b\r\n", b"VALUE b 0 1\r\ny\r\nEND\r\n");
 struct Met {
     /// Whether the held step gave up.
     gave_up: bool,
-    /// How many bytes were right and how many wrong, of each link.
+    /// Each link's right and wrong bytes.
     first: (u64, u64),
     second: (u64, u64),
 }
 
-/// Serves `get a` and another link in two threads. The step on `a` is held on its shelf until the
-/// other was answered, which gives its input only once that step is held.
+/// Serves `get a` and another link in two threads.
+///
+/// The step on `a` is held on its shelf until the other link has its reply. The other link gives
+/// its input only once that step is held.
 fn both_get<R: Threads + Wait + Sync>(
     rt: &R,
     alloc: Global,
@@ -157,7 +159,7 @@ fn filled<R: Wait>(rt: &R, alloc: Global) -> Result<(Shared<Fnv>, Caller), Alloc
     Ok((shared, me))
 }
 
-/// How many bytes each link takes, all of them as expected.
+/// The bytes that each link takes, all as expected.
 const ANSWERED: (u64, u64) = (21, 0);
 
 #[test]

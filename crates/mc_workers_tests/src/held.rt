@@ -6,8 +6,8 @@ use std::alloc::Global;
 use std::marker::Model;
 use std::sync::atomic::{AtomicU64, Ordering};
 
-/// What is seen of a link once its worker has dropped it: how many bytes that it took were as
-/// expected at their places, and how many weren't.
+/// The bytes that a link took, after its worker dropped it: how many were as expected, and how many
+/// not.
 #[derive(Drop)]
 pub struct Seen {
     right: AtomicU64,
@@ -32,24 +32,25 @@ impl Seen {
         self.right.load(Ordering::SeqCst)
     }
 
-    /// Tells how many bytes were right and how many were wrong.
+    /// Returns how many bytes were right and how many were wrong.
     pub fn right_and_wrong(&self) -> (u64, u64) {
         (self.right(), self.wrong.load(Ordering::SeqCst))
     }
 }
 
-/// A link in memory, which gives its input and takes output one byte at a time, with an empty call
-/// after each, and may fail at one of its calls.
+/// A link in memory with one byte a call.
+///
+/// Each call is followed by an empty one, and one call may fail.
 #[derive(Drop)]
 pub struct HeldLink<'a> {
     input: &'a [u8],
-    /// How many bytes of the input were given.
+    /// The number of input bytes given.
     at: usize,
     output: Vec<u8>,
     expected: &'a [u8],
     seen: &'a Seen,
     calls: Calls,
-    /// It gives nothing while this is 0.
+    /// While this is 0 it gives nothing.
     gives: Option<&'a AtomicU64>,
     is_ended: bool,
     was_read: bool,
@@ -74,7 +75,7 @@ impl<'a> HeldLink<'a> {
     ghost use Rattle.std.specs.Prelude.{◌≡◌, ◌∷◌, [], Ok};
     ghost use Rattle.mc_guests.specs.Links.{Gives, IsWrite};
 
-    /// Makes a link that gives this input, and of which this output is expected.
+    /// Returns a link with this input and this expected output.
     pub fn new(alloc: Global, input: &'a [u8], expected: &'a [u8], seen: &'a Seen) -> HeldLink<'a> {
         HeldLink {
             input,
@@ -89,19 +90,19 @@ impl<'a> HeldLink<'a> {
         }
     }
 
-    /// Lets a call from now fail: the first at 1.
+    /// Returns the link with a call that fails: the next call is number 1.
     pub fn failing_at(mut self, call: u64) -> HeldLink<'a> {
         self.calls = Calls::failing_at(call);
         self
     }
 
-    /// Lets it give nothing while this is 0.
+    /// Returns the link, which gives nothing while this is 0.
     pub fn giving_after(mut self, gives: &'a AtomicU64) -> HeldLink<'a> {
         self.gives = Some(gives);
         self
     }
 
-    /// Returns whether it gives nothing yet.
+    /// Returns whether it still gives nothing.
     fn is_held_back(&self) -> bool {
         match self.gives {
             Some(gives) => gives.load(Ordering::SeqCst) == 0,

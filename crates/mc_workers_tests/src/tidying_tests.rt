@@ -17,7 +17,7 @@ use std::sync::Wait;
 use std::sync::atomic::{AtomicU64, Ordering};
 use std::test::*;
 
-/// How a store of one page is set up.
+/// The settings of a store with one page.
 const ONE: Settings = Settings {
     pages: 1,
     greatest: Settings::GREATEST,
@@ -42,8 +42,9 @@ const MOST: Settings = Settings {
     shelves: 256,
 };
 
-/// With which shelf tidying begins, and in which tidying the shelf of `b` has its turn: it is shelf 37 of 64 and
-/// of 128, and 165 of 256.
+/// The shelf at which tidying begins, and the tidying in which the shelf of `b` has its turn.
+///
+/// That is shelf 37 of 64 and of 128, and 165 of 256.
 const ROWS: [(Settings, u32, u32); 9] = [
     (ONE, 0, 1),
     (ONE, 5, 1),
@@ -56,19 +57,19 @@ const ROWS: [(Settings, u32, u32); 9] = [
     (MOST, 0, 42),
 ];
 
-/// A clock that rises by a second from look to look, so often, and says so then.
+/// A clock that rises by a second at each look, a given number of times, and then sets a flag.
 #[derive(Drop)]
 struct Rising<'a> {
-    /// How often it was looked at, until it rises no more.
+    /// The number of looks, until it rises no more.
     looks: Cell<u64>,
     /// How often it rises.
     times: u64,
-    /// 1 once it rose so often.
+    /// 1 once it has risen that often.
     has_risen: &'a AtomicU64,
 }
 
 impl<'a> Clock for Rising<'a> {
-    // Nobody can know how often it was looked at.
+    // A contract can't state the number of looks.
     ghost may_give = { λ clock now. Unit {0} };
 
     fn now(&self) -> Moment {
@@ -81,8 +82,9 @@ impl<'a> Clock for Rising<'a> {
     }
 }
 
-/// Lets a worker tidy so often from second 1010 on, first this shelf, and gives the caller back. Its one
-/// link gives nothing before.
+/// Lets a worker tidy some times from second 1010 on, first this shelf, and returns the caller.
+///
+/// Its one link gives nothing before.
 fn tidied<R: Wait>(
     rt: &R,
     alloc: Global,
@@ -114,7 +116,9 @@ fn tidied<R: Wait>(
     caller
 }
 
-/// What a set of `c` is told after so many tidyings that begin with this shelf, where `b`, which is dead by then, has the one page.
+/// Returns the reply to a set of `c` after some tidyings that begin with this shelf.
+///
+/// `b`, which is dead by then, has the one page.
 fn told_after<R: Wait>(
     rt: &R,
     alloc: Global,

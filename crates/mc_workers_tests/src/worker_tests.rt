@@ -20,7 +20,7 @@ const SETTINGS: Settings = Settings {
     shelves: 64,
 };
 
-/// Serves one link over a new store, and says how it ended and how many bytes were right and wrong.
+/// Serves one link over a new store, and returns how it ended, with its right and wrong bytes.
 fn served<R: Wait>(
     rt: &R,
     alloc: Global,
@@ -52,7 +52,7 @@ fn links_take_what_sessions_write(rt: HostRuntime) -> Result<(), Fail> {
     Ok(())
 }
 
-/// What sessions of a new store read and what they write, beside those of all crates' tests.
+/// Input and output of sessions over a new store, besides those of all crates' tests.
 const ROWS: [(&str, &str); 8] = [
     (
         "set a 0 0 1 noreply\r\nx\r\nget a\r\nquit\r\nget a\r\n",
@@ -98,18 +98,18 @@ fn links_take_the_texts_of_more_rows(rt: HostRuntime) -> Result<(), Fail> {
     Ok(())
 }
 
-/// What became of two links, of which the first fails at a call.
+/// The result of two links, if the first fails at a call.
 #[derive(Drop)]
 struct Faulty {
     end: WorkEnd,
-    /// How many bytes were right and how many wrong, of each link.
+    /// Each link's right and wrong bytes.
     first: (u64, u64),
     second: (u64, u64),
-    /// What a read of `a` by the caller that came back is told.
+    /// The result of a read of `a` by the returned caller.
     found: Found,
 }
 
-/// What a read is told.
+/// The result of a read.
 #[derive(Clone, Copy, Debug, PartialEq, Eq)]
 enum Found {
     /// The block `x` with this unique number.
@@ -118,7 +118,7 @@ enum Found {
     Other,
 }
 
-/// Says what a read is told.
+/// Returns the result of a read.
 fn found_by(answer: &Result<Reply, StepFault>) -> Found {
     match answer {
         Ok(Reply::Hit { unique, block, .. }) if block.bytes() == b"x".as_slice() => Found::X(
@@ -139,7 +139,7 @@ const SECOND: (&[u8], &[u8]) = (
     b"NOT_STORED\r\nSTORED\r\nSTORED\r\nSTORED\r\nVALUE c 7 3\r\nabc\r\nEND\r\n",
 );
 
-/// Serves two links over a new store, of which the first fails at a call.
+/// Serves two links over a new store; the first fails at a call.
 fn served_with_fault<R: Wait>(rt: &R, alloc: Global, call: u64) -> Result<Faulty, Fail> {
     let now = Moment::from_seconds_at_most(1000);
     let seen = [Seen::nothing(), Seen::nothing()];
@@ -158,8 +158,10 @@ fn served_with_fault<R: Wait>(rt: &R, alloc: Global, call: u64) -> Result<Faulty
     })
 }
 
-/// Returns whether a fault ended the first session alone: the other took all of its output, what
-/// the first took is a beginning of its own, and a set that it was told of stands.
+/// Returns whether a fault ended only the first session.
+///
+/// The other one took all of its output, the first took a beginning of its own, and a set that was
+/// answered to it is in the store.
 fn ended_alone(was: &Faulty) -> bool {
     let (right, wrong) = was.first;
     let counts = was.end.served == 1 && was.end.broken == 1 && was.end.refused == 0;
@@ -172,7 +174,7 @@ fn ended_alone(was: &Faulty) -> bool {
     counts && other && wrong == 0 && read
 }
 
-/// Returns whether no fault was met, and both took all of their output.
+/// Returns whether there was no fault, and both took all of their output.
 fn both_served(was: &Faulty) -> bool {
     let counts = was.end.served == 2 && was.end.broken == 0 && was.end.refused == 0;
     let all = was.first == (FIRST.1.len() as u64, 0) && was.second == (SECOND.1.len() as u64, 0);

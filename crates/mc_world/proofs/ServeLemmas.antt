@@ -120,7 +120,7 @@ service_opens : {K : Type 0} {hash_of : K → List ℕ → ℕ} {may_give : ℕ 
     → IsService hash_of may_give n old events read written turns → BeginsOpen events
 service_opens starts = ([], refl)
 service_opens (turn now gives room service) = opens_more _ _ (service_opens service)
-service_opens (piece bytes idle service) = opens_more _ _ (service_opens service)
+service_opens (piece bytes idle all_written service) = opens_more _ _ (service_opens service)
 service_opens (write bytes service) = service_opens service
 
 -- one connection more is there behind an opening
@@ -165,10 +165,10 @@ module _ {K : Type 0} {hash_of : K → List ℕ → ℕ} {may_give : ℕ → Typ
       record { events = served.events; service = write part served.service; told = all }
 
   -- a read
-  then_read : {turns : ℕ} {read written : List ℕ} {old new : WorldState K} (bytes : List ℕ) → IsIdle (numbered n old.sessions)
+  then_read : {turns : ℕ} {read written : List ℕ} {old new : WorldState K} (bytes : List ℕ) → IsIdle (numbered n old.sessions) → output_of (numbered n old.sessions) ≡ []
       → Told hash_of old (Piece n bytes ∷ []) new → HasServed hash_of may_give n first turns read written old → HasServed hash_of may_give n first turns (read ++ bytes) written new
-  then_read {old = old} bytes idle told served =
-      record { events = served.events ++ Piece n bytes ∷ []; service = piece bytes (record { world = old; told = served.told; idle = idle }) served.service; told = told_behind served tt told }
+  then_read {old = old} bytes idle all_written told served =
+      record { events = served.events ++ Piece n bytes ∷ []; service = piece bytes (record { world = old; told = served.told; idle = idle }) all_written served.service; told = told_behind served tt told }
 
   -- what was done with the session as an endpoint of its world
   pub served_by : {start : WorldState K} {turns : ℕ} {read written : List ℕ} {last : Seat} {after : WorldState K}
@@ -180,9 +180,10 @@ module _ {K : Type 0} {hash_of : K → List ℕ → ℕ} {may_give : ℕ → Typ
     then_turned now gives (subst (λ (s : Seat). waiting s.number between < most_waiting) is small)
         (subst (λ (s : Seat). Told hash_of between (turn_events s.number (shelf_of s.turns between.settings.shelves) now) after) is told) served,
   )
-  served_by {after = after} (exchanges.piece {between = between} bytes exchange idle (same, told)) few begun = let (is, served) = served_by exchange few begun in (
+  served_by {after = after} (exchanges.piece {between = between} bytes exchange idle all_written (same, told)) few begun = let (is, served) = served_by exchange few begun in (
     same ∙ is,
-    then_read bytes (subst (λ (s : Seat). IsIdle (numbered s.number between.sessions)) is idle) (subst (λ (s : Seat). Told hash_of between (Piece s.number bytes ∷ []) after) is told) served,
+    then_read bytes (subst (λ (s : Seat). IsIdle (numbered s.number between.sessions)) is idle) (subst (λ (s : Seat). output_of (numbered s.number between.sessions) ≡ []) is all_written)
+        (subst (λ (s : Seat). Told hash_of between (Piece s.number bytes ∷ []) after) is told) served,
   )
   served_by {after = after} (exchanges.write {between = between} bytes exchange writes) few begun = let (is, served) = served_by exchange few begun in let wrote = was_written writes in
       (wrote.0 ∙ is, then_wrote bytes (subst (λ (s : Seat). between ≡ with_written s.number bytes after) is wrote.1) served)

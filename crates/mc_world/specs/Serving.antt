@@ -75,8 +75,8 @@ module _ {K : Type 0} (hash_of : K → List ℕ → ℕ) (may_give : ℕ → Typ
 
   -- The events that serve the session before it closes, the bytes that they bring, those that were
   -- written meanwhile, and how many turns they are. It opens. Then pieces come, where no turn is
-  -- due, and bytes are written; and turns are taken, each at a moment that the clock may give, where
-  -- less than 64 KiB wait, and with growth of the next shelf behind it.
+  -- due and all output is written, and bytes are written; and turns are taken, each at a moment that
+  -- the clock may give, where less than 64 KiB wait, and with growth of the next shelf behind it.
   pub data IsService : List Event → (read written : List ℕ) → (turns : ℕ) → Type 0 where
     starts : IsService (Open ∷ []) [] [] 0
     turn : {events : List Event} {read written : List ℕ} {turns : ℕ} (now : ℕ) → may_give now
@@ -84,7 +84,8 @@ module _ {K : Type 0} (hash_of : K → List ℕ → ℕ) (may_give : ℕ → Typ
         → IsService (events ++ turn_events n (shelf_of turns old.settings.shelves) now) read written
         (turns + 1)
     piece : {events : List Event} {read written : List ℕ} {turns : ℕ} (bytes : List ℕ)
-        → FindsIdle events written → IsService events read written turns
+        → (found : FindsIdle events written) → output_of (numbered n found.world.sessions) ≡ []
+        → IsService events read written turns
         → IsService (events ++ Piece n bytes ∷ []) (read ++ bytes) written turns
     write : {events : List Event} {read written : List ℕ} {turns : ℕ} (bytes : List ℕ)
         → IsService events read written turns

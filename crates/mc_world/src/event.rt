@@ -1,10 +1,10 @@
 use mc_protocol::Bytes;
 use mc_time::Moment;
 
-/// What comes to a world. Sessions have numbers from 1 on, shelves from 0 on.
+/// An event of a world. Sessions are numbered from 1, shelves from 0.
 #[derive(Drop)]
 pub enum Event<'a> {
-    /// A session more, with the next number; at most 65535 are ever opened.
+    /// A new session with the next number; at most 65535 are ever opened.
     Open,
     /// The next bytes of a session's stream.
     Piece(u32, Bytes<'a>),
@@ -12,30 +12,32 @@ pub enum Event<'a> {
     Turn(u32),
     /// The moment from now on.
     Clock(Moment),
-    /// Up to 8 entries of a shelf may move in its table. No session sees that.
+    /// Up to 8 entries of a shelf move to its new table. No session sees that.
     Grow(u32),
     /// The dead items of a shelf are dropped.
     Purge(u32),
-    /// A session is closed: what it has unread is dropped, and its output stays.
+    /// A session is closed: its unread bytes are dropped, and its output is kept.
     Close(u32),
 }
 
-/// Memory ran out in an event. The events before it are done, its session is closed, and no later
-/// one is run. Only an opening, a piece of an open session and a turn that is due are ever refused.
+/// Memory was refused in an event. The events before it are done, and no later one is run.
+///
+/// The event's session is closed. Only an opening, a piece of an open session and a turn that is
+/// due can be refused.
 #[derive(Debug, Drop, PartialEq, Eq)]
 pub struct Refused {
-    /// Which event.
+    /// The index of the event.
     pub at: usize,
-    /// The session that the event names.
+    /// The session of the event.
     pub session: Option<u32>,
-    /// Whether the event's step stands in the store. Its text isn't told.
+    /// Whether the store took the event's step. The step's text is missing.
     pub decided: bool,
 }
 
-/// All events were run, past those that were refused memory.
+/// All events were run, also after events that were refused memory.
 #[derive(Clone, Copy, Debug, PartialEq, Eq)]
 pub struct Ended {
-    /// How many events were refused.
+    /// The number of events that were refused.
     pub refused: u64,
 }
 

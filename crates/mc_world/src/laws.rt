@@ -12,7 +12,7 @@ ghost use Rattle.mc_world.specs.declared.event.Event.TheVariants.{Grow, Piece};
 
 use mc_hop::KeyHash;
 
-/// States that growth never shows: an event of growth may be added or taken out anywhere.
+/// States that growth is invisible: an event of growth may be added or removed anywhere.
 pub fn growth_never_shows()
     ensures { (shelf : ℕ) (front rest : List Event) →
         RunAlike (front ++ Grow shelf ∷ rest) (front ++ rest) }
@@ -25,9 +25,10 @@ pub fn a_piece_may_be_cut()
         (front ++ Piece session (piece ++ more) ∷ rest) }
 {}
 
-/// States that an event of a session that decides no step where it comes may change places with a
-/// neighbour that is none of that session's and opens none: with any event of another session, with
-/// a clock, with growth and with a purge.
+/// States that an event of a session that decides no step may be swapped with a neighbour.
+///
+/// The neighbour is any event of another session, except an opening, or a clock, a growth or a
+/// purge.
 pub fn sessions_may_change_places()
     ensures { (hash : List ℕ → ℕ) (shelves n : ℕ) (still other : Event) (old new : PlainWorld)
         (front rest : List Event) →
@@ -36,9 +37,9 @@ pub fn sessions_may_change_places()
         ↔ Runs hash shelves old (front ++ other ∷ still ∷ rest) new }
 {}
 
-/// States that what a session has had and what is to be written of it follow from its own events
-/// and from what its own steps were answered. The rest of a run shows in those answers or not at
-/// all: other sessions, the clock, growth and purges.
+/// States that a session's input and output follow from its own events and its steps' replies.
+///
+/// The rest of a run (other sessions, the clock, growth and purges) shows only in those replies.
 #[tactic(auto, using(crate::proofs::AnswerLemmas::runs_answering))]
 pub fn a_session_follows_its_own_answers()
     ensures answered { (hash : List ℕ → ℕ) (shelves n : ℕ) (old new : PlainWorld)
@@ -50,8 +51,9 @@ pub fn a_session_follows_its_own_answers()
         Leaves n first own answers last → Leaves n first own answers other → other ≡ last }
 {}
 
-/// States that a plain world stands as one state only, of those with the same settings and hasher:
-/// so what is told of a world pins it.
+/// States that a plain world represents only one state with given settings and hasher.
+///
+/// So the contract about a world determines it.
 #[tactic(auto, using(crate::proofs::ConnectionLemmas::stands_one))]
 pub fn a_plain_world_stands_one_way<K: KeyHash>()
     ensures { (plain : PlainWorld) (one other : WorldState K) →
@@ -66,7 +68,7 @@ pub fn a_turn_is_due_of_both()
         NoTurnDue session ↔ HasNoNext connection }
 {}
 
-/// States that the laws of the grammar and of sessions that the proofs here use hold.
+/// States that the laws of the grammar and of sessions hold, as far as the proofs here use them.
 #[tactic(auto, using(crate::proofs::ConnectionLemmas::the_grammar))]
 pub fn grammar()
     ensures { Grammar }

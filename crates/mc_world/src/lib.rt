@@ -1,26 +1,29 @@
-//! Many sessions over one store: a list of events makes of a world what the protocol's plain
-//! machine makes of it.
+//! Many sessions over one store: a list of events does to a world what it does to the plain
+//! machine.
 //!
-//! The crates below say what a feed, a session and a store do. Here is what somebody who connects
-//! wants to know: what is written to me, if others are connected too? A world is a store, a moment
-//! and sessions, and all that can happen to it is an [`Event`]: a session opens, a piece of its
-//! stream comes, it takes a turn, it is closed; the clock is set; a shelf grows, or is purged of
-//! its dead. A list of events is a schedule, and nothing is assumed of it.
+//! The crates below promise what a feed, a session and a store do. This crate answers a client's
+//! question: what is written to me while others are connected too? A world is a store, a moment and
+//! sessions. All that can happen to it is an [`Event`]: a session opens, a piece of its stream
+//! comes, it takes a turn, it is closed; the clock is set; a shelf grows, or its dead items are
+//! purged. A list of events is a schedule, and may be any.
 //!
-//! A [`World`] runs such lists: `run` until memory is refused ([`Refused`]), `run_through` past
+//! A [`World`] runs such lists: `run` until memory is refused ([`Refused`]), and `run_through` past
 //! refusals, which it counts ([`Ended`]). [`serve_one`] serves one session of a world over a reader
-//! and a writer, by the loop of `mc_session`; it is what the program runs with `--stdin`. [`Parts`]
-//! are what a world has, for who makes it of a store and has something to ask the store itself.
+//! and a writer, by the loop of `mc_session`; the program uses it for `--stdin`. [`Parts`] are the
+//! parts of a world, for a caller that makes one from a store and also calls the store itself.
 //!
 //! The definitions have a plain world beside it: for each session the stream so far and the turns
 //! taken, and the plain machine's state. `World::run` promises that for every list of events the
-//! bytes written to each session are those of the plain machine, asked the sessions' commands in
-//! the order of their turns; and that memory is refused only in an opening, a piece or a turn that
-//! is due, which is told: the events before it are done, its session is closed, and its step stands
-//! or doesn't, as told. The laws say what makes no difference: growth, where a stream is cut, what
-//! other sessions do that decides nothing, what was already written.
+//! bytes written to each session are those of the plain machine, which takes the sessions' commands
+//! in the order of their turns. Memory is refused only in an opening, a piece or a turn that is
+//! due. The error has the event's index, session and `decided`: the events before it are done, its
+//! session is closed, and `decided` is whether its step was taken. The laws state what makes no
+//! difference: growth, where a stream is cut, what other sessions do without deciding a step, and
+//! output that was already written.
 //!
 //! Begin with `specs/Worlds.antt`, `src/event.rt` and `src/world.rt`; then `src/serving.rt`.
+//!
+//! Tests: mc_world_tests, src/event_tests.rt.
 #![tactic(auto)]
 
 mod event;

@@ -10,10 +10,10 @@ use mc_shelf::Store;
 use mc_time::Moment;
 use std::alloc::Global;
 
-/// How many entries of a shelf one event of growth moves at most.
+/// The most entries of a shelf that one event of growth moves.
 const MOVED: usize = 8;
 
-/// What a world has: a store, a moment, and the sessions that use the store in turn.
+/// The parts of a world: a store, a moment, and the sessions that use the store in turn.
 #[derive(Drop)]
 pub struct Parts<K: KeyHash + Drop> {
     pub store: Store<K>,
@@ -22,7 +22,7 @@ pub struct Parts<K: KeyHash + Drop> {
 }
 
 impl<K: KeyHash + Drop> Parts<K> {
-    /// Makes what a world has of a store, at a moment: no session was opened. It takes no memory.
+    /// Makes the parts of a world from a store, at a moment, without sessions. It takes no memory.
     pub fn new(alloc: Global, store: Store<K>, now: Moment) -> Parts<K>
         ensures { state_of result ≡ record {
           settings = store.settings;
@@ -39,7 +39,7 @@ impl<K: KeyHash + Drop> Parts<K> {
         }
     }
 
-    /// Takes one event. Refused, the session that it names is closed.
+    /// Runs one event. After an error the event's session is closed.
     pub fn happen(&mut self, alloc: Global, event: &Event<'_>) -> Result<(), TurnFault>
         ensures ok { OnOk result
             (Done K.hash_of (state_of self.old) event.now (state_of self.new)) }
@@ -63,7 +63,7 @@ impl<K: KeyHash + Drop> Parts<K> {
         Ok(())
     }
 
-    /// Takes a session's next turn, if one is due. Refused, the session is closed.
+    /// Takes a session's next turn, if one is due. After an error the session is closed.
     pub fn turn(&mut self, alloc: Global, number: u32) -> Result<Turn, TurnFault>
         ensures ok { OnOk result
             (Done K.hash_of (state_of self.old) (Event.Turn number) (state_of self.new)) }
@@ -80,7 +80,7 @@ impl<K: KeyHash + Drop> Parts<K> {
             .turn(alloc, number, &mut self.store, self.moment)
     }
 
-    /// Moves up to 8 entries of a shelf in its table.
+    /// Moves up to 8 entries of a shelf to its new table.
     pub fn grow(&mut self, shelf: u32)
         ensures { state_of self.new ≡ state_of self.old }
     {

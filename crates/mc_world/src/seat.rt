@@ -11,7 +11,7 @@ use std::alloc::{AllocError, Global};
 pub struct Seat {
     /// The session's number.
     pub number: u32,
-    /// How many turns it was given.
+    /// The number of turns it was given.
     pub turns: u64,
 }
 

@@ -1,3 +1,8 @@
+//! Serving one session of a world.
+//!
+//! Written bytes leave a session's output, which is no event. So the contract puts them back in
+//! front of the output: then the new world is what the events make of the old one.
+
 ghost use Rattle.std.specs.Prelude.{◌≡◌, ◌≢◌, ◌<◌, ◌≤◌, ℕ, List, ◌∷◌, [], Err, OnOk, IfOk, IfErr, length};
 ghost use Rattle.mc_world.specs.Worlds.{PlainWorld, Runs, Told};
 ghost use Rattle.mc_world.specs.declared.event.Event.{Event};
@@ -14,16 +19,16 @@ use mc_time::Clock;
 use std::alloc::Global;
 use std::io::{Read, Write};
 
-/// Serves one session of a world, which it opens and closes: reads pieces, takes turns at the
-/// clock's moments, each with some growth of a shelf, and writes their texts, until the input ends
-/// or the session closes. The output is written when no turn is due, at the end, and before a turn
-/// when 65536 bytes or more of it wait. Fewer than 65535 sessions were opened before.
+/// Opens a session of a world, serves it until the input ends or it closes, and closes it.
 ///
-/// It fails with `Read` if the reader fails and after 2^40 turns, with `Write` if the writer
-/// fails or takes nothing, and with `NoMemory` if memory runs out: before the session is opened,
-/// in a turn that was due, or in a piece that was read. A failure leaves a beginning of the run:
-/// the session is closed, what was not written stays in its output, and the world may serve
-/// another.
+/// It reads pieces, takes turns at the clock's moments, each with some growth of a shelf, and
+/// writes their texts: when no turn is due, at the end, and before a turn once there are 65536
+/// bytes of output. Fewer than 65535 sessions may have been opened before.
+///
+/// The error is `Read` if the reader fails and after 2^40 turns, `Write` if the writer fails or
+/// takes nothing, and `NoMemory` if memory is refused: before the session is opened, in a turn that
+/// was due, or in a piece that was read. After an error a beginning of the run was done: the
+/// session is closed, unwritten output stays in it, and the world may serve another.
 pub fn serve_one<R: Read, W: Write, K: KeyHash + Drop, C: Clock>(
     alloc: Global,
     reader: &mut R,
@@ -60,8 +65,9 @@ pub fn serve_one<R: Read, W: Write, K: KeyHash + Drop, C: Clock>(
     }
 }
 
-/// States that what stands in front of a session's output never shows in what comes: with it in
-/// front or without, events do the same. So what was written of a session makes no difference.
+/// States that bytes in front of a session's output make no difference to later events.
+///
+/// So it makes no difference whether output was written.
 #[tactic(auto, using(crate::proofs::EventLemmas::runs_fronted))]
 pub fn written_output_never_shows()
     ensures { (hash : List ℕ → ℕ) (shelves n : ℕ) (bytes : List ℕ) (old new : PlainWorld)
@@ -70,7 +76,7 @@ pub fn written_output_never_shows()
         Runs hash shelves (with_front n bytes old) events (with_front n bytes new) }
 {}
 
-/// Opens a session, and answers its number.
+/// Opens a session, and returns its number.
 #[tactic(auto, using(crate::proofs::WorldLemmas::open_refused))]
 fn begin<K: KeyHash + Drop>(alloc: Global, world: &mut World<K>) -> Result<u32, ServeFault>
     requires { length world.old.sessions < 65535 }

@@ -13,10 +13,10 @@ use mc_time::Moment;
 use std::alloc::{AllocError, Global};
 use std::marker::Model;
 
-/// How many sessions are opened at most.
+/// The most sessions that are ever opened.
 const MOST: usize = 65535;
 
-/// Sessions by their numbers, from 1 on. A closed one keeps its place and its output.
+/// Sessions by number, from 1. A closed one keeps its number and its output.
 #[derive(Drop)]
 pub struct Sessions {
     list: Vec<Session>,
@@ -32,7 +32,7 @@ impl Model for Sessions {
     ghost view = { λ s. s.list.items };
 }
 
-/// The place of the session of that number, if it is open.
+/// Returns the index of the session of a number, if it is open.
 fn open_place(sessions: &[Session], number: u32) -> Option<usize>
     ensures none { result ≡ None → open_session number sessions.now ≡ None }
     ensures some { IfSome result (λ at. IsOpenAt sessions.now number at) }
@@ -57,14 +57,14 @@ impl Sessions {
         }
     }
 
-    /// Counts the sessions that were opened.
+    /// Returns the number of sessions that were opened.
     pub fn count(&self) -> usize
         ensures { result ≡ length self.now }
     {
         self.list.len()
     }
 
-    /// Opens a session more, if fewer than 65535 were opened. Refused, the sessions stay.
+    /// Opens a session, if fewer than 65535 were opened. An error changes nothing.
     pub fn open(&mut self, alloc: Global, greatest: u64) -> Result<(), AllocError>
         ensures ok { OnOk result (self.new ≡ with_opened greatest self.old) }
         ensures err { OnErr result (self.new ≡ self.old) }
@@ -76,7 +76,7 @@ impl Sessions {
         Ok(())
     }
 
-    /// Brings the next piece of a session's stream. Refused, the session is closed.
+    /// Brings the next piece of a session's stream. After an error the session is closed.
     pub fn feed(&mut self, number: u32, piece: &[u8]) -> Result<(), AllocError>
         ensures ok { OnOk result (self.new ≡ at_session self.old number (λ s. fed s piece.now)) }
         ensures err { OnErr result (self.new ≡ at_session self.old number closed) }
@@ -88,8 +88,9 @@ impl Sessions {
         feed_or_close(&mut self.list[at], piece)
     }
 
-    /// Takes a session's next turn, if one is due, with a store at a moment. Want of memory closes
-    /// the session.
+    /// Takes a session's next turn on a store at a moment, if one is due.
+    ///
+    /// Want of memory closes the session.
     pub fn turn<S: Steps>(
         &mut self,
         alloc: Global,
@@ -105,7 +106,7 @@ impl Sessions {
         self.list[at].turn(alloc, store, now)
     }
 
-    /// Finds the session of a number, open or closed.
+    /// Returns the session of a number, open or closed.
     fn session_at(&self, number: u32) -> Option<&Session>
         ensures { option_copied result ≡ numbered number self.now }
     {
@@ -115,7 +116,8 @@ impl Sessions {
         self.list.get((number - 1) as usize)
     }
 
-    /// Lends what is to be written of a session. Of one that was never opened it is empty.
+    /// Lends a session's output that isn't written yet. It is empty if the session was never
+    /// opened.
     pub fn out(&self, number: u32) -> &[u8]
         ensures { result.now ≡ output_of (numbered number self.now) }
     {
@@ -168,7 +170,7 @@ impl Sessions {
     }
 }
 
-/// A piece of an open session's stream. Refused, the session is closed.
+/// Brings a piece of an open session's stream. After an error the session is closed.
 fn feed_or_close(session: &mut Session, piece: &[u8]) -> Result<(), AllocError>
     ensures ok { OnOk result (session.new ≡ fed session.old piece.now) }
     ensures err { OnErr result (session.new ≡ closed session.old) }

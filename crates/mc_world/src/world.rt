@@ -17,9 +17,10 @@ use mc_time::Moment;
 use std::alloc::{AllocError, Global};
 use std::marker::Model;
 
-/// A store, a moment, and the sessions that use the store in turn. Contracts see how the store is
-/// set up, its hasher, the plain machine's state, the moment and the sessions; and a plain world
-/// stands so.
+/// A store, a moment, and the sessions that use the store in turn.
+///
+/// Contracts see the store's settings, its hasher, the plain machine's state, the moment and the
+/// sessions; and a plain world represents them.
 #[derive(Drop)]
 pub struct World<K: KeyHash + Drop> {
     parts: Parts<K>,
@@ -39,8 +40,7 @@ impl<K: KeyHash + Drop> Model for World<K> {
 }
 
 impl<K: KeyHash + Drop> World<K> {
-    /// Makes a world with a store of no items, and no sessions. The one error is a refused
-    /// allocation.
+    /// Makes a world with an empty store and no sessions. The only error is a refused allocation.
     pub fn new(
         alloc: Global,
         settings: Settings,
@@ -58,8 +58,9 @@ impl<K: KeyHash + Drop> World<K> {
         World::starting(alloc, settings, hasher, now, 1)
     }
 
-    /// Makes the same, whose first write draws the unique number `next`, at least 1. At 2^64 - 1 the
-    /// numbers are spent. The one error is a refused allocation.
+    /// Makes the same, with a store whose first write uses the unique number `next`, at least 1.
+    ///
+    /// At 2^64 - 1 the numbers are used up. The only error is a refused allocation.
     pub fn starting(
         alloc: Global,
         settings: Settings,
@@ -82,10 +83,11 @@ impl<K: KeyHash + Drop> World<K> {
         })
     }
 
-    /// Takes the events in order. If memory runs out in one, the events before it are done, the
-    /// session that it names is closed, and no later one is run.
+    /// Runs the events in order, until memory is refused in one.
     ///
-    /// What is told is told of every plain world that stands as the world did, and there is one.
+    /// The events before that one are then done, its session is closed, and no later one is run.
+    ///
+    /// The contract holds for every plain world that represents the old state; at least one exists.
     pub fn run(&mut self, alloc: Global, events: &[Event<'_>]) -> Result<(), Refused>
         ensures ok { OnOk result (Told K.hash_of self.old events.now self.new) }
         ensures err { IfErr result (λ refused.
@@ -103,10 +105,11 @@ impl<K: KeyHash + Drop> World<K> {
         Ok(())
     }
 
-    /// Takes every event in order. If memory runs out in one, its session is closed, what its
-    /// turn decided stands in the store and isn't told, and an opening opens nothing; then the next
-    /// one is taken. The answer counts these refusals. Only an opening, a piece of an open session
-    /// and a turn that is due are ever refused.
+    /// Runs all events in order, and returns how many were refused memory.
+    ///
+    /// After a refusal the event's session is closed, an opening opens nothing, and the text of a
+    /// step that its turn decided is missing; then the next event is run. Only an opening, a piece
+    /// of an open session and a turn that is due can be refused.
     pub fn run_through(&mut self, alloc: Global, events: &[Event<'_>]) -> Ended
         ensures told { ToldThrough K.hash_of result.refused self.old events.now self.new }
         // If no event was refused it does what `run` does.
@@ -121,9 +124,11 @@ impl<K: KeyHash + Drop> World<K> {
         Ended { refused }
     }
 
-    /// Takes a session's next turn, if one is due, as `run` of that one event does. It answers
-    /// `Did` if a turn was due, `Idle` if the session is open and none was, and `Closed`
-    /// if it isn't open. Refused, the session is closed. The session's next unit is parsed once.
+    /// Takes a session's next turn, if one is due, as `run` of that one event does.
+    ///
+    /// It returns `Did` if a turn was due, `Idle` if the session is open and none was, and `Closed`
+    /// if it isn't open. After an error the session is closed. It parses the session's next unit
+    /// once.
     #[tactic(auto, using(crate::proofs::WorldLemmas::told_refused))]
     pub fn turn(&mut self, alloc: Global, session: u32) -> Result<Turn, Refused>
         ensures ok { OnOk result (Told K.hash_of self.old (Event.Turn session ∷ []) self.new) }
@@ -152,29 +157,31 @@ impl<K: KeyHash + Drop> World<K> {
         self.parts.moment = now;
     }
 
-    /// Moves up to 8 entries of a shelf in its table, which no session sees, and none of a shelf
-    /// that isn't there. It takes no memory.
+    /// Moves up to 8 entries of a shelf to its new table, which no session sees.
+    ///
+    /// If there is no such shelf it does nothing. It takes no memory.
     pub fn grow(&mut self, shelf: u32)
         ensures { self.new ≡ self.old }
     {
         self.parts.grow(shelf);
     }
 
-    /// Counts the sessions that were opened. The last one has this number.
+    /// Returns the number of sessions that were opened, which is the last one's number.
     pub fn session_count(&self) -> usize
         ensures { result ≡ length self.now.sessions }
     {
         self.parts.sessions.count()
     }
 
-    /// Counts the shelves of the store.
+    /// Returns the number of the store's shelves.
     pub fn shelves(&self) -> u32
         ensures { result ≡ self.now.settings.shelves }
     {
         self.parts.store.settings().shelves
     }
 
-    /// Lends what is to be written of a session. Of one that was never opened it is empty.
+    /// Lends a session's output that isn't written yet. It is empty if the session was never
+    /// opened.
     pub fn out(&self, session: u32) -> &[u8]
         ensures { result.now ≡ output_of (numbered session self.now.sessions) }
     {
@@ -193,8 +200,9 @@ impl<K: KeyHash + Drop> World<K> {
         self.parts.sessions.drop_sent(session, n);
     }
 
-    /// Returns whether a session is open and no turn is due until more bytes come. It parses the
-    /// session's next unit.
+    /// Returns whether a session is open and no turn is due until more bytes come.
+    ///
+    /// It parses the session's next unit.
     pub fn is_idle(&self, session: u32) -> bool
         ensures { IsTrue result ↔ IsIdle (numbered session self.now.sessions) }
     {
@@ -208,14 +216,14 @@ impl<K: KeyHash + Drop> World<K> {
         self.parts.sessions.is_closed(session)
     }
 
-    /// States that a plain world stands as this one does. It does nothing.
+    /// States that a plain world represents this one. It does nothing.
     pub fn stands(&self)
         ensures { CanStand self.now }
     {
         let _ = &self.parts;
     }
 
-    /// Takes one event. Refused, the session that it names is closed.
+    /// Runs one event. After an error the event's session is closed.
     #[tactic(auto, using(crate::proofs::WorldLemmas::result_rules))]
     fn happen(&mut self, alloc: Global, event: &Event<'_>) -> Result<(), TurnFault>
         ensures ok { OnOk result (Told K.hash_of self.old (event.now ∷ []) self.new) }
@@ -225,7 +233,7 @@ impl<K: KeyHash + Drop> World<K> {
         self.parts.happen(alloc, event)
     }
 
-    /// Takes a session's next turn, if one is due. Refused, the session is closed.
+    /// Takes a session's next turn, if one is due. After an error the session is closed.
     #[tactic(auto, using(crate::proofs::WorldLemmas::result_rules))]
     fn give_turn(&mut self, alloc: Global, session: u32) -> Result<Turn, TurnFault>
         ensures ok { OnOk result (Told K.hash_of self.old (Event.Turn session ∷ []) self.new) }

@@ -1,4 +1,4 @@
-//! Events that a table of a test may have.
+//! Events for the tables of tests.
 
 use crate::worlds::run;
 use mc_hop::Fnv;
@@ -7,7 +7,7 @@ use mc_time::Moment;
 use mc_world::{Event, World};
 use std::alloc::{AllocError, Global};
 
-/// An event, as a constant may have it.
+/// An event, in a form for constants.
 #[derive(Clone, Copy)]
 pub(crate) enum Act {
     Open,
@@ -19,7 +19,7 @@ pub(crate) enum Act {
     Close(u32),
 }
 
-/// Builds the event of an act.
+/// Returns the event of an act.
 fn event_of(act: Act) -> Event<'static> {
     match act {
         Act::Open => Event::Open,
@@ -31,7 +31,7 @@ fn event_of(act: Act) -> Event<'static> {
     }
 }
 
-/// Builds the events of acts.
+/// Returns the events of acts.
 fn events_of(alloc: Global, acts: &[Act]) -> Result<Vec<Event<'static>>, AllocError> {
     let mut events = Vec::new(alloc);
     for act in acts {

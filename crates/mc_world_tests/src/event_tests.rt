@@ -1,5 +1,4 @@
-//! Lists of events, and what they make of the sessions' outputs. If memory is refused a test
-//! ends early.
+//! Lists of events, and the sessions' outputs afterwards. If memory is refused a test ends early.
 //!
 //! Each function does little, and what owns a world does less: a proof takes about the square of a
 //! function's length.
@@ -17,17 +16,18 @@ use std::alloc::Global;
 use std::process::Abort;
 use std::test::Fail;
 
-/// What `version` is answered.
+/// The reply to `version`.
 const VERSION: &str = "VERSION 1.6.0\r\n";
 
-/// Events, a session, what it was told in all once they were run, and its `standing` then.
+/// Events, a session, all of its output after they were run, and its `standing` then.
 type Row = (&'static [Act], u32, &'static str, &'static str);
 
-/// At which second session 1 asks, what, and what it is answered.
+/// The second, the command of session 1, and its reply.
 type Asked = (u64, &'static str, &'static str);
 
-/// Names how a session stands: it is closed, it is idle, or neither, as one that a turn is due of
-/// and one that was never opened.
+/// Returns `closed`, `idle` or neither.
+///
+/// It is neither for a session with a turn due, and for one that was never opened.
 fn standing(world: &World<Fnv>, session: u32) -> &'static str {
     match (world.is_closed(session), world.is_idle(session)) {
         (true, false) => "closed",
@@ -37,7 +37,7 @@ fn standing(world: &World<Fnv>, session: u32) -> &'static str {
     }
 }
 
-/// Runs the events of rows one after another, and compares what became of their sessions.
+/// Runs the events of rows in order, and compares their sessions' outputs and standings.
 fn rows_are_told_in(
     rt: &impl Abort,
     alloc: Global,
@@ -52,7 +52,7 @@ fn rows_are_told_in(
     Ok(())
 }
 
-/// The same, in a new world whose store is set up so.
+/// The same, in a new world whose store has these settings.
 fn rows_are_told_with(
     rt: &impl Abort,
     alloc: Global,
@@ -63,12 +63,12 @@ fn rows_are_told_with(
     rows_are_told_in(rt, alloc, &mut world, rows)
 }
 
-/// The same, of 64 shelves.
+/// The same, with 64 shelves.
 fn rows_are_told(rt: &impl Abort, alloc: Global, rows: &[Row]) -> Result<(), Fail> {
     rows_are_told_with(rt, alloc, SOME, rows)
 }
 
-/// The same, of each number of shelves.
+/// The same, with each number of shelves.
 fn rows_are_told_with_each(rt: &impl Abort, alloc: Global, rows: &[Row]) -> Result<(), Fail> {
     for settings in &EACH {
         rows_are_told_with(rt, alloc, *settings, rows)?;
@@ -245,7 +245,7 @@ fn a_purge_drops_what_is_dead_on_its_shelf(rt: HostRuntime) -> Result<(), Fail> 
     rows_are_told(&rt, rt.alloc(), &ROWS)
 }
 
-/// Session 1 of a world asks one after another, and is answered so.
+/// Sends commands by session 1 of a world, and compares the replies.
 fn asked_are_answered(
     rt: &impl Abort,
     alloc: Global,
@@ -258,7 +258,7 @@ fn asked_are_answered(
     Ok(())
 }
 
-/// The same, of a new world whose store is set up so.
+/// The same, in a new world whose store has these settings.
 fn new_world_answers(
     rt: &impl Abort,
     alloc: Global,
@@ -269,7 +269,7 @@ fn new_world_answers(
     asked_are_answered(rt, alloc, &mut world, rows)
 }
 
-/// The same, of each number of shelves.
+/// The same, with each number of shelves.
 fn new_worlds_answer(rt: &impl Abort, alloc: Global, rows: &[Asked]) -> Result<(), Fail> {
     for settings in &EACH {
         new_world_answers(rt, alloc, *settings, rows)?;
@@ -306,7 +306,8 @@ fn a_flush_comes_at_its_moment(rt: HostRuntime) -> Result<(), Fail> {
     new_worlds_answer(&rt, rt.alloc(), &ROWS)
 }
 
-/// Session 1 sets `a` and gets it. Refused, it is closed. Gives what another one has to find.
+/// Sets and gets `a` by session 1. After an error it is closed. Returns what another session must
+/// find.
 fn first_sets(rt: &impl Abort, alloc: Global, world: &mut World<Fnv>) -> &'static [u8] {
     let events = [
         Event::Piece(1, Bytes::of(b"set a 0 0 1\r\nx\r\nget a\r\n")),

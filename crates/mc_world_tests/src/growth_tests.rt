@@ -48,7 +48,7 @@ fn forty_keys_are_apart(
     Ok(())
 }
 
-/// The same, in a new world whose store is set up so.
+/// The same, in a new world whose store has these settings.
 fn forty_keys_are_apart_with(
     rt: &impl Abort,
     alloc: Global,
@@ -73,7 +73,7 @@ fn happen(parts: &mut Parts<Constant>, alloc: Global, event: &Event<'_>) -> Resu
     }
 }
 
-/// What a world of one page and one hash has.
+/// Returns the parts of a world with one page and one hash.
 fn parts_of_one_hash(alloc: Global) -> Result<Parts<Constant>, AllocError> {
     let settings = Settings {
         pages: 1,
@@ -90,7 +90,7 @@ fn set_key(parts: &mut Parts<Constant>, alloc: Global, number: u32) -> Result<()
     happen(parts, alloc, &Event::Turn(1))
 }
 
-/// Sets the keys of 1 to 34, and counts what one event of growth leaves in the old table.
+/// Sets the keys of 1 to 34. Returns how many entries one event of growth leaves in the old table.
 fn left_by_growth(parts: &mut Parts<Constant>, alloc: Global) -> Result<usize, AllocError> {
     happen(parts, alloc, &Event::Open)?;
     for number in 1..35 {
@@ -106,8 +106,9 @@ fn left_in_new_world(alloc: Global) -> Result<usize, AllocError> {
     left_by_growth(&mut parts, alloc)
 }
 
-/// Of keys of one hash a table takes 32. That of 64 homes grows before the 34th comes, since the
-/// 33rd found no bucket.
+/// A table takes 32 keys of one hash.
+///
+/// The table of 64 homes grows before the 34th comes, since the 33rd found no bucket.
 #[test]
 fn an_event_of_growth_moves_eight_entries(rt: HostRuntime) -> Result<(), Fail> {
     assert_eq!(rt; left_in_new_world(rt.alloc())?, 24);

@@ -1,5 +1,7 @@
-//! What peers may send who mean no good: one hash, bytes one by one, and so many writes that the
-//! unique numbers end. If memory is refused a test ends early.
+//! What hostile peers may send: keys of one hash, single bytes, and writes until the unique numbers
+//! end.
+//!
+//! If memory is refused a test ends early.
 
 use crate::told::{answers, answers_and_grows, is_told};
 use crate::worlds::{opened, run, take_turns};
@@ -12,7 +14,7 @@ use std::alloc::{AllocError, Global};
 use std::process::Abort;
 use std::test::Fail;
 
-/// A world of which session 1 is open, and of which one unique number is left.
+/// Returns a world with session 1 open, and one unique number left.
 fn world_of_one_number(alloc: Global) -> Result<World<Fnv>, AllocError> {
     let settings = Settings {
         pages: 64,
@@ -25,8 +27,9 @@ fn world_of_one_number(alloc: Global) -> Result<World<Fnv>, AllocError> {
     Ok(world)
 }
 
-/// One write is left, and then each that would draw a number is told that they are spent. All else
-/// is answered as before.
+/// One write is left. Then each write that needs a number gets the error that they are used up.
+///
+/// All other steps are answered as before.
 #[test]
 fn unique_numbers_end(rt: HostRuntime) -> Result<(), Fail> {
     let input =
@@ -58,7 +61,7 @@ fn key_is_deleted(
     answers_and_grows(rt, alloc, world, &delete, "DELETED\r\n")
 }
 
-/// What a key is found to be of which each third was deleted.
+/// Returns the reply to a get of a key, if every third key was deleted.
 fn found(alloc: Global, key: u32) -> Result<String, AllocError> {
     if key % 3 == 0 {
         format!(in alloc; "END\r\n")
@@ -120,8 +123,7 @@ fn bring_each(alloc: Global, world: &mut World<Fnv>, input: &[u8]) -> Result<(),
     Ok(())
 }
 
-/// Takes the turns that are left, compares what session 1 is told in all, and returns whether it is
-/// closed then.
+/// Takes the turns left, compares all output of session 1, and returns whether it is closed.
 fn tells(
     rt: &impl Abort,
     alloc: Global,
@@ -133,14 +135,14 @@ fn tells(
     Ok(world.is_closed(1))
 }
 
-/// Compares what a session is told that reads this whole, and returns whether it is closed then.
+/// Compares the output of a session that reads this whole, and returns whether it is closed.
 fn tells_whole(rt: &impl Abort, alloc: Global, input: &[u8], output: &[u8]) -> Result<bool, Fail> {
     let mut world = opened(alloc, Fnv)?;
     bring(alloc, &mut world, input)?;
     tells(rt, alloc, &mut world, output)
 }
 
-/// The same of one that reads it in pieces of one byte, with an empty piece and a turn after each.
+/// The same for pieces of one byte, with an empty piece and a turn after each.
 fn tells_bytewise(
     rt: &impl Abort,
     alloc: Global,
@@ -152,8 +154,7 @@ fn tells_bytewise(
     tells(rt, alloc, &mut world, output)
 }
 
-/// A session that reads this byte by byte is told the same as one that reads it whole, and is
-/// closed where that one is.
+/// Checks that a session has the same output byte by byte as whole, and is closed alike.
 fn tells_in_any_pieces(
     rt: &impl Abort,
     alloc: Global,
@@ -188,7 +189,7 @@ fn bytes_come_one_by_one(rt: HostRuntime) -> Result<(), Fail> {
     Ok(())
 }
 
-/// A line that sets a key of so many letters, and its block.
+/// Appends a line that sets a key of this many letters, and its block.
 fn set_of_long_key(alloc: Global, input: &mut Vec<u8>, len: usize) -> Result<(), AllocError> {
     input.extend_from_slice(b"set ")?;
     input.extend_from_slice(&vec![in alloc; b'k'; len]?)?;

@@ -1,4 +1,4 @@
-//! Items of several pages, in worlds of stores of few. If memory is refused a test ends early.
+//! Items of several pages, in worlds whose stores have few. If memory is refused a test ends early.
 
 use crate::texts::NO_CHUNK;
 use crate::told::tells;
@@ -10,7 +10,7 @@ use std::alloc::{AllocError, Global};
 use std::process::Abort;
 use std::test::Fail;
 
-/// How stores of two, three and eight pages are set up whose items may be of eight.
+/// Settings of stores with two, three and eight pages, and items of up to eight.
 const TWO: Settings = Settings {
     pages: 2,
     greatest: Settings::MOST_GREATEST,
@@ -29,21 +29,21 @@ const EIGHT: Settings = Settings {
     shelves: 64,
 };
 
-/// What a set is answered of a block that is too large.
+/// The reply to a set of a block that is too large.
 const TOO_LARGE: &str = "SERVER_ERROR object too large for cache\r\n";
 
-/// What session 1 asks.
+/// A command of session 1.
 #[derive(Clone, Copy)]
 enum Asks {
-    /// A set of a key to so many bytes, and its exptime.
+    /// A set of a key to a block of this length, with this exptime.
     Set(char, u32, i32),
     Delete(char),
 }
 
-/// What session 1 asks, and what it is answered.
+/// A command of session 1, and its reply.
 type Row = (Asks, &'static str);
 
-/// A line that sets a key, and so many bytes.
+/// Returns a line that sets a key, and a block of this length.
 fn set_of(alloc: Global, key: char, length: u32, exptime: i32) -> Result<Vec<u8>, AllocError> {
     let mut text = format!(in alloc; "set {key} 0 {exptime} {length}\r\n")?.into_bytes();
     let line = text.len();
@@ -52,7 +52,7 @@ fn set_of(alloc: Global, key: char, length: u32, exptime: i32) -> Result<Vec<u8>
     Ok(text)
 }
 
-/// The bytes that ask so.
+/// Returns the bytes of a command.
 fn bytes_of(alloc: Global, asks: Asks) -> Result<Vec<u8>, AllocError> {
     match asks {
         Asks::Set(key, length, exptime) => set_of(alloc, key, length, exptime),
@@ -85,7 +85,7 @@ fn rows_are_told(
     Ok(())
 }
 
-/// In a new world whose store is set up so, session 1 is answered as each row says.
+/// Checks the replies to session 1 in a new world whose store has these settings.
 fn are_told(rt: &impl Abort, alloc: Global, settings: Settings, rows: &[Row]) -> Result<(), Fail> {
     let mut world = opened_with(alloc, Fnv, settings)?;
     rows_are_told(rt, alloc, &mut world, rows)
@@ -123,7 +123,7 @@ fn an_item_takes_all_its_pages_or_none(rt: HostRuntime) -> Result<(), Fail> {
     are_told(&rt, rt.alloc(), TWO, &ROWS)
 }
 
-/// An item that is dead gives its pages to a larger one and to a smaller one of its key.
+/// A dead item gives its pages to a larger one and to a smaller one of its key.
 #[test]
 fn a_dead_item_gives_way_to_one_of_other_pages(rt: HostRuntime) -> Result<(), Fail> {
     const ROWS: [Row; 4] = [

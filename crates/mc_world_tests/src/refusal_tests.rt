@@ -1,7 +1,8 @@
-//! Rows of the protocol, of which tests/refusals refuses each request for memory in turn.
+//! Rows of the protocol, for which tests/refusals refuses each allocation in turn.
 //!
-//! A command that finds no memory is sent again by a new session, unless its step was decided: that one stands, and has no text. So
-//! each row ends as it does with ample memory, and what it reads last tells whether anything was lost, or done twice.
+//! A command that is refused memory is sent again by a new session, unless its step was decided:
+//! then it was taken, and has no text. So each row ends as with ample memory, and its last read
+//! shows whether anything was lost or done twice.
 
 ghost use Rattle.std.specs.Prelude.{◌≤◌};
 
@@ -15,10 +16,10 @@ use std::alloc::{AllocError, Global};
 use std::process::Abort;
 use std::test::Fail;
 
-/// What a step is answered that finds no chunk.
+/// The reply to a step without a chunk.
 const NO_CHUNK: &[u8] = b"SERVER_ERROR out of memory storing object\r\n";
 
-/// A world at 1000 of so many pages, asked for again if memory is refused.
+/// Returns a world at 1000 with this many pages. It allocates twice if memory is refused.
 fn world<K: KeyHash + Drop + Copy>(
     alloc: Global,
     hasher: K,
@@ -38,7 +39,7 @@ fn world<K: KeyHash + Drop + Copy>(
     }
 }
 
-/// A world, with the session that asks it.
+/// A world, and the session that sends commands.
 #[derive(Drop)]
 struct Asker<K: KeyHash + Drop> {
     world: World<K>,
@@ -46,14 +47,14 @@ struct Asker<K: KeyHash + Drop> {
 }
 
 impl<K: KeyHash + Drop> Asker<K> {
-    /// Asks that world by its first session.
+    /// Sends commands to that world by its first session.
     fn of(rt: &impl Abort, alloc: Global, world: World<K>) -> Asker<K> {
         let mut asker = Asker { world, session: 0 };
         asker.open_next(rt, alloc);
         asker
     }
 
-    /// Opens the next session, and asks by that. One that is refused memory isn't opened, and is opened when it is asked for again.
+    /// Opens the next session, and sends commands by it. It tries again if memory is refused.
     fn open_next(&mut self, rt: &impl Abort, alloc: Global) {
         let opened = self.world.session_count();
         if self.world.run(alloc, &[Event::Open]).is_err() {
@@ -73,7 +74,7 @@ impl<K: KeyHash + Drop> Asker<K> {
         self.world.run(alloc, &[piece, Event::Turn(self.session)])
     }
 
-    /// Its session is told that, which is then written.
+    /// Checks the session's output, which is then written.
     fn is_told(&mut self, rt: &impl Abort, text: &[u8]) {
         let out = self.world.out(self.session);
         assert!(rt; out == text, "another text");
@@ -81,7 +82,7 @@ impl<K: KeyHash + Drop> Asker<K> {
         self.world.sent(self.session, written);
     }
 
-    /// Its session was refused and is closed with no text. Another one asks from then on.
+    /// Checks that the session was refused, and is closed without a text. Then opens another one.
     fn is_refused(&mut self, rt: &impl Abort, alloc: Global, refused: &Refused) {
         assert!(rt; refused.session == Some(self.session), "another session");
         assert!(rt; self.world.is_closed(self.session), "it is open");
@@ -92,7 +93,7 @@ impl<K: KeyHash + Drop> Asker<K> {
         self.open_next(rt, alloc);
     }
 
-    /// Sends a command, and returns whether its step stands.
+    /// Sends a command, and returns whether its step was taken.
     fn stands(&mut self, rt: &impl Abort, alloc: Global, command: &[u8], text: &[u8]) -> bool {
         match self.send(alloc, command) {
             Ok(()) => {
@@ -106,7 +107,7 @@ impl<K: KeyHash + Drop> Asker<K> {
         }
     }
 
-    /// Sends a command until it is answered that, or its step stands without an answer.
+    /// Sends a command until it has this reply, or its step is taken without a text.
     fn answers(&mut self, rt: &impl Abort, alloc: Global, command: &[u8], text: &[u8]) {
         if !self.stands(rt, alloc, command, text) {
             let stands = self.stands(rt, alloc, command, text);
@@ -114,7 +115,7 @@ impl<K: KeyHash + Drop> Asker<K> {
         }
     }
 
-    /// Sends commands one after another, and then one that reads, until that is answered.
+    /// Sends commands in order, and then one that reads, until it has the expected reply.
     fn rows(
         &mut self,
         rt: &impl Abort,
@@ -134,10 +135,10 @@ impl<K: KeyHash + Drop> Asker<K> {
     }
 }
 
-/// A command, and what it is answered.
+/// A command, and its reply.
 type Row<'a> = (&'a [u8], &'a [u8]);
 
-/// A new world of so many pages answers these, and then one that reads.
+/// Checks the replies to these in a new world with this many pages, and then to one that reads.
 fn are_answered(
     rt: &impl Abort,
     alloc: Global,
@@ -195,7 +196,7 @@ fn a_number_that_leaves_its_class_finds_no_chunk(rt: HostRuntime) -> Result<(), 
     are_answered(&rt, rt.alloc(), 1, &ROWS, READ)
 }
 
-/// Bytes of three parts, the middle one 600000 times a letter, asked for again if memory is
+/// Returns three parts; the middle one is a letter 600000 times. It allocates twice if memory is
 /// refused.
 fn around(alloc: Global, front: &[u8], letter: u8, behind: &[u8]) -> Result<Vec<u8>, AllocError> {
     match around_once(alloc, front, letter, behind) {
@@ -217,8 +218,9 @@ fn around_once(
     Ok(bytes)
 }
 
-/// A world of one page stores the first of these, finds no room for a small item nor for the second,
-/// and then gets the first.
+/// Checks that a world of one page stores the first of these items.
+///
+/// Then there is no room for a small item nor for the second, and a get finds the first.
 fn first_is_held<'a>(
     rt: &impl Abort,
     alloc: Global,

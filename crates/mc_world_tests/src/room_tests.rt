@@ -14,7 +14,7 @@ use std::alloc::Global;
 use std::process::Abort;
 use std::test::Fail;
 
-/// Session 1 sets a key to 600000 bytes at a second, and is answered that.
+/// Sets a key to 600000 bytes by session 1 at a second, and checks the reply.
 fn large_set_answers(
     rt: &impl Abort,
     alloc: Global,
@@ -29,14 +29,14 @@ fn large_set_answers(
     Ok(())
 }
 
-/// Fills a page at 1000 with an item that is dead at 1001, and so another key finds no room then.
+/// Fills a page at 1000 with an item that is dead at 1001, so another key finds no room.
 fn fill(rt: &impl Abort, alloc: Global, world: &mut World<Fnv>) -> Result<(), Fail> {
     run(world, alloc, &[Event::Open])?;
     large_set_answers(rt, alloc, world, (1000, 'b', 1), "STORED\r\n")?;
     large_set_answers(rt, alloc, world, (1001, 'c', 0), NO_CHUNK)
 }
 
-/// Fills a page, and runs acts. Then a key of 600000 bytes is set, and session 1 was told that.
+/// Fills a page, and runs acts. Then sets a key to 600000 bytes by session 1, and checks the reply.
 fn room_is_made_in(
     rt: &impl Abort,
     alloc: Global,
@@ -50,7 +50,7 @@ fn room_is_made_in(
     large_set_answers(rt, alloc, world, (1001, key, 0), output)
 }
 
-/// The same, in a new world whose store is set up so, of one page.
+/// The same, in a new world whose store has these settings, with one page.
 fn room_is_made(
     rt: &impl Abort,
     alloc: Global,
@@ -63,7 +63,7 @@ fn room_is_made(
     room_is_made_in(rt, alloc, &mut world, acts, key, output)
 }
 
-/// How a store is set up, which shelf of it is purged, and what a set is told then.
+/// The settings of a store, the shelf that is purged, and the reply to a set afterwards.
 type Purged = (Settings, u32, &'static str);
 
 #[test]

@@ -1,4 +1,4 @@
-//! Whole runs of sessions of a world. A test may refuse one growth.
+//! Whole runs of a world's sessions. A test may refuse one allocation.
 
 use mc_hop::Fnv;
 use mc_session::ServeFault;
@@ -11,7 +11,7 @@ use std::io::ErrorKind;
 use std::process::Abort;
 use std::test::Fail;
 
-/// More calls than a test makes.
+/// More calls than any test makes.
 const NEVER: usize = 10000;
 
 fn world(alloc: Global) -> Result<World<Fnv>, AllocError> {
@@ -23,7 +23,7 @@ fn world(alloc: Global) -> Result<World<Fnv>, AllocError> {
     World::new(alloc, settings, Fnv, Moment::from_seconds(1000))
 }
 
-/// How a run over that reader and writer ends, and what it wrote.
+/// Serves a session over this reader and writer, and returns how it ends and what it wrote.
 fn run(
     alloc: Global,
     world: &mut World<Fnv>,
@@ -41,7 +41,7 @@ fn run(
     Ok((ended, writer.into_taken()))
 }
 
-/// The same, of a run that finds memory: one that doesn't ends the test.
+/// The same for a run with enough memory: a refusal ends the test.
 fn run_with_memory(
     alloc: Global,
     world: &mut World<Fnv>,
@@ -55,7 +55,7 @@ fn run_with_memory(
     }
 }
 
-/// What a session of a world writes, which is served whole.
+/// Returns the output of a world's session that is served whole.
 fn served(
     rt: &impl Abort,
     alloc: Global,
@@ -67,15 +67,16 @@ fn served(
     Ok(out)
 }
 
-/// Another session of that world is served.
+/// Serves another session of that world.
 fn next_is_served(rt: &impl Abort, alloc: Global, world: &mut World<Fnv>) -> Result<(), Fail> {
     let text = served(rt, alloc, world, b"version\r\n")?;
     assert!(rt; text.as_slice() == b"VERSION 1.6.0\r\n".as_slice());
     Ok(())
 }
 
-/// A session that went well is closed and has nothing to be written. If a growth was refused it is
-/// closed, if it was opened, and the world serves the next one.
+/// Checks a session that succeeded: it is closed, and all of its output is written.
+///
+/// After a refusal it is closed, if it was opened, and the world serves the next one.
 fn is_left_well(
     rt: &impl Abort,
     alloc: Global,
@@ -91,8 +92,9 @@ fn is_left_well(
     next_is_served(rt, alloc, world)
 }
 
-/// Returns whether the first run of a world went well, and what it wrote; nothing if the run has no
-/// reader or writer for want of memory.
+/// Returns whether the first run of a world succeeded, and its output.
+///
+/// It is `None` if memory for the reader or the writer was refused.
 fn first_of(
     rt: &impl Abort,
     alloc: Global,
@@ -107,7 +109,7 @@ fn first_of(
     Ok(Some((is_whole, part)))
 }
 
-/// The same of a new world; nothing if there is none.
+/// The same for a new world; `None` if there is none.
 fn first(rt: &impl Abort, alloc: Global, input: &[u8]) -> Result<Option<(bool, Vec<u8>)>, Fail> {
     match world(alloc) {
         Ok(mut world) => first_of(rt, alloc, &mut world, input),
@@ -115,8 +117,9 @@ fn first(rt: &impl Abort, alloc: Global, input: &[u8]) -> Result<Option<(bool, V
     }
 }
 
-/// What a run of a new world that is well writes. If a growth was refused, what was written is a
-/// beginning of that.
+/// Returns the output of a new world's run that succeeds.
+///
+/// After a refusal it is a beginning of that.
 fn written(rt: &impl Abort, alloc: Global, input: &[u8]) -> Result<Vec<u8>, Fail> {
     match first(rt, alloc, input)? {
         Some((true, whole)) => Ok(whole),
@@ -129,18 +132,18 @@ fn written(rt: &impl Abort, alloc: Global, input: &[u8]) -> Result<Vec<u8>, Fail
     }
 }
 
-/// What a run writes, once no growth is refused any more.
+/// Returns the output of a run without a refusal.
 fn again(rt: &impl Abort, alloc: Global, input: &[u8]) -> Result<Vec<u8>, Fail> {
     let mut world = world(alloc)?;
     served(rt, alloc, &mut world, input)
 }
 
-/// That input is answered so.
+/// Checks the output for an input.
 fn is_output(rt: &impl Abort, out: &[u8], input: &str, output: &str) {
     assert_eq!(rt; out, output.as_bytes(), "at {input}");
 }
 
-/// A new world writes that.
+/// Checks the output of a new world.
 fn row_is_written(rt: &impl Abort, alloc: Global, input: &str, output: &str) -> Result<(), Fail> {
     let out = written(rt, alloc, input.as_bytes())?;
     is_output(rt, &out, input, output);
@@ -155,7 +158,8 @@ fn rows_are_written(rt: HostRuntime) -> Result<(), Fail> {
     Ok(())
 }
 
-/// Serves a session whose read fails behind so many bytes, and is closed then. Gives what it wrote.
+/// Serves a session whose read fails after some bytes, and which is then closed. Returns its
+/// output.
 fn read_fails(
     rt: &impl Abort,
     alloc: Global,
@@ -164,7 +168,7 @@ fn read_fails(
     reads: usize,
 ) -> Result<Vec<u8>, Fail> {
     let (ended, out) = run_with_memory(alloc, world, input, reads, NEVER)?;
-    // A session that was closed reads no further.
+    // A closed session reads no further.
     assert!(rt; matches!(ended, Ok(()) | Err(ServeFault::Read)));
     assert!(rt; world.is_closed(1));
     Ok(out)
@@ -181,7 +185,7 @@ fn written_until_read_fails(
     read_fails(rt, alloc, &mut world, input, reads)
 }
 
-/// A front of the input is answered if the read behind it fails.
+/// Checks that a front of the input is answered if the read after it fails.
 fn front_is_answered(
     rt: &impl Abort,
     alloc: Global,
@@ -212,7 +216,8 @@ fn a_failed_read_leaves_what_came_before_answered(rt: HostRuntime) -> Result<(),
     Ok(())
 }
 
-/// Serves a session whose write fails behind so many bytes, and is closed then. Gives what it wrote.
+/// Serves a session whose write fails after some bytes, and which is then closed. Returns what it
+/// wrote.
 fn write_fails(
     rt: &impl Abort,
     alloc: Global,
@@ -226,7 +231,7 @@ fn write_fails(
     Ok(out)
 }
 
-/// What was written is a front of the output of that length, and what is left goes on with it.
+/// Checks that what was written is a front of the output of that length, and the rest is left.
 fn goes_on(
     rt: &impl Abort,
     written: Vec<u8>,
@@ -242,7 +247,7 @@ fn goes_on(
     Ok(())
 }
 
-/// A write that fails behind so many bytes leaves the rest in the output of its session.
+/// Checks that a write that fails after some bytes leaves the rest in its session's output.
 fn rest_is_left_in(
     rt: &impl Abort,
     alloc: Global,
@@ -269,7 +274,7 @@ fn a_failed_write_leaves_the_rest_in_the_output(rt: HostRuntime) -> Result<(), F
     Ok(())
 }
 
-/// The next session of a world writes that.
+/// Checks the output of the next session of a world.
 fn session_writes(
     rt: &impl Abort,
     alloc: Global,
@@ -282,7 +287,7 @@ fn session_writes(
     Ok(())
 }
 
-/// Three sessions were opened, and are closed with nothing to be written.
+/// Checks that three sessions were opened, are closed, and have no output left.
 fn three_are_closed(rt: &impl Abort, world: &World<Fnv>) {
     assert!(rt; world.session_count() == 3);
     for session in 1..4 {
@@ -290,7 +295,7 @@ fn three_are_closed(rt: &impl Abort, world: &World<Fnv>) {
     }
 }
 
-/// Three sessions of a world write what their rows say, and are closed.
+/// Checks that three sessions of a world write their rows' output, and are closed.
 fn three_write(
     rt: &impl Abort,
     alloc: Global,

@@ -1,8 +1,8 @@
-//! How the stores of tests are set up.
+//! Settings of the stores of tests.
 
 use mc_shelf::Settings;
 
-/// How stores of one shelf, of 64 and of 256 are set up.
+/// Settings of stores with one shelf, 64 and 256.
 pub(crate) const ONE: Settings = Settings {
     pages: 64,
     greatest: Settings::GREATEST,
@@ -23,7 +23,7 @@ pub(crate) const MANY: Settings = Settings {
 
 pub(crate) const EACH: [Settings; 3] = [ONE, SOME, MANY];
 
-/// The same of one page.
+/// The same with one page.
 pub(crate) const ONE_SMALL: Settings = Settings {
     pages: 1,
     greatest: Settings::GREATEST,

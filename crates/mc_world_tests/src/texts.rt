@@ -1,31 +1,31 @@
-//! Texts that sessions are sent and told.
+//! Input and output of sessions.
 
 use std::alloc::{AllocError, Global};
 
-/// What a step is answered that finds no chunk.
+/// The reply to a step without a chunk.
 pub(crate) const NO_CHUNK: &str = "SERVER_ERROR out of memory storing object\r\n";
 
-/// What a session is told of `get a` if the set of `a` stands, and if it doesn't.
+/// The reply to `get a` if the set of `a` was taken, and if it wasn't.
 pub(crate) const HIT: &[u8] = b"VALUE a 0 1\r\nx\r\nEND\r\n";
 
 pub(crate) const MISS: &[u8] = b"END\r\n";
 
-/// What sets the key of a number to its two digits.
+/// Returns the command that sets the key of a number to its two digits.
 pub(crate) fn set_of(alloc: Global, number: u32) -> Result<String, AllocError> {
     format!(in alloc; "set k{number:02} 0 0 2\r\n{number:02}\r\n")
 }
 
-/// What gets the key of a number.
+/// Returns the command that gets the key of a number.
 pub(crate) fn get_of(alloc: Global, number: u32) -> Result<String, AllocError> {
     format!(in alloc; "get k{number:02}\r\n")
 }
 
-/// What the key of a number is found to be.
+/// Returns the reply to a get of a number's key.
 pub(crate) fn hit_of(alloc: Global, number: u32) -> Result<String, AllocError> {
     format!(in alloc; "VALUE k{number:02} 0 2\r\n{number:02}\r\nEND\r\n")
 }
 
-/// A line that sets a key to 600000 bytes, and they: an item of the class of whole pages.
+/// Returns a set of a key to 600000 bytes: an item in the class of whole pages.
 pub(crate) fn large_set(
     alloc: Global,
     key: char,

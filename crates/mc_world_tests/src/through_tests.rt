@@ -1,5 +1,4 @@
-//! Runs that go on past refusals. A test that compares a whole run ends early if memory is
-//! refused.
+//! Runs that go on past refusals. A test of a whole run ends early if memory is refused.
 
 use crate::texts::{HIT, MISS, get_of, hit_of, large_set, set_of};
 use crate::told::{is_told, second_finds};
@@ -15,8 +14,9 @@ const SET: &[u8] = b"set a 0 0 1\r\nx\r\n";
 
 const GET: &[u8] = b"get a\r\n";
 
-/// Takes a turn of session 1 that sets `a`, compares what it is told, and gives what another one
-/// has to find: what was written, if a refusal says that the step was decided, and else nothing.
+/// Takes a turn of session 1 that sets `a`, checks its output, and returns what another must find.
+///
+/// That is what was written, if a refusal has `decided`, and else nothing.
 fn set_turn(rt: &impl Abort, alloc: Global, world: &mut World<Fnv>) -> &'static [u8] {
     let (told, found) = match world.run(alloc, &[Event::Turn(1)]) {
         Ok(()) => (b"STORED\r\n".as_slice(), HIT),
@@ -27,7 +27,7 @@ fn set_turn(rt: &impl Abort, alloc: Global, world: &mut World<Fnv>) -> &'static 
     found
 }
 
-/// Session 1 sets `a`, and another one finds it if that stands.
+/// Sets `a` by session 1. Another session finds it if that step was taken.
 fn second_finds_what_stands(
     rt: &impl Abort,
     alloc: Global,
@@ -38,15 +38,14 @@ fn second_finds_what_stands(
     second_finds(rt, alloc, world, found)
 }
 
-/// If a refusal says that the step was decided, another session finds what it wrote, and else it
-/// finds nothing.
+/// If a refusal has `decided`, another session finds what it wrote, and else it finds nothing.
 #[test]
 fn a_decided_step_stands_where_it_was_refused(rt: HostRuntime) -> Result<(), Fail> {
     let mut world = opened_twice(rt.alloc())?;
     second_finds_what_stands(&rt, rt.alloc(), &mut world)
 }
 
-/// A session that was refused is closed and told nothing, and the other one is answered.
+/// Checks that a refused session is closed without output, and the other one has its reply.
 fn both_are_told(rt: &impl Abort, world: &World<Fnv>) {
     let told: &[u8] = if world.is_closed(1) {
         b""
@@ -62,7 +61,7 @@ fn both_are_told(rt: &impl Abort, world: &World<Fnv>) {
     }
 }
 
-/// Session 1 sets `a` and session 2 gets it, by one run, which counts those that were refused.
+/// Sets `a` by session 1 and gets it by session 2 in one run, which counts the refusals.
 fn set_and_get(rt: &impl Abort, alloc: Global, world: &mut World<Fnv>) {
     let events = [
         Event::Piece(1, Bytes::of(SET)),
@@ -83,7 +82,7 @@ fn a_run_goes_on_past_a_refusal(rt: HostRuntime) -> Result<(), Fail> {
     Ok(())
 }
 
-/// Takes all events, and compares what session 1 is told. None is refused, or the test ends.
+/// Runs all events, and compares the output of session 1. After a refusal the test ends.
 fn tells<K: KeyHash + Drop>(
     rt: &impl Abort,
     alloc: Global,
@@ -99,7 +98,7 @@ fn tells<K: KeyHash + Drop>(
     Ok(())
 }
 
-/// What a full store is asked: to store an item of the one page, and then what finds no room.
+/// Returns commands for a store of one page: one fills the page, and the next finds no room.
 fn full_store_asked(alloc: Global) -> Result<Vec<u8>, AllocError> {
     let mut input = large_set(alloc, 'b', 0, b'x')?;
     input.extend_from_slice(b"set s 0 0 1\r\ny\r\n")?;
@@ -108,7 +107,7 @@ fn full_store_asked(alloc: Global) -> Result<Vec<u8>, AllocError> {
     Ok(input)
 }
 
-/// What it tells.
+/// Returns the output of these.
 fn full_store_told(alloc: Global) -> Result<Vec<u8>, AllocError> {
     let no_room = b"SERVER_ERROR out of memory storing object\r\n";
     let mut output = Vec::new(alloc);
@@ -147,7 +146,7 @@ fn a_full_store_is_no_refusal(rt: HostRuntime) -> Result<(), Fail> {
     full_store_tells(&rt, rt.alloc(), &input, &output)
 }
 
-/// Forty keys that are set and then got.
+/// Returns commands that set and then get forty keys.
 fn forty_keys_asked(alloc: Global) -> Result<Vec<u8>, AllocError> {
     let mut input = Vec::new(alloc);
     for key in 1..41 {
@@ -159,7 +158,7 @@ fn forty_keys_asked(alloc: Global) -> Result<Vec<u8>, AllocError> {
     Ok(input)
 }
 
-/// What is told of them.
+/// Returns the output of these.
 fn forty_keys_told(alloc: Global) -> Result<Vec<u8>, AllocError> {
     let mut output = Vec::new(alloc);
     for _key in 1..41 {
@@ -171,7 +170,7 @@ fn forty_keys_told(alloc: Global) -> Result<Vec<u8>, AllocError> {
     Ok(output)
 }
 
-/// Opens session 1, brings this to it, and takes eighty turns, each with growth behind it.
+/// Opens session 1, brings this to it, and takes eighty turns, each followed by growth.
 fn turns_with_growth(alloc: Global, input: &[u8]) -> Result<Vec<Event<'_>>, AllocError> {
     let mut events = Vec::new(alloc);
     events.push(Event::Open)?;
@@ -183,7 +182,7 @@ fn turns_with_growth(alloc: Global, input: &[u8]) -> Result<Vec<Event<'_>>, Allo
     Ok(events)
 }
 
-/// A world of one hash tells that, while it grows.
+/// Checks the output of a world of one hash, while it grows.
 fn growing_tells(rt: &impl Abort, alloc: Global, input: &[u8], output: &[u8]) -> Result<(), Fail> {
     let events = turns_with_growth(alloc, input)?;
     let mut world = world(alloc, Constant(0))?;

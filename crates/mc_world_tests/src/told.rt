@@ -1,4 +1,4 @@
-//! What sessions are told, compared.
+//! Checks of sessions' outputs.
 
 use crate::worlds::{ask, run};
 use mc_hop::{Constant, Fnv, KeyHash};
@@ -8,7 +8,7 @@ use std::alloc::Global;
 use std::process::Abort;
 use std::test::Fail;
 
-/// This is what is to be written of a session.
+/// Checks a session's output that isn't written yet.
 pub(crate) fn is_told<K: KeyHash + Drop>(
     rt: &impl Abort,
     world: &World<K>,
@@ -18,7 +18,7 @@ pub(crate) fn is_told<K: KeyHash + Drop>(
     assert_eq!(rt; world.out(session), output, "of session {session}");
 }
 
-/// Session 1 is idle and is told this, which is then written.
+/// Checks that session 1 is idle and has this output, which is then written.
 pub(crate) fn tells<K: KeyHash + Drop>(rt: &impl Abort, world: &mut World<K>, output: &str) {
     assert!(rt; world.is_idle(1));
     is_told(rt, world, 1, output.as_bytes());
@@ -27,7 +27,7 @@ pub(crate) fn tells<K: KeyHash + Drop>(rt: &impl Abort, world: &mut World<K>, ou
     assert!(rt; world.out(1).is_empty());
 }
 
-/// A piece of session 1, so many turns of it at a moment, and what they are answered.
+/// Brings a piece to session 1, takes some turns of it at a moment, and checks the output.
 pub(crate) fn answers<K: KeyHash + Drop>(
     rt: &impl Abort,
     alloc: Global,
@@ -41,7 +41,7 @@ pub(crate) fn answers<K: KeyHash + Drop>(
     Ok(())
 }
 
-/// Asks a world of one hash for a key, and grows its shelf.
+/// Sends a command on a key to a world of one hash, and grows its shelf.
 pub(crate) fn answers_and_grows(
     rt: &impl Abort,
     alloc: Global,
@@ -54,7 +54,7 @@ pub(crate) fn answers_and_grows(
     Ok(())
 }
 
-/// Session 2 gets `a`, and finds that.
+/// Checks that session 2 gets this for `a`.
 pub(crate) fn second_finds(
     rt: &impl Abort,
     alloc: Global,

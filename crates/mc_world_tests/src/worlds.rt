@@ -1,4 +1,4 @@
-//! Worlds of tests, and what they are asked.
+//! Worlds of tests, and calls on them.
 
 ghost use Rattle.std.specs.Prelude.{◌≤◌};
 
@@ -10,7 +10,7 @@ use mc_time::Moment;
 use mc_world::{Event, World};
 use std::alloc::{AllocError, Global};
 
-/// A world at 1000 whose store is set up so.
+/// Returns a world at 1000 whose store has these settings.
 pub(crate) fn world_with<K: KeyHash + Drop>(
     alloc: Global,
     hasher: K,
@@ -19,12 +19,12 @@ pub(crate) fn world_with<K: KeyHash + Drop>(
     World::new(alloc, settings, hasher, Moment::from_seconds(1000))
 }
 
-/// A world at 1000.
+/// Returns a world at 1000.
 pub(crate) fn world<K: KeyHash + Drop>(alloc: Global, hasher: K) -> Result<World<K>, AllocError> {
     world_of(alloc, hasher, 64)
 }
 
-/// The same, of so many pages.
+/// The same, with this many pages.
 pub(crate) fn world_of<K: KeyHash + Drop>(
     alloc: Global,
     hasher: K,
@@ -40,12 +40,12 @@ pub(crate) fn world_of<K: KeyHash + Drop>(
     world_with(alloc, hasher, settings)
 }
 
-/// A world at 1000 of which session 1 is open.
+/// Returns a world at 1000 with session 1 open.
 pub(crate) fn opened<K: KeyHash + Drop>(alloc: Global, hasher: K) -> Result<World<K>, AllocError> {
     opened_with(alloc, hasher, SOME)
 }
 
-/// The same, whose store is set up so.
+/// The same, whose store has these settings.
 pub(crate) fn opened_with<K: KeyHash + Drop>(
     alloc: Global,
     hasher: K,
@@ -56,14 +56,14 @@ pub(crate) fn opened_with<K: KeyHash + Drop>(
     Ok(world)
 }
 
-/// The same, of which session 2 is open too.
+/// The same, with session 2 open too.
 pub(crate) fn opened_twice(alloc: Global) -> Result<World<Fnv>, AllocError> {
     let mut world = opened(alloc, Fnv)?;
     run(&mut world, alloc, &[Event::Open])?;
     Ok(world)
 }
 
-/// Takes all events, and tells that memory ran out if one was refused.
+/// Runs all events; a refusal is an error.
 pub(crate) fn run<K: KeyHash + Drop>(
     world: &mut World<K>,
     alloc: Global,
@@ -75,7 +75,7 @@ pub(crate) fn run<K: KeyHash + Drop>(
     Ok(())
 }
 
-/// Takes so many turns of session 1.
+/// Takes some turns of session 1.
 pub(crate) fn take_turns<K: KeyHash + Drop>(
     alloc: Global,
     world: &mut World<K>,

@@ -1,4 +1,4 @@
-use Rattle.std.proofs.Common.{ap, is_some, arith}
+use Rattle.std.proofs.Common.{ap, is_some, arith, Ok}
 use Rattle.mc_displace.proofs.displace.bring_near.Goals as goal
 
 pub returns-in-None-clause-stuck : goal.returns-in-None-clause-stuck
@@ -8,3 +8,6 @@ returns-in-None-clause-stuck g c = record {
   empty = c.loop-turn.invariant.empty;
   none = c.movable.ensures.none (ap is_some c.in-None.is);
 }
+
+pub returns-then-free-home-lt32-clause-at_once : goal.returns-then-free-home-lt32-clause-at_once
+returns-then-free-home-lt32-clause-at_once g c = λ small. let kept = c.loop-turn.invariant.near small in (ap Ok kept.1, kept.0)

@@ -23,7 +23,7 @@ returns-in-Ok-Closed-clause-goes g c =
 pub returns-in_ok-write_out-in-Ok-Idle-clause-goes : goal.returns-in_ok-write_out-in-Ok-Idle-clause-goes
 returns-in_ok-write_out-in-Ok-Idle-clause-goes g c = λ other. record {
   goes = λ most first so_far.
-      then_read (c.write_out.ensures.idle (c.in-Ok-Idle.ensures.idle (ap (λ (t : Turn). Ok t) c.in-Ok-Idle.field-0-is))) (c.read_piece.ensures.reads other)
+      then_read (c.write_out.ensures.idle (c.in-Ok-Idle.ensures.idle (ap (λ (t : Turn). Ok t) c.in-Ok-Idle.field-0-is))) c.in_ok-write_out-in-Ok-Idle.ensures.ok (c.read_piece.ensures.reads other)
       (then_wrote c.write_out.ensures.wrote (then_turned c.now.result c.now.ensures c.in_ok-write_much.ensures.ok c.in-Ok-Idle.ensures.ok (then_wrote c.write_much.ensures.wrote so_far)));
 }
 

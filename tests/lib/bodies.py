@@ -1,0 +1,238 @@
+"""Wrong bodies: how they are read and planted in a crate's sources, and how a check's output is judged.
+
+A wrong body is a file `crates/NAME/wrong/BODY.edit`:
+
+    function: expiry::is_expired
+    file: src/expiry.rt
+    old: moment <= now.seconds(),
+    new: moment < now.seconds(),
+
+`function:` names the function that the check must refuse, by the name that a check prints, without the crate. Each `old:` text is one line and
+stands once in its file. The function is refused where a goal of its contract or of its body is not proved, or where a line of its proof
+doesn't fit any more. It is not refused where a name is gone, where the text can't be read, or where only a callee is not proved.
+"""
+import os
+import re
+from dataclasses import dataclass
+
+FN = re.compile(r"fn (\S+): (.*)")
+OTHER = re.compile(r"(struct|enum|trait|impl|union|const|static) \S+: ")
+GOAL = re.compile(r"note: (src/\S+?:\d+:\d+: .*is not proved .*\(`[^`]+`\).*)")
+LINE = re.compile(r"(?:\./)?proofs/(\S+)/(?:Answers|Invariants|Proof)\.antt:(\d+):\d+: error: (.*)")
+# A text of the sources or definitions that can't be read.
+UNREAD = re.compile(r"(?:\./)?((?:src|specs)/\S+?):(\d+):\d+: error(?:\[|: (?!`[^`]*`: ))")
+# What is said of a proof that names what is there no more.
+GONE = re.compile(r"has no field|is not in scope|has no `|was not admitted|is no name|operand is missing|expected the end|cannot continue")
+# A goal of a function's end, whose name no change of a body changes.
+AT_END = re.compile(r"\(`returns(-clause-[\w-]+)?`\)")
+FALSE = "allow values at which this goal is false"
+HEAD = re.compile(r"(\s*)(?:pub(?:\([a-z]+\))? )?(?:const )?(?:unsafe )?fn (\w+)")
+
+
+class Unplanted(Exception):
+    """A wrong body that can't be read or planted."""
+
+
+@dataclass(frozen=True)
+class Body:
+    """A wrong body: its name, the function that must be refused, the changes (file, old, new), and its file's bytes."""
+
+    name: str
+    function: str
+    changes: tuple
+    data: bytes
+
+
+def read(path):
+    """Reads a wrong body from its file."""
+    with open(path, "rb") as file:
+        data = file.read()
+    function, inside, old, changes = "", "", "", []
+    for line in data.decode(errors="replace").split("\n"):
+        word, _, rest = line.partition(":")
+        text = rest.removeprefix(" ")
+        if word == "function":
+            function = text.strip()
+        elif word == "file":
+            inside = text.strip()
+        elif word == "old":
+            old = text
+        elif word == "new" and inside and old:
+            changes.append((inside, old, text))
+            old = ""
+        elif line:
+            raise Unplanted(f"this line is not read: {line[:60]}")
+    if not function or not changes:
+        raise Unplanted("it has no 'function:' line, or no 'file:', 'old:' and 'new:' lines")
+    return Body(os.path.basename(path).removesuffix(".edit"), function, tuple(changes), data)
+
+
+class Sources:
+    """The files of a crate as they stand."""
+
+    def __init__(self, folder):
+        self.folder, self.texts = folder, {}
+
+    def text(self, file):
+        """The text of a file below src/, specs/ or proofs/."""
+        if file not in self.texts:
+            path = os.path.normpath(file)
+            if path != file or not file.startswith(("src/", "specs/", "proofs/")) or not os.path.isfile(f"{self.folder}/{file}"):
+                raise Unplanted(f"there is no file {file}")
+            with open(f"{self.folder}/{file}", encoding="utf-8") as it:
+                self.texts[file] = it.read()
+        return self.texts[file]
+
+    def cuts(self, body):
+        """What a wrong body replaces: the file, where it begins and ends there, and the new text."""
+        found = []
+        for file, old, new in body.changes:
+            text = self.text(file)
+            if text.count(old) != 1:
+                raise Unplanted(f"an 'old:' text stands in {file} {text.count(old)} times, and not once")
+            if old == new:
+                raise Unplanted("an 'old:' and a 'new:' text are the same")
+            at = text.index(old)
+            if new.startswith(old):
+                # what is put behind a text
+                found.append((file, at + len(old), at + len(old), new[len(old):]))
+            else:
+                found.append((file, at, at + len(old), new))
+        return found
+
+    def spots(self, body):
+        """The functions whose bodies a wrong body changes, or None where it changes anything else: a type, a constant, a clause."""
+        found = set()
+        for file, begin, end, new in self.cuts(body):
+            text = self.text(file)
+            if begin == end and new.startswith(" {") and text[end:].lstrip().startswith("{"):
+                # a body that begins behind the last clause
+                begin = end = text.index("{", end)
+            lines = text.count("\n", 0, begin), text.count("\n", 0, end)
+            inside = [it for it in functions(text) if it[1] <= lines[0] and lines[1] <= it[2]]
+            if not inside:
+                return None
+            found.add((file, *inside[-1]))
+        return found if any(name == body.function.rpartition("::")[2] for _, name, _, _ in found) else None
+
+    def planted(self, bodies):
+        """The texts of the files that change, with the bodies planted."""
+        cuts = {}
+        for body in bodies:
+            for file, *cut in self.cuts(body):
+                cuts.setdefault(file, []).append(cut)
+        texts = {}
+        for file, found in cuts.items():
+            text, last = self.text(file), None
+            for begin, end, new in sorted(found, reverse=True):
+                if last is not None and end > last:
+                    raise Unplanted("two changes meet")
+                text, last = text[:begin] + new + text[end:], begin
+            texts[file] = text
+        return texts
+
+    def rounds(self, bodies):
+        """Parts the bodies: those that one check can judge together, since each changes other functions, and those that want one of their own."""
+        together, alone = [], []
+        for body in bodies:
+            spots = self.spots(body)
+            if spots is None:
+                alone.append([body])
+                continue
+            fits = next((it for it in together if not it[1] & spots), None)
+            if fits:
+                fits[0].append(body)
+                fits[1].update(spots)
+            else:
+                together.append(([body], set(spots)))
+        return [it for it, _ in together] + alone
+
+
+def functions(text):
+    """The functions of a source, as `rt fmt` lays it out: the name, and the first and last line of the body, counted from 0."""
+    lines, found = text.split("\n"), []
+    for at, line in enumerate(lines):
+        head = HEAD.match(line)
+        if not head:
+            continue
+        inset, name = head.groups()
+        if line.endswith("}") and "{" in line:
+            found.append((name, at, at))
+            continue
+        for first in range(at, len(lines)):
+            now = lines[first]
+            if now == inset + "{" or now.endswith(" {") and (first == at or now.startswith(f"{inset})") or now.startswith(f"{inset}where")):
+                last = next((it for it in range(first, len(lines)) if lines[it] == inset + "}"), None)
+                if last is not None:
+                    found.append((name, first, last))
+                break
+            if now.endswith(";") and not now.startswith(inset + " ") or now == inset + "}" or first > at and HEAD.match(now):
+                break
+    return found
+
+
+def culprits(output, bodies, sources):
+    """The bodies whose lines are among those that the check can't read."""
+    named = {(found[1], int(found[2])) for found in map(UNREAD.match, output.split("\n")) if found}
+    lost = []
+    for body in bodies:
+        for file, begin, end, new in sources.cuts(body):
+            # a body that is planted above moves a line by as many as it adds, which is none: each change is one line
+            first = sources.text(file).count("\n", 0, begin) + 1
+            if any(name == file and first <= line <= first + new.count("\n") for name, line in named):
+                lost.append(body)
+                break
+    return lost
+
+
+def verdicts(output, crate):
+    """What a check says of each function: whether it is proved, and for what reasons of its own it is not."""
+    goals, found, gone, lines = [], {}, set(), {}
+    for line in output.split("\n"):
+        broken, goal, told = LINE.match(line), GOAL.match(line), FN.match(line)
+        if broken:
+            name = f"{crate}::{broken[1].replace('/', '::')}"
+            why = re.sub(r"`[^`]*`", "`", broken[3])
+            if GONE.search(why):
+                gone.add(name)
+            else:
+                lines.setdefault(name, []).append(f"proofs/{broken[1]}, line {broken[2]}: {broken[3]}")
+        elif goal:
+            goals.append(goal[1])
+        elif told:
+            found[told[1]] = (told[2], goals)
+            goals = []
+        elif OTHER.match(line):
+            goals = []
+    return {name: verdict(told, goals, lines.get(name, []), name in gone) for name, (told, goals) in found.items()}
+
+
+def verdict(told, goals, lines, is_gone):
+    """Whether a function is proved, and why not: by what its line says, the goals that are not proved, and the lines of its proof that don't fit."""
+    if told.startswith("proved"):
+        return True, []
+    if is_gone:
+        # its answers name what is gone, so a goal of one branch may be open for want of an answer under another name
+        goals = [it for it in goals if FALSE in it or AT_END.search(it)]
+    return False, [*goals, *lines]
+
+
+def reason(body, crate, output):
+    """Whether the check refuses a wrong body's function for a reason of its own, and what is to be said of it."""
+    said = verdicts(output, crate)
+    name = f"{crate}::{body.function}"
+    if name not in said:
+        return False, f"there is no function {name}, or its contract isn't read" if said else f"the check doesn't read the crate: {complaint(output)}"
+    is_proved, reasons = said[name]
+    if is_proved:
+        return False, f"STILL PROVED: {name} is proved with this body"
+    if reasons:
+        return True, reasons[0]
+    told = next(it for it in output.split("\n") if it.startswith(f"fn {name}: "))
+    return False, f"refused for no reason of its own: {told}"
+
+
+def complaint(output):
+    """The first line by which a check says that it stopped."""
+    lines = output.strip().split("\n")
+    return next((it for it in lines if "error" in it), lines[-1])[:200]

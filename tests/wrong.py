@@ -1,0 +1,211 @@
+"""Judges the wrong bodies of the crates: `python3 -m tests.wrong [CRATE..] [--only NAME] [--anew]`
+
+Each crate's wrong bodies (`crates/NAME/wrong/`) are planted at once in a copy of its sources, and one check must refuse each one's function for
+a reason of its own (lib/bodies.py). Bodies that change the same function have a further check, and one that changes more than bodies of
+functions has one of its own. Each begins with the work of the one before. What was refused is kept beside the toolchain by the sums of all
+that it rests on, and is not judged again; --anew judges all. --only judges one alone. With a crate's name each reason is printed. The
+environment may name JOBS, how many checks run side by side: as many as there are processors, where it doesn't. The last line is
+`N passed, N failed`; the status is 0 where something passed and nothing failed.
+"""
+import argparse
+import glob
+import os
+import queue
+import shutil
+import sys
+import tempfile
+import threading
+import time
+
+from tests.lib import bodies
+from tests.lib.kit import Copy, Results, Stopped
+
+ROOT = os.path.dirname(os.path.dirname(os.path.realpath(__file__)))
+
+
+class Crate:
+    """A crate whose wrong bodies are judged."""
+
+    def __init__(self, name, copy):
+        self.name, self.sources = name, bodies.Sources(copy.crates[name].folder)
+        # the bodies that were refused, and why; those that weren't, and what is wrong
+        self.refused, self.failed = {}, {}
+        self.kept, self.seconds, self.checks = 0, 0.0, 0
+        # how many checks are to come, and the bodies of those that wait for the work of another
+        self.left, self.later = 0, []
+
+    def read(self, folder, only):
+        """The wrong bodies of a folder that can be planted."""
+        found = []
+        for file in sorted(os.listdir(folder)) if os.path.isdir(folder) else []:
+            name = file.removesuffix(".edit")
+            if only and name != only:
+                continue
+            try:
+                if name == file:
+                    raise bodies.Unplanted("the name of a wrong body ends in .edit")
+                found.append(bodies.read(f"{folder}/{file}"))
+                self.sources.cuts(found[-1])
+            except bodies.Unplanted as error:
+                found = [it for it in found if it.name != name]
+                self.failed[name] = str(error)
+        return found
+
+
+class Run:
+    """The checks of all crates, as many side by side as there are processors."""
+
+    def __init__(self, copy, room, given):
+        self.copy, self.room, self.given = copy, room, given
+        # how many processors a check may use where there are fewer checks than processors
+        self.each = 1
+        self.results = Results(copy)
+        self.tasks, self.turn, self.number = queue.PriorityQueue(), threading.Lock(), 0
+        self.crates = []
+
+    def add(self, crate, found, begin):
+        """Adds a check of bodies, which begins with what a folder holds. Checks of long crates come first."""
+        with self.turn:
+            self.number += 1
+            crate.left += 1
+            self.tasks.put((-self.copy.lines(crate.name), self.number, crate, found, begin))
+
+    def work(self):
+        while True:
+            try:
+                _, number, crate, found, begin = self.tasks.get(timeout=0.2)
+            except queue.Empty:
+                with self.turn:
+                    if not any(it.left for it in self.crates):
+                        return
+                continue
+            began, keep = time.monotonic(), f"{self.room}/{crate.name}-{number}"
+            try:
+                self.judge(crate, found, begin, keep)
+            except Exception as error:  # a fault of this program fails what it judges
+                with self.turn:
+                    crate.failed.update({it.name: f"it couldn't be judged: {error!r}" for it in found})
+            if crate.later:
+                self.add(crate, crate.later.pop(0), keep if os.path.isdir(keep) else begin)
+            with self.turn:
+                crate.left -= 1
+                crate.checks += 1
+                crate.seconds += time.monotonic() - began
+                if not crate.left:
+                    self.tell(crate)
+
+    def judge(self, crate, found, begin, keep):
+        """Judges bodies by one check. What it can't say of each goes into further checks."""
+        only = [] if len(found) > 1 else ["--only", f"{crate.name}::{found[0].function}"]
+        status, output = self.copy.check(crate.name, crate.sources.planted(found), [*only, "--jobs", str(self.each)], begin, keep)
+        said = bodies.verdicts(output, crate.name)
+        if status not in (0, 1, 3) and begin:
+            # what was kept may have changed while it was copied
+            self.add(crate, found, None)
+            return
+        if status not in (0, 1, 3) or not said and len(found) == 1:
+            with self.turn:
+                crate.failed.update({it.name: f"the check ended with status {status}: {bodies.complaint(output)}" for it in found})
+            return
+        if not said:
+            lost = bodies.culprits(output, found, crate.sources)
+            rest = [it for it in found if it not in lost]
+            for part in [[it] for it in lost] + ([rest] if lost else halves(found)):
+                if part:
+                    self.add(crate, part, begin)
+            return
+        again = []
+        for body in found:
+            is_refused, why = bodies.reason(body, crate.name, output)
+            if f"{crate.name}::{body.function}" not in said:
+                with self.turn:
+                    crate.failed[body.name] = why
+            elif is_refused:
+                self.results.keep(crate.name, body, why)
+                with self.turn:
+                    crate.refused[body.name] = why
+            elif len(found) > 1 or begin:
+                again.append(body)
+            else:
+                with self.turn:
+                    crate.failed[body.name] = why
+        # what isn't refused beside others is tried alone, and then from nothing
+        for body in again:
+            self.add(crate, [body], keep if len(found) > 1 else None)
+
+    def tell(self, crate):
+        """Says what came of a crate."""
+        for name, why in sorted(crate.refused.items() if self.given.crates else []):
+            print(f"{crate.name}/{name}: refused: {why}", flush=True)
+        for name, why in sorted(crate.failed.items()):
+            print(f"{crate.name}/{name}: FAILED: {why}", flush=True)
+        kept = f", {crate.kept} of them by an earlier run" if crate.kept else ""
+        checks = f", in {crate.seconds:.0f} s ({crate.checks} check{'s' * (crate.checks != 1)})" if crate.checks else ""
+        print(f"{crate.name}: {len(crate.refused)} wrong bodies refused{kept}, {len(crate.failed)} failed{checks}", flush=True)
+        for folder in glob.glob(f"{glob.escape(self.room)}/{crate.name}-*"):
+            shutil.rmtree(folder, ignore_errors=True)
+
+    def begin(self, names):
+        """Reads the wrong bodies of these crates, and adds the checks of those that weren't judged."""
+        wanted = []
+        for name in names:
+            crate = Crate(name, self.copy)
+            found = crate.read(f"{self.copy.root}/crates/{name}/wrong", self.given.only)
+            for body in [] if self.given.anew or self.given.only else found:
+                why = self.results.find(name, body)
+                if why is not None:
+                    crate.refused[body.name] = why
+            crate.kept = len(crate.refused)
+            found = [it for it in found if it.name not in crate.refused]
+            if found or crate.refused or crate.failed:
+                self.crates.append(crate)
+            wanted.append((crate, found))
+        self.copy.bring_libraries([crate.name for crate, found in wanted if found], self.given.jobs)
+        for crate, found in wanted:
+            first, *crate.later = crate.sources.rounds(found) or [None]
+            if first:
+                self.add(crate, first, self.copy.work(crate.name))
+        self.each = max(self.given.jobs // max(self.tasks.qsize(), 1), 1)
+        for crate in self.crates:
+            if not crate.left:
+                self.tell(crate)
+
+
+def halves(found):
+    middle = len(found) // 2
+    return [found[:middle], found[middle:]]
+
+
+def main(words, root=ROOT):
+    parser = argparse.ArgumentParser(prog="python3 -m tests.wrong", description=__doc__, formatter_class=argparse.RawDescriptionHelpFormatter)
+    parser.add_argument("crates", nargs="*", metavar="CRATE")
+    parser.add_argument("--only", metavar="NAME")
+    parser.add_argument("--anew", action="store_true")
+    given = parser.parse_args(words)
+    given.jobs = int(os.environ.get("JOBS") or len(os.sched_getaffinity(0)))
+    with tempfile.TemporaryDirectory(prefix="mcserver-wrong-") as room:
+        os.mkdir(f"{room}/repository")
+        try:
+            copy = Copy(root, f"{room}/repository")
+            lacking = [it for it in given.crates if it not in copy.crates]
+            if lacking:
+                raise Stopped(f"{lacking[0]} is no crate of crates.txt")
+            run = Run(copy, room, given)
+            run.begin(given.crates or list(copy.crates))
+        except Stopped as error:
+            print(f"wrong bodies: {error}\n0 passed, 1 failed", flush=True)
+            return 1
+        threads = [threading.Thread(target=run.work, daemon=True) for _ in range(given.jobs)]
+        for it in threads:
+            it.start()
+        for it in threads:
+            it.join()
+    passed, failed = (sum(len(getattr(it, kind)) for it in run.crates) for kind in ("refused", "failed"))
+    if not passed and not failed:
+        print("no wrong body has this name, or none is there", flush=True)
+    print(f"{passed} passed, {failed} failed", flush=True)
+    return 0 if passed and not failed else 1
+
+
+if __name__ == "__main__":
+    sys.exit(main(sys.argv[1:]))
