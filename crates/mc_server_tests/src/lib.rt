@@ -11,6 +11,10 @@
 #![tactic(auto)]
 
 #[cfg(test)]
+mod idle_tests;
+#[cfg(test)]
+mod lines_tests;
+#[cfg(test)]
 mod session_tests;
 mod settings;
 #[cfg(test)]
