@@ -1,7 +1,7 @@
 //! What a scrape reads of a store, of connections and of workers, and what a worker counts.
 
 use mc_guests::{Outcome, Tally};
-use mc_metrics::{Counted, Counts, TablesReading};
+use mc_metrics::{Counted, Counts, TablesReading, number_at};
 use mc_protocol::{Bytes, KeyStep, Verb};
 use mc_slab::{Account, Class};
 use mc_sockets::{Crowd, Log, PARTINGS, Refusals, Wanted};
@@ -49,8 +49,9 @@ fn a_scrape_adds_up_workers(rt: HostRuntime) -> Result<(), Fail> {
         since: None,
     };
     let reading = observer.read(&rt, alloc, &mut FixedStats)?;
-    assert!(rt; reading.counts.get(Counted::GetHit.place()) == Some(&7));
-    assert!(rt; reading.counts.get(Counted::GetMiss.place()) == Some(&0));
+    let hits = number_at(&reading.counts, Counted::GetHit.place());
+    let misses = number_at(&reading.counts, Counted::GetMiss.place());
+    assert!(rt; (hits, misses) == (7, 0));
     assert_eq!(rt; reading.closed.len(), PARTINGS);
     let found = (reading.most, reading.connections, reading.accepted);
     assert!(rt; found == (7, 0, 0));
@@ -75,8 +76,9 @@ fn a_scrape_has_the_classes_with_a_page(rt: HostRuntime) -> Result<(), Fail> {
     let Some(slab) = reading.slabs.get(0) else {
         return Err(Fail::new("no class has a page"));
     };
-    assert!(rt; (slab.number, slab.pages, slab.used) == (3, 2, 5));
-    assert!(rt; slab.free == slab.chunks - 5);
+    assert!(rt; (slab.number, slab.size, slab.pages) == (3, 152, 2));
+    // 6898 chunks a page
+    assert!(rt; (slab.chunks, slab.used, slab.free) == (13_796, 5, 13_791));
     Ok(())
 }
 
