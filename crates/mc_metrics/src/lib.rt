@@ -20,6 +20,8 @@
 //!
 //! Begin with `specs/Pages.antt`, `src/page.rt` and `src/reading.rt`; then `specs/Scrapes.antt` and
 //! `src/request.rt`.
+//!
+//! Tests: mc_server_tests, src/telemetry_tests.rt.
 #![tactic(auto)]
 
 mod answer;

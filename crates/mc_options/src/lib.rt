@@ -16,7 +16,7 @@
 //!
 //! Begin with `specs/Asked.antt` and `src/options.rt`.
 //!
-//! Tests: mc_server, src/tests.rt.
+//! Tests: mc_server_tests, src/session_tests.rt.
 #![tactic(auto)]
 
 mod endpoints;

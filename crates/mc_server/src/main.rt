@@ -1,40 +1,35 @@
 //! `mcserver`: a cache server that speaks memcached's text protocol.
 //!
-//! What a client is told is decided and proved in the crates below: the grammar in `mc_parse`, the
+//! What a client is answered is decided and proved in the crates below: the grammar in `mc_parse`, the
 //! protocol's table in `mc_protocol`, the store for many threads in `mc_shared`, the loop of a
 //! worker in `mc_workers`. This crate joins them to a process with sockets and threads. With
 //! `--stdin` it serves one session over standard input and output (`serving.rt`); else it listens
 //! (`listening.rt`).
 //!
-//! Connections are accepted, dealt to workers and made links by `mc_sockets`. Each listener has a
-//! thread that accepts, the first one the program's own; each worker has one (`asker.rt`); and one
-//! writes to standard error, so that none of the others waits for that (`logger.rt`); with
-//! `--metrics` one answers scrapes (`metrics/scrape.rt`).
+//! Connections are accepted, dealt to workers and made links by `mc_sockets`. Metrics and the lines on
+//! standard error are `mc_telemetry`'s. Here is what is made before the first thread starts
+//! (`plan.rt`), the threads (`threads.rt`), and a thread's caller of the store (`client.rt`).
 //!
-//! Nobody can know a socket's bytes, nor when a thread runs, so contracts say here what a program
-//! can promise all the same: that `run` does what the options say, and with `--stdin` serves a
-//! session of a new world; that a step counts as a table says; and that the status is that of the
-//! end. The rest is tested over sockets (tests/sockets), and docs/PROMISES.md says which is which.
+//! A socket's bytes and the scheduling of threads are unspecified, so contracts cover the rest: that
+//! `run` does what the options say, and with `--stdin` serves a session of a new world; and that the
+//! status is that of the end. The rest is tested over sockets (tests/sockets), and docs/GAPS.md
+//! says which is which.
 //!
 //! Begin with `running.rt`, `serving.rt` and `listening.rt`.
+//!
+//! Tests: mc_server_tests, src/tcp_tests.rt.
 #![tactic(auto)]
 
 ghost use Rattle.std.specs.Prelude.{◌≡◌};
 ghost use Rattle.std.specs.Process.{exit_status};
 ghost use Rattle.mc_host.specs.Ends.{status_of};
 
-mod asker;
-mod full;
-mod heard;
+mod client;
 mod listening;
-mod logger;
-mod metrics;
+mod plan;
 mod running;
 mod serving;
-#[cfg(test)]
-mod tcp_tests;
-#[cfg(test)]
-mod tests;
+mod threads;
 
 use clap::error::ErrorKind;
 use mc_host::{End, Refusal};
@@ -51,7 +46,7 @@ fn main(rt: HostRuntime) -> ExitCode {
     tell_end(&rt, &end)
 }
 
-/// What the command line asks for; or how the program ends without it.
+/// Returns what the command line asks for, or how the program ends without that.
 fn read_options(rt: &HostRuntime) -> Result<Options, End> {
     let words = words(rt)?;
     match mc_options::parse_options(rt.alloc(), words.as_slice()) {
@@ -61,15 +56,15 @@ fn read_options(rt: &HostRuntime) -> Result<Options, End> {
     }
 }
 
-/// The words of the command line, the program's own name first; or how the program ends without
+/// Returns the words of the command line, the program's name first, or how the program ends without
 /// them.
 fn words(rt: &HostRuntime) -> Result<Vec<String>, End> {
     let words = env::args(rt).map_err(End::of_words)?;
     Ok(words.collect(rt.alloc())?)
 }
 
-/// Prints what `clap` says of the command line: help on standard output, a mistake on standard
-/// error. Of want of memory it says nothing.
+/// Prints the text of `clap`: help to standard output, a mistake to standard error. It prints nothing
+/// if memory is refused.
 fn print_fault(rt: &HostRuntime, error: &clap::Error) -> io::Result<()> {
     if error.kind() == ErrorKind::OutOfMemory {
         return Ok(());
@@ -77,12 +72,12 @@ fn print_fault(rt: &HostRuntime, error: &clap::Error) -> io::Result<()> {
     error.print(rt)
 }
 
-/// Says how the program ends, and gives its status.
+/// Prints why the program ends, and returns its status.
 fn tell_end(rt: &HostRuntime, end: &End) -> ExitCode
     ensures { exit_status result ≡ status_of end.now }
 {
     let (status, text) = end.ending();
-    // if standard error is closed too, the status alone tells
+    // if standard error is closed too, only the status is left
     let _ = if let End::CannotListen(refusal) = end {
         let Refusal { endpoint, why } = *refusal;
         let reason = why.reason();

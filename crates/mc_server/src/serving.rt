@@ -10,8 +10,7 @@ use mc_world::{World, serve_one};
 use std::alloc::Global;
 use std::io::{Read, Write};
 
-/// Serves one session over the reader and the writer, to its end, in a new world whose store is set up
-/// so, at the clock's moments.
+/// Serves one session in a new world with these settings, until it ends. Time is the clock's.
 pub fn serve<R: Read, W: Write, C: Clock>(
     alloc: Global,
     settings: Settings,
@@ -26,7 +25,7 @@ pub fn serve<R: Read, W: Write, C: Clock>(
     End::Served(session(alloc, settings, reader, writer, clock))
 }
 
-/// How a session in a new world ends.
+/// Serves one session in a new world. Returns how it ended.
 fn session<R: Read, W: Write, C: Clock>(
     alloc: Global,
     settings: Settings,

@@ -13,6 +13,8 @@
 //! (tests/sockets).
 //!
 //! Begin with `src/arrivals.rt`, `src/links.rt` and `src/channel.rt`.
+//!
+//! Tests: mc_server_tests, src/lines_tests.rt.
 #![tactic(auto)]
 
 mod accepting;
@@ -21,11 +23,7 @@ mod channel;
 mod closing;
 mod connection;
 mod idle;
-#[cfg(test)]
-mod idle_tests;
 mod lines;
-#[cfg(test)]
-mod lines_tests;
 mod link;
 mod links;
 mod log;
@@ -37,7 +35,8 @@ pub use accepting::{accept_all, accept_beside};
 pub use arrivals::{Arrivals, Inbox, Share};
 pub use closing::ClosingLinks;
 pub use connection::{Connection, Crowd, PARTINGS, Parting};
-pub use lines::{Line, Waiting};
+pub use idle::Watch;
+pub use lines::{Line, Lines, Waiting};
 pub use link::SocketLink;
 pub use links::{EVENTS, SocketLinks, WAKER};
 pub use log::Log;

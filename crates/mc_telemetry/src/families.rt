@@ -1,5 +1,5 @@
-//! The table of what is told. Where it means the same, the names are those of Prometheus' exporter for
-//! memcached.
+//! The table of metrics. Where a metric means the same as one of Prometheus' exporter for memcached, it
+//! has that one's name.
 
 use Counted as C;
 use Figure::{Closed, Count};
@@ -66,7 +66,7 @@ const REASONS: &[(&str, Figure)] = &[
     (r#"{reason="hoarding"}"#, Closed(Parting::Hoarding as usize)),
 ];
 
-/// What is told, in this order.
+/// The metrics of a page, in this order.
 pub const FAMILIES: [Family; 27] = [
     Family(
         Gauge,

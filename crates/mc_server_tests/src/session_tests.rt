@@ -1,34 +1,29 @@
-//! What is served of a command line, over streams that a test holds.
+//! One session over streams in memory, by the clock of a command line, and how it ends.
 
-use crate::serving::serve;
+use crate::settings::ONE;
+use mc_hop::Fnv;
 use mc_host::{AskedClock, End};
 use mc_options::{Asked, Endpoints, Options};
 use mc_session::ServeFault;
-use mc_shelf::Settings;
 use mc_testing::{Drip, Sip};
-use mc_time::{Fixed, Moment};
+use mc_time::{Clock, Fixed, Moment};
+use mc_world::{World, serve_one};
 use std::alloc::{AllocError, Global};
 use std::io::ErrorKind;
 use std::test::Fail;
 
-/// What is read, and what must be written. The item expires at second 3000000.
+/// The input, and the output if the item hasn't expired. It expires at second 3000000.
 const INPUT: &str = "set a 5 3000000 3\r\nabc\r\nget a\r\n";
 
 const ALIVE: &str = "STORED\r\nVALUE a 5 3\r\nabc\r\nEND\r\n";
 
+/// The output if the item has expired.
 const DEAD: &str = "STORED\r\nEND\r\n";
-
-/// A store of one page.
-const SETTINGS: Settings = Settings {
-    pages: 1,
-    greatest: Settings::GREATEST,
-    shelves: 64,
-};
 
 /// The clock that is the system's in these tests.
 const SYSTEM: u64 = 2_999_999;
 
-/// How a session is served with the clock that is asked for.
+/// Serves a session in a new world by the clock that is asked for. Returns how the program ends.
 fn served(
     alloc: Global,
     now: Option<u64>,
@@ -50,12 +45,15 @@ fn served(
         verbose: false,
     };
     let endpoints = Endpoints::new(alloc, &[], None)?;
-    let options = Options::new(asked, SETTINGS, endpoints);
+    let options = Options::new(asked, ONE, endpoints);
     let clock = AskedClock {
         asked: options.now,
         system: Fixed(Moment::from_seconds_at_most(SYSTEM)),
     };
-    Ok(serve(alloc, options.settings, reader, writer, &clock))
+    let Ok(mut world) = World::new(alloc, options.settings, Fnv, clock.now()) else {
+        return Err(AllocError);
+    };
+    Ok(End::Served(serve_one(alloc, reader, writer, &mut world, &clock)))
 }
 
 #[test]

@@ -1,7 +1,6 @@
 //! Which lines wait, and how many are counted as dropped.
 
-use crate::connection::Parting;
-use crate::lines::{Line, Lines, Waiting};
+use mc_sockets::{Line, Lines, Parting, Waiting};
 use std::test::*;
 
 /// Appends a line of the connection with this number.

@@ -1,4 +1,7 @@
 //! A caller with its store.
+//!
+//! A thread's caller and its store are one value whose invariant ties them, so closures and loops that
+//! pass callers on need no clauses.
 ghost use Rattle.std.specs.Prelude.{◌≡◌};
 
 use mc_guests::Tally;
@@ -7,6 +10,7 @@ use mc_metrics::TablesReading;
 use mc_shared::{Caller, Shared};
 use mc_slab::{Account, Class};
 use mc_sockets::ClosingLinks;
+use mc_telemetry::StoreStats;
 use mc_time::Clock;
 use mc_workers::{NoGate, Worker};
 use std::alloc::Global;
@@ -14,17 +18,17 @@ use std::marker::Model;
 use std::sync::Wait;
 use std::time;
 
-/// How many homes a shelf's first table has. Each growth makes twice as many.
+/// The homes of a shelf's first table. Each growth doubles them.
 const FIRST_HOMES: u64 = 64;
 
 /// A caller of a store, with the store.
 #[derive(Drop)]
-pub struct Asker<'a> {
+pub struct StoreClient<'a> {
     shared: &'a Shared<Fnv>,
     caller: Caller,
 }
 
-impl<'a> Model for Asker<'a> {
+impl<'a> Model for StoreClient<'a> {
     ghost use Rattle.std.specs.Prelude.{◌≡◌};
 
     ghost Value = { Unit {0} };
@@ -34,37 +38,23 @@ impl<'a> Model for Asker<'a> {
     ghost invariant = { λ a. a.caller.table ≡ a.shared.now.table };
 }
 
-impl<'a> Asker<'a> {
-    /// Takes a caller of this store.
-    pub fn new(shared: &'a Shared<Fnv>, caller: Caller) -> Asker<'a>
+impl<'a> StoreClient<'a> {
+    /// Returns a client over this store and one of its callers.
+    pub fn new(shared: &'a Shared<Fnv>, caller: Caller) -> StoreClient<'a>
         requires { caller.table ≡ shared.now.table }
     {
-        Asker { shared, caller }
+        StoreClient { shared, caller }
     }
 
-    /// Makes another caller of the same store. It takes no memory.
-    pub fn another(&mut self) -> Asker<'a> {
-        Asker {
+    /// Returns another client of the same store. It takes no memory.
+    pub fn another(&mut self) -> StoreClient<'a> {
+        StoreClient {
             shared: self.shared,
             caller: self.shared.caller(&mut self.caller),
         }
     }
 
-    /// Tells how many shelves the store has.
-    pub fn shelves(&self) -> u32 {
-        self.shared.shelves()
-    }
-
-    /// Reads what the tables of all shelves have, of which it holds one after another.
-    pub fn tables<R: Wait>(&mut self, rt: &R) -> TablesReading {
-        let mut tables = TablesReading::NONE;
-        for shelf in 0..self.shelves() {
-            tables = tables.with(self.table_of(rt, shelf));
-        }
-        tables
-    }
-
-    /// Reads what the table of a shelf has. One that isn't there has none.
+    /// Returns what the table of a shelf holds; nothing if there is no such shelf.
     fn table_of<R: Wait>(&mut self, rt: &R, shelf: u32) -> TablesReading {
         if shelf >= self.shared.shelves() {
             return TablesReading::NONE;
@@ -80,31 +70,33 @@ impl<'a> Asker<'a> {
         }
     }
 
-    /// Tells how many pages a class of chunks has, and in how many of its chunks items lie.
-    pub fn account<R: Wait>(&mut self, rt: &R, class: Class) -> Account {
-        self.shared.account(rt, &mut self.caller, class)
-    }
-
-    /// Serves links until none comes any more and all sessions have ended. The tally hears of each step, and
-    /// the shelf of the number `first` is tidied first. Its guests are meant to hold `share` bytes.
+    /// Serves links by the worker until none comes and all sessions have ended.
     pub fn work<R: Wait + time::Clock, T: Tally, C: Clock>(
         self,
         rt: &R,
         alloc: Global,
         links: &mut ClosingLinks<'_, R>,
-        tally: &T,
-        clock: &C,
-        first: u32,
-        share: usize,
+        worker: &Worker<'_, NoGate, T, C>,
     ) {
-        let Asker { shared, caller } = self;
-        let worker = Worker {
-            gate: &NoGate,
-            tally,
-            clock,
-            first,
-            share,
-        };
+        let StoreClient { shared, caller } = self;
         let _ = worker.work(rt, alloc, shared, caller, links);
+    }
+}
+
+impl StoreStats for StoreClient<'_> {
+    fn shelves(&self) -> u32 {
+        self.shared.shelves()
+    }
+
+    fn tables<R: Wait>(&mut self, rt: &R) -> TablesReading {
+        let mut tables = TablesReading::NONE;
+        for shelf in 0..self.shared.shelves() {
+            tables = tables.with(self.table_of(rt, shelf));
+        }
+        tables
+    }
+
+    fn account<R: Wait>(&mut self, rt: &R, class: Class) -> Account {
+        self.shared.account(rt, &mut self.caller, class)
     }
 }

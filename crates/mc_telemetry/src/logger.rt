@@ -1,9 +1,11 @@
-//! What the program says on standard error while it serves, and the thread that says it.
+//! Writes to standard error while the server runs.
+//!
+//! One thread writes to standard error, so a full pipe stops no worker. The same thread reports that
+//! the store is full, and reads the class's counts by a caller of its own.
 
-use crate::asker::Asker;
 use crate::full::{Full, Stock};
+use crate::stats::StoreStats;
 use mc_options::{Endpoints, Options};
-use mc_shelf::Settings;
 use mc_slab::need_of;
 use mc_sockets::{Line, Log, Waiting, Wanted};
 use std::io::{self, Stderr};
@@ -11,35 +13,41 @@ use std::net::IpAddr;
 use std::sync::Wait;
 use std::time::{Clock, Duration, Instant};
 
-/// For how long it says no more that the store is full, once it has, in seconds.
+/// The time between two reports that the store is full, in seconds.
 const QUIET: u64 = 60;
 
-/// What it says of itself when it serves.
+/// What the first lines report.
 #[derive(Clone, Copy, Drop)]
 pub struct Notice<'a> {
     pub stderr: Stderr,
     pub options: &'a Options,
-    /// How many descriptors it may have, if the system tells.
+    /// How many descriptors the process may have, if the system reports it.
     pub descriptors: Option<u64>,
 }
 
-/// Says that it serves, and then what the log is given, until nobody has anything more to say. It
-/// sleeps if there is nothing, and a minute after it said that the store is full it wakes once by
-/// itself.
-pub fn write_lines<R: Wait + Clock>(rt: &R, log: &Log, notice: Notice<'_>, asker: Asker<'_>) {
+/// Writes where the server listens, and then the lines of the log, until no thread has more of them.
+/// It sleeps while there is nothing to write. A minute after a report that the store is full it wakes
+/// once, so that the next refusal is reported again.
+pub fn write_lines<R: Wait + Clock, S: StoreStats>(
+    rt: &R,
+    log: &Log,
+    notice: Notice<'_>,
+    stats: &mut S,
+) {
+    let settings = notice.options.settings;
     let mut logger = Logger {
         log,
         stderr: notice.stderr,
-        settings: notice.options.settings,
-        asker,
+        pages: settings.pages,
+        most: pages_of(settings.greatest),
         turn: 0,
         told_full: None,
     };
     say(notice);
     for _ in rt.forever() {
-        // what was said before the last one left is found below
+        // a line that came before the last thread left is found below
         let is_over = log.is_over();
-        logger.tell_full(rt);
+        logger.tell_full(rt, stats);
         if logger.write_next() {
             continue;
         }
@@ -50,23 +58,24 @@ pub fn write_lines<R: Wait + Clock>(rt: &R, log: &Log, notice: Notice<'_>, asker
     }
 }
 
-/// Who writes to standard error.
+/// Writes lines of the log to standard error.
 #[derive(Drop)]
 struct Logger<'a> {
     log: &'a Log,
     stderr: Stderr,
-    /// How the store is set up.
-    settings: Settings,
-    asker: Asker<'a>,
-    /// Which line is the next.
+    /// The number of pages that items may take.
+    pages: u32,
+    /// The number of pages that one item may take.
+    most: u32,
+    /// The number of the next line.
     turn: u64,
-    /// When it said that the store is full; nothing if it may say so.
+    /// When it reported that the store is full; nothing if it may report that again.
     told_full: Option<Instant>,
 }
 
 impl Logger<'_> {
-    /// Writes the next line, behind what was dropped before it, and returns whether there was one.
-    /// One that can't be written is dropped.
+    /// Writes the next line, after the count of lines dropped before it. Returns whether there was one.
+    /// A line that can't be written is dropped.
     fn write_next(&mut self) -> bool {
         let (log, turn) = (self.log, self.turn);
         let Some(Waiting { line, dropped }) = log.take_line(turn) else {
@@ -81,7 +90,7 @@ impl Logger<'_> {
         true
     }
 
-    /// Says how many lines were dropped, if some were.
+    /// Writes how many lines were dropped, if any were.
     fn tell_dropped(&self, count: u64) {
         let stderr = self.stderr;
         if count > 0 {
@@ -91,32 +100,22 @@ impl Logger<'_> {
         }
     }
 
-    /// Says that the store is full, if a step was refused for that which is to be told of.
-    fn tell_full<R: Wait + Clock>(&mut self, rt: &R) {
+    /// Writes that the store is full, if a step was refused since that may be written again.
+    fn tell_full<R: Wait + Clock, S: StoreStats>(&mut self, rt: &R, stats: &mut S) {
         let Some(wanted) = self.log.take_wanted() else {
             return;
         };
         self.told_full = Instant::now(rt).ok();
         let full = Full {
-            stock: self.stock(rt, wanted),
-            pages: self.settings.pages,
-            most: pages_of(self.settings.greatest),
+            stock: stock_of(rt, wanted, stats),
+            pages: self.pages,
+            most: self.most,
         };
         let stderr = self.stderr;
         let _ = eprintln!(stderr; "mcserver: full: {full} (told once a minute)");
     }
 
-    /// Gives what the class has that a chunk was asked of, if that is known.
-    fn stock<R: Wait>(&mut self, rt: &R, wanted: Wanted) -> Option<Stock> {
-        let need = match wanted {
-            Wanted::Size(size) => need_of(size)?,
-            Wanted::Growth => return None,
-        };
-        let account = self.asker.account(rt, need.class());
-        Some(Stock { need, account })
-    }
-
-    /// Sleeps until it is called, or it may say again that the store is full.
+    /// Sleeps until there may be a line, or a full store may be reported again.
     fn sleep<R: Wait + Clock>(&mut self, rt: &R) {
         let Some(told) = self.told_full else {
             self.log.sleep(rt);
@@ -136,7 +135,17 @@ impl Logger<'_> {
     }
 }
 
-/// Gives how many pages an item of so many bytes takes at most, 1 if it is less than one.
+/// Returns what the class of the refused item has; nothing if the item's size isn't known.
+fn stock_of<R: Wait, S: StoreStats>(rt: &R, wanted: Wanted, stats: &mut S) -> Option<Stock> {
+    let need = match wanted {
+        Wanted::Size(size) => need_of(size)?,
+        Wanted::Growth => return None,
+    };
+    let account = stats.account(rt, need.class());
+    Some(Stock { need, account })
+}
+
+/// Returns how many pages an item of this size takes at most, and at least 1.
 fn pages_of(bytes: u64) -> u32 {
     match need_of(bytes) {
         Some(need) => need.count(),
@@ -157,7 +166,7 @@ fn write_line(stderr: Stderr, line: Line) -> io::Result<()> {
     }
 }
 
-/// Warns on standard error if others than this machine can reach the address.
+/// Writes a warning if other machines can reach the address.
 fn warn(stderr: Stderr, address: IpAddr) {
     if !address.to_canonical().is_loopback() {
         let _ = eprintln!(stderr;
@@ -166,8 +175,7 @@ fn warn(stderr: Stderr, address: IpAddr) {
     }
 }
 
-/// Says on standard error where it listens, and what it has; and warns if others than this machine
-/// can reach it, and if more connections are asked for than there can be descriptors.
+/// Writes where the server listens, its pages and workers, and warnings.
 fn say(notice: Notice<'_>) {
     let Notice {
         stderr,
@@ -176,21 +184,29 @@ fn say(notice: Notice<'_>) {
     } = notice;
     let workers = options.workers;
     let pages = options.settings.pages;
-    let Endpoints { first, others } = &options.endpoints;
     let places = &options.endpoints;
-    // if standard error is closed it serves all the same
+    // if standard error is closed the server runs all the same
     let _ = eprintln!(stderr; "mcserver: listening on {places}, {pages} pages, {workers} workers");
+    warn_all(stderr, places);
+    if let Some(endpoint) = options.scrapes {
+        let _ = eprintln!(stderr; "mcserver: metrics at http://{endpoint}/metrics");
+    }
+    if let Some(most) = descriptors {
+        warn_of_descriptors(stderr, options.connections, most);
+    }
+}
+
+/// Writes a warning for each endpoint that other machines can reach.
+fn warn_all(stderr: Stderr, endpoints: &Endpoints) {
+    let Endpoints { first, others } = endpoints;
     warn(stderr, first.address);
     for other in others {
         warn(stderr, other.address);
     }
-    if let Some(endpoint) = options.scrapes {
-        let _ = eprintln!(stderr; "mcserver: metrics at http://{endpoint}/metrics");
-    }
-    let Some(most) = descriptors else {
-        return;
-    };
-    let connections = options.connections;
+}
+
+/// Writes a warning if fewer descriptors than connections are allowed.
+fn warn_of_descriptors(stderr: Stderr, connections: u32, most: u64) {
     if u64::from(connections) > most {
         let _ = eprintln!(stderr;
             "mcserver: warning: -c allows {connections} connections, and the system {most} descriptors (ulimit -n)"

@@ -1,16 +1,15 @@
 //! A session over TCP on 127.0.0.1, with both ends in this process.
 
-use crate::asker::Asker;
-use crate::metrics::Counts;
-use mc_guests::NoTally;
+use crate::settings::ONE;
 use mc_hop::Fnv;
 use mc_host::bind_listener;
+use mc_metrics::Counts;
 use mc_shared::Shared;
-use mc_shelf::Settings;
 use mc_sockets::{
     Arrivals, ClosingLinks, Connection, Crowd, EVENTS, Inbox, Share, SocketLinks, WAKER,
 };
 use mc_time::{Fixed, Moment};
+use mc_workers::{NoGate, work};
 use mio::net::TcpStream as Stream;
 use mio::{Events, Poll, Waker};
 use std::io::{Read, Write};
@@ -19,14 +18,7 @@ use std::sync::{Arc, Wait};
 use std::test::*;
 use std::time::Clock;
 
-/// A store of one page.
-const SETTINGS: Settings = Settings {
-    pages: 1,
-    greatest: Settings::GREATEST,
-    shelves: 64,
-};
-
-/// Sends the input of a client, serves it, and gives what the client then reads.
+/// Sends the input of a client, serves it, and returns what the client then reads.
 fn told<R>(rt: &R, input: &[u8]) -> Result<Vec<u8>, Fail>
 where
     R: Net<Listener = TcpListener, Stream = TcpStream> + AllocGlobal + Wait + Clock,
@@ -47,13 +39,13 @@ where
     let stream = Stream::from_std(stream);
     arrivals.deal(rt, Connection::new(crowd, stream, peer), 0);
     arrivals.end();
-    let (shared, caller) = Shared::new(alloc, SETTINGS, Fnv)?;
+    let (shared, caller) = Shared::new(alloc, ONE, Fnv)?;
     let events = Events::with_capacity(alloc, EVENTS)?;
     let counts = Arc::new(alloc, Counts::new())?;
     let links = SocketLinks::new(rt, alloc, &arrivals, Share::new(0), poll, events, counts);
     let mut links = ClosingLinks::new(links, &arrivals);
     let clock = Fixed(Moment::from_seconds_at_most(1000));
-    Asker::new(&shared, caller).work(rt, alloc, &mut links, &NoTally, &clock, 0, usize::MAX);
+    let _ = work(rt, alloc, &shared, caller, &mut links, &NoGate, &clock);
     let mut answer = Vec::new(alloc);
     client.read_to_end(&mut answer)?;
     Ok(answer)

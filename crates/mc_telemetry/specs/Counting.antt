@@ -1,4 +1,4 @@
--- As what a step counts.
+-- Which counter a step raises.
 use Rattle.std.specs.Prelude.{Bool, true, false, Option, Some, None}
 use Rattle.mc_protocol.specs.declared.step.KeyStep.{KeyStep}
 use Rattle.mc_protocol.specs.declared.step.KeyStep.TheVariants.{Store, Cas, Read, ReadTouch, Touch, Delete, Count, Flush as FlushStep}

@@ -1,13 +1,13 @@
-//! As what a step counts.
+//! Which counter a step raises.
 ghost use Rattle.std.specs.Prelude.{◌≡◌};
-ghost use Rattle.mc_server.specs.Counting.{counted_as, ways_of};
+ghost use Rattle.mc_telemetry.specs.Counting.{counted_as, ways_of};
 
 use mc_guests::Outcome;
 use mc_metrics::Counted;
 use mc_protocol::KeyStep;
 
-/// Says as what a step counts that came out so. One that was too large, and one on what is no number,
-/// count as nothing.
+/// Returns the counter of a step with this outcome. A step that was too large, and one on an item that
+/// is no number, have none.
 pub fn counted_as(step: &KeyStep<'_>, outcome: Outcome) -> Option<Counted>
     ensures { result ≡ counted_as step.now outcome }
 {
@@ -25,7 +25,7 @@ pub fn counted_as(step: &KeyStep<'_>, outcome: Outcome) -> Option<Counted>
     }
 }
 
-/// Says as what a step counts that did what it asked for.
+/// Returns the counter of a step that did what it asked for.
 fn hit_of(step: &KeyStep<'_>) -> Counted
     ensures { result ≡ (ways_of step.now).0 }
 {
@@ -41,7 +41,7 @@ fn hit_of(step: &KeyStep<'_>) -> Counted
     }
 }
 
-/// Says as what a step counts for which there was no item, or one in its way. A flush is never in vain.
+/// Returns the counter of a step that found no item, or one in its way. A flush is never in vain.
 fn miss_of(step: &KeyStep<'_>) -> Counted
     ensures { result ≡ (ways_of step.now).1 }
 {

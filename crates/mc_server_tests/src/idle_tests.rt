@@ -1,6 +1,6 @@
 //! How many places are looked at, and which.
 
-use crate::idle::Watch;
+use mc_sockets::Watch;
 use std::test::Fail;
 use std::time::{Duration, Instant};
 

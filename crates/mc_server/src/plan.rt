@@ -1,0 +1,249 @@
+//! What the server makes before its first thread starts.
+//!
+//! All that can be refused is requested here: descriptors, memory, polls. So a server that reports
+//! that it listens has what its threads need, but for the threads themselves.
+
+use mc_host::{Door, Listeners, Wanting, look_for_descriptors, most_descriptors, sockets_of};
+use mc_metrics::Counts;
+use mc_options::Options;
+use mc_sockets::{Arrivals, Crowd, EVENTS, Inbox, Log, Share, WAKER};
+use mc_telemetry::{MetricsServer, Notice, Observer};
+use mio::{Events, Poll, Waker};
+use std::alloc::{AllocError, AllocGlobal, Global};
+use std::fs::Files;
+use std::io::{self, Stderr};
+use std::net::{Net, TcpListener};
+use std::sync::Arc;
+use std::time::{Clock, Instant};
+
+/// The sockets at which the server listens.
+#[derive(Drop)]
+pub struct Bound {
+    pub listeners: Listeners,
+    /// The listener for scrapes, if there is one.
+    pub door: Option<Door>,
+}
+
+/// What the program's own thread serves with, and what the other threads own.
+#[derive(Drop)]
+pub struct ServerPlan<'a> {
+    /// The listener of the program's own thread.
+    pub listener: TcpListener,
+    pub crowd: Arc<Crowd>,
+    pub threads: ThreadPlan<'a>,
+}
+
+/// What the threads beside the program's own are to own.
+#[derive(Drop)]
+pub struct ThreadPlan<'a> {
+    pub workers: Vec<WorkerPlan>,
+    /// One listener for each thread that accepts.
+    pub listeners: Vec<TcpListener>,
+    pub crowd: Arc<Crowd>,
+    pub metrics: Option<MetricsServer>,
+    pub notice: Notice<'a>,
+}
+
+/// What the thread of a worker is to own.
+#[derive(Drop)]
+pub struct WorkerPlan {
+    pub share: Share,
+    pub poll: Poll,
+    pub events: Events,
+    /// The idle timeout of its connections, in seconds; with 0 there is none.
+    pub idle_timeout: u32,
+    /// The shelf that it tidies first.
+    pub first: u32,
+    /// How many bytes its connections may hold together.
+    pub held: usize,
+    /// The counters that its links raise, and the same for its steps.
+    pub moved: Arc<Counts>,
+    pub counts: Arc<Counts>,
+}
+
+/// What all threads of the server borrow.
+#[derive(Drop)]
+pub struct Common {
+    pub arrivals: Arrivals,
+    pub log: Arc<Log>,
+}
+
+/// The workers' plans, their inboxes and their counters, in one order.
+#[derive(Drop)]
+struct Workers {
+    plans: Vec<WorkerPlan>,
+    inboxes: Vec<Inbox>,
+    counts: Vec<Arc<Counts>>,
+}
+
+/// Returns the plan of a server at these sockets, and what its threads borrow. It fails if memory is
+/// refused, or a descriptor.
+pub fn make_plan<'a, R: Net + Files + AllocGlobal + Clock>(
+    rt: &R,
+    stderr: Stderr,
+    options: &'a Options,
+    bound: Bound,
+) -> Result<(ServerPlan<'a>, Common), Wanting> {
+    let workers = make_workers(rt, options)?;
+    let notice = Notice {
+        stderr,
+        options,
+        descriptors: most_descriptors(rt),
+    };
+    plan_with(rt, notice, bound, workers)
+}
+
+/// Returns the plan of a server with these workers, and what its threads borrow.
+fn plan_with<'a, R: AllocGlobal + Clock>(
+    rt: &R,
+    notice: Notice<'a>,
+    bound: Bound,
+    workers: Workers,
+) -> Result<(ServerPlan<'a>, Common), Wanting> {
+    let Workers {
+        plans,
+        inboxes,
+        counts,
+    } = workers;
+    let common = make_common(rt.alloc(), notice.options, &bound.listeners, inboxes)?;
+    let crowd = make_crowd(rt.alloc(), notice.options, &common.log)?;
+    let metrics = make_metrics(rt, notice.options, bound.door, &crowd, counts)?;
+    let Listeners { first, others } = bound.listeners;
+    let threads = ThreadPlan {
+        workers: plans,
+        listeners: others,
+        crowd: crowd.clone().map_err(|_| AllocError)?,
+        metrics,
+        notice,
+    };
+    let plan = ServerPlan {
+        listener: first,
+        crowd,
+        threads,
+    };
+    Ok((plan, common))
+}
+
+/// Returns what all threads borrow. It fails if memory is refused, or a descriptor.
+fn make_common(
+    alloc: Global,
+    options: &Options,
+    listeners: &Listeners,
+    inboxes: Vec<Inbox>,
+) -> Result<Common, Wanting> {
+    let arrivals = Arrivals::new(inboxes, sockets_of(alloc, listeners)?);
+    look_for_descriptors(alloc, listeners)?;
+    let log = Log::new(alloc, options.verbose)?;
+    Ok(Common { arrivals, log })
+}
+
+/// Returns a counter of connections. They are logged if `verbose` is set. The one error is a refused
+/// allocation.
+fn make_crowd(alloc: Global, options: &Options, log: &Arc<Log>) -> Result<Arc<Crowd>, AllocError> {
+    let told = if options.verbose {
+        Some(log.clone().map_err(|_| AllocError)?)
+    } else {
+        None
+    };
+    Crowd::new(alloc, options.connections, told)
+}
+
+/// Returns the metrics server, if there is a listener for scrapes. The one error is a refused
+/// allocation.
+fn make_metrics<R: AllocGlobal + Clock>(
+    rt: &R,
+    options: &Options,
+    door: Option<Door>,
+    crowd: &Arc<Crowd>,
+    counts: Vec<Arc<Counts>>,
+) -> Result<Option<MetricsServer>, AllocError> {
+    let Some(door) = door else {
+        return Ok(None);
+    };
+    let observer = Observer {
+        crowd: crowd.clone().map_err(|_| AllocError)?,
+        counts,
+        pages: options.settings.pages,
+        since: Instant::now(rt).ok(),
+    };
+    let server = MetricsServer::new(rt.alloc(), door, observer, options.may_quit)?;
+    Ok(Some(server))
+}
+
+/// Returns the workers that the options ask for. It fails if memory is refused, or a descriptor.
+fn make_workers<R: Net + AllocGlobal>(rt: &R, options: &Options) -> Result<Workers, Wanting> {
+    let alloc = rt.alloc();
+    let mut workers = Workers {
+        plans: Vec::new(alloc),
+        inboxes: Vec::new(alloc),
+        counts: Vec::new(alloc),
+    };
+    for worker in 0..options.workers {
+        workers.add(rt, options, worker)?;
+    }
+    Ok(workers)
+}
+
+impl Workers {
+    /// Adds the worker with this number. It fails if memory is refused, or a descriptor.
+    fn add<R: Net + AllocGlobal>(
+        &mut self,
+        rt: &R,
+        options: &Options,
+        worker: u32,
+    ) -> Result<(), Wanting> {
+        let counts = Arc::new(rt.alloc(), Counts::new()).map_err(|_| AllocError)?;
+        let (plan, waker) = WorkerPlan::new(rt, options, worker, &counts)?;
+        self.plans.push(plan).map_err(|_| AllocError)?;
+        let inbox = Inbox::new(rt.alloc(), waker)?;
+        self.inboxes.push(inbox).map_err(|_| AllocError)?;
+        self.counts.push(counts).map_err(|_| AllocError)?;
+        Ok(())
+    }
+}
+
+impl WorkerPlan {
+    /// Returns the plan of the worker with this number, and what wakes it. It fails if memory is
+    /// refused, or a descriptor.
+    fn new<R: Net + AllocGlobal>(
+        rt: &R,
+        options: &Options,
+        worker: u32,
+        counts: &Arc<Counts>,
+    ) -> Result<(WorkerPlan, Waker), Wanting> {
+        let moved = counts.clone().map_err(|_| AllocError)?;
+        let counts = counts.clone().map_err(|_| AllocError)?;
+        let (poll, waker) = make_poll(rt)?;
+        let events = Events::with_capacity(rt.alloc(), EVENTS)?;
+        let plan = WorkerPlan {
+            share: Share::new(worker),
+            poll,
+            events,
+            idle_timeout: options.idle_timeout,
+            first: first_shelf(options, worker),
+            held: held_of(options),
+            moved,
+            counts,
+        };
+        Ok((plan, waker))
+    }
+}
+
+/// Returns the shelf that a worker tidies first. Workers begin far from each other.
+fn first_shelf(options: &Options, worker: u32) -> u32 {
+    worker.saturating_mul(options.settings.shelves) / options.workers.max(1)
+}
+
+/// Returns how many bytes the connections of a worker may hold: its part of seven eighths of
+/// `--buffer-limit`. The rest is for what the C library keeps between their buffers.
+fn held_of(options: &Options) -> usize {
+    let bytes = (options.buffers as usize).saturating_mul(1 << 20);
+    bytes / 8 * 7 / options.workers.max(1) as usize
+}
+
+/// Returns a poll, and what wakes the thread that waits for it.
+fn make_poll<R: Net>(rt: &R) -> io::Result<(Poll, Waker)> {
+    let poll = Poll::new(rt)?;
+    let waker = Waker::new(poll.registry(), WAKER)?;
+    Ok((poll, waker))
+}

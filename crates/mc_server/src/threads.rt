@@ -1,0 +1,242 @@
+//! The threads of the server.
+//!
+//! Each listener has a thread that accepts: the first listener the program's own thread. Each worker
+//! has one, one writes to standard error, and one answers scrapes if that is asked for. The metrics
+//! server and the logger read the store by clients of their own. If one thread can't be started, the
+//! server ends, and those that run end with it.
+
+use crate::client::StoreClient;
+use crate::plan::{Common, ServerPlan, ThreadPlan, WorkerPlan};
+use mc_host::Wanting;
+use mc_sockets::{ClosingLinks, Crowd, Refusals, SocketLinks, accept_all, accept_beside};
+use mc_telemetry::{MetricsServer, Notice, WorkerTally, write_lines};
+use mc_time::Clock;
+use mc_workers::{NoGate, Worker};
+use std::alloc::{AllocError, AllocGlobal};
+use std::net::TcpListener;
+use std::sync::{Arc, Wait};
+use std::thread::{self, Builder, Scope, Threads};
+use std::time;
+
+/// The name of the thread that writes to standard error.
+const LOGGER: &str = "logger";
+
+/// Serves connections until no more are accepted. Returns what was wanting if a thread couldn't be
+/// started.
+pub fn serve<R, C>(
+    rt: &R,
+    plan: ServerPlan<'_>,
+    client: StoreClient<'_>,
+    common: &Common,
+    clock: &C,
+) -> Result<(), Wanting>
+where
+    R: AllocGlobal + Wait + Threads + time::Clock + Sync,
+    C: Clock + Sync,
+{
+    thread::scope(
+        thread::scope_env(),
+        rt,
+        move |scope| -> Result<(), Wanting> {
+            let ServerPlan {
+                listener,
+                crowd,
+                threads,
+            } = plan;
+            let started = start_all(scope, rt, threads, client, common, clock);
+            if started.is_err() {
+                common.arrivals.end();
+                return started;
+            }
+            accept_all(rt, listener, crowd, &common.arrivals);
+            common.log.leave();
+            Ok(())
+        },
+    )
+}
+
+/// Starts all threads but the program's own.
+fn start_all<'s, 'a: 's, 'b: 's, 'c: 's, 'd: 's, 'e: 's, E, R, C>(
+    scope: &Scope<'s, E>,
+    rt: &'a R,
+    plan: ThreadPlan<'b>,
+    client: StoreClient<'c>,
+    common: &'d Common,
+    clock: &'e C,
+) -> Result<(), Wanting>
+where
+    R: AllocGlobal + Wait + Threads + time::Clock + Sync,
+    C: Clock + Sync,
+{
+    let ThreadPlan {
+        workers,
+        listeners,
+        crowd,
+        metrics,
+        notice,
+    } = plan;
+    let mut client = client;
+    start_workers(scope, rt, workers, &mut client, common, clock)?;
+    start_acceptors(scope, rt, listeners, &crowd, common)?;
+    start_metrics(scope, rt, metrics, &mut client, common)?;
+    start_logger(scope, rt, notice, client, common)
+}
+
+/// Starts a thread for each worker.
+fn start_workers<'s, 'a: 's, 'c: 's, 'd: 's, 'e: 's, E, R, C>(
+    scope: &Scope<'s, E>,
+    rt: &'a R,
+    plans: Vec<WorkerPlan>,
+    client: &mut StoreClient<'c>,
+    common: &'d Common,
+    clock: &'e C,
+) -> Result<(), Wanting>
+where
+    R: AllocGlobal + Wait + Threads + time::Clock + Sync,
+    C: Clock + Sync,
+{
+    for plan in plans {
+        let client = client.another();
+        common.log.enter();
+        let working = move || {
+            run_worker(rt, plan, client, common, clock);
+            common.log.leave();
+        };
+        start(scope, Builder::new(), working)?;
+    }
+    Ok(())
+}
+
+/// Starts a thread for each listener. Each deals its first connection to another worker.
+fn start_acceptors<'s, 'a: 's, 'd: 's, E, R>(
+    scope: &Scope<'s, E>,
+    rt: &'a R,
+    listeners: Vec<TcpListener>,
+    crowd: &Arc<Crowd>,
+    common: &'d Common,
+) -> Result<(), Wanting>
+where
+    R: AllocGlobal + Wait + Threads + time::Clock + Sync,
+{
+    let mut turn = 0usize;
+    for listener in listeners {
+        turn = turn.saturating_add(1);
+        let crowd = crowd.clone().map_err(|_| AllocError)?;
+        common.log.enter();
+        let accepting = move || {
+            accept_beside(rt, listener, crowd, &common.arrivals, turn);
+            common.log.leave();
+        };
+        start(scope, Builder::new(), accepting)?;
+    }
+    Ok(())
+}
+
+/// Starts the thread that answers scrapes, if there is a metrics server.
+fn start_metrics<'s, 'a: 's, 'c: 's, 'd: 's, E, R>(
+    scope: &Scope<'s, E>,
+    rt: &'a R,
+    server: Option<MetricsServer>,
+    client: &mut StoreClient<'c>,
+    common: &'d Common,
+) -> Result<(), Wanting>
+where
+    R: AllocGlobal + Wait + Threads + time::Clock + Sync,
+{
+    let Some(server) = server else {
+        return Ok(());
+    };
+    let client = client.another();
+    let answering = move || answer_scrapes(rt, server, client, common);
+    start(scope, Builder::new(), answering)
+}
+
+/// Starts the thread that writes to standard error.
+fn start_logger<'s, 'a: 's, 'b: 's, 'c: 's, 'd: 's, E, R>(
+    scope: &Scope<'s, E>,
+    rt: &'a R,
+    notice: Notice<'b>,
+    client: StoreClient<'c>,
+    common: &'d Common,
+) -> Result<(), Wanting>
+where
+    R: AllocGlobal + Wait + Threads + time::Clock + Sync,
+{
+    let named = Builder::new().name(LOGGER.to_string(rt.alloc())?);
+    let writing = move || write_log(rt, notice, client, common);
+    start(scope, named, writing)
+}
+
+/// Starts a thread of the scope.
+fn start<'s, E, F: FnOnce() + Send + Drop + 's>(
+    scope: &Scope<'s, E>,
+    builder: Builder,
+    task: F,
+) -> Result<(), Wanting>
+    requires { F.pre task }
+{
+    match builder.spawn_scoped(scope, task) {
+        Ok(_thread) => Ok(()),
+        Err(_) => Err(Wanting::Memory),
+    }
+}
+
+/// Serves the connections of a worker until no more come.
+fn run_worker<R: AllocGlobal + Wait + time::Clock, C: Clock>(
+    rt: &R,
+    plan: WorkerPlan,
+    client: StoreClient<'_>,
+    common: &Common,
+    clock: &C,
+) {
+    let WorkerPlan {
+        share,
+        poll,
+        events,
+        idle_timeout,
+        first,
+        held,
+        moved,
+        counts,
+    } = plan;
+    let alloc = rt.alloc();
+    let arrivals = &common.arrivals;
+    arrivals.end_rest(&share);
+    let mut links = SocketLinks::new(rt, alloc, arrivals, share, poll, events, moved);
+    links.close_idle(idle_timeout);
+    let mut links = ClosingLinks::new(links, arrivals);
+    let tally = WorkerTally {
+        counts: &counts,
+        refusals: Refusals::new(&common.log),
+    };
+    let worker = Worker {
+        gate: &NoGate,
+        tally: &tally,
+        clock,
+        first,
+        share: held,
+    };
+    client.work(rt, alloc, &mut links, &worker);
+}
+
+/// Answers scrapes until the server ends.
+fn answer_scrapes<R: AllocGlobal + Wait + time::Clock>(
+    rt: &R,
+    server: MetricsServer,
+    client: StoreClient<'_>,
+    common: &Common,
+) {
+    let (mut server, mut client) = (server, client);
+    server.answer_all(rt, &common.arrivals, &mut client);
+}
+
+/// Writes to standard error until the server ends.
+fn write_log<R: Wait + time::Clock>(
+    rt: &R,
+    notice: Notice<'_>,
+    client: StoreClient<'_>,
+    common: &Common,
+) {
+    let mut client = client;
+    write_lines(rt, &common.log, notice, &mut client);
+}

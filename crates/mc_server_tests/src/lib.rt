@@ -1,0 +1,23 @@
+//! Tests of the program's parts: `mc_sockets`, `mc_telemetry`, `mc_host`, and a session over a socket.
+//!
+//! They ask for what no contract says: which output a client reads, how a session ends that a fault
+//! breaks off, which values a scrape reads, which lines are dropped, and which connections are looked
+//! at. The program itself is tested by tests/protocol and tests/sockets.
+//!
+//! They are a crate of their own, so that the libraries aren't proved a second time with them, and
+//! make public calls alone. No program uses it.
+//!
+//! Begin with `src/session_tests.rt` and `src/tcp_tests.rt`.
+#![tactic(auto)]
+
+#[cfg(test)]
+mod idle_tests;
+#[cfg(test)]
+mod lines_tests;
+#[cfg(test)]
+mod session_tests;
+mod settings;
+#[cfg(test)]
+mod tcp_tests;
+#[cfg(test)]
+mod telemetry_tests;

@@ -1,0 +1,109 @@
+//! What a scrape reads of a store, of connections and of workers, and what a worker counts.
+
+use mc_guests::{Outcome, Tally};
+use mc_metrics::{Counted, Counts, TablesReading, number_at};
+use mc_protocol::{Bytes, KeyStep, Verb};
+use mc_slab::{Account, Class};
+use mc_sockets::{Crowd, Log, PARTINGS, Refusals, Wanted};
+use mc_telemetry::{Observer, StoreStats, WorkerTally};
+use std::sync::{Arc, Wait};
+use std::test::*;
+
+/// A store of 4 shelves that has pages of the third class alone.
+struct FixedStats;
+
+impl StoreStats for FixedStats {
+    fn shelves(&self) -> u32 {
+        4
+    }
+
+    fn tables<R: Wait>(&mut self, _rt: &R) -> TablesReading {
+        TablesReading {
+            items: 5,
+            ..TablesReading::NONE
+        }
+    }
+
+    fn account<R: Wait>(&mut self, _rt: &R, class: Class) -> Account {
+        if class.number() == 3 {
+            Account { pages: 2, out: 5 }
+        } else {
+            Account { pages: 0, out: 0 }
+        }
+    }
+}
+
+#[test]
+fn a_scrape_adds_up_workers(rt: HostRuntime) -> Result<(), Fail> {
+    let alloc = rt.alloc();
+    let mut counts = Vec::new(alloc);
+    for hits in [3, 4] {
+        let worker = Arc::new(alloc, Counts::new())?;
+        worker.add(Counted::GetHit, hits);
+        counts.push(worker)?;
+    }
+    let observer = Observer {
+        crowd: Crowd::new(alloc, 7, None)?,
+        counts,
+        pages: 64,
+        since: None,
+    };
+    let reading = observer.read(&rt, alloc, &mut FixedStats)?;
+    let hits = number_at(&reading.counts, Counted::GetHit.place());
+    let misses = number_at(&reading.counts, Counted::GetMiss.place());
+    assert!(rt; (hits, misses) == (7, 0));
+    assert_eq!(rt; reading.closed.len(), PARTINGS);
+    let found = (reading.most, reading.connections, reading.accepted);
+    assert!(rt; found == (7, 0, 0));
+    // 64 pages of 1048576 bytes
+    let found = (reading.limit, reading.shelves, reading.tables.items);
+    assert!(rt; found == (67_108_864, 4, 5));
+    assert!(rt; reading.uptime == 0);
+    Ok(())
+}
+
+#[test]
+fn a_scrape_has_the_classes_with_a_page(rt: HostRuntime) -> Result<(), Fail> {
+    let alloc = rt.alloc();
+    let observer = Observer {
+        crowd: Crowd::new(alloc, 1, None)?,
+        counts: Vec::new(alloc),
+        pages: 1,
+        since: None,
+    };
+    let reading = observer.read(&rt, alloc, &mut FixedStats)?;
+    assert_eq!(rt; reading.slabs.len(), 1);
+    let Some(slab) = reading.slabs.get(0) else {
+        return Err(Fail::new("no class has a page"));
+    };
+    assert!(rt; (slab.number, slab.size, slab.pages) == (3, 152, 2));
+    // 6898 chunks a page
+    assert!(rt; (slab.chunks, slab.used, slab.free) == (13_796, 5, 13_791));
+    Ok(())
+}
+
+#[test]
+fn a_step_raises_one_counter(rt: HostRuntime) -> Result<(), Fail> {
+    let counts = Counts::new();
+    let log = Log::new(rt.alloc(), false)?;
+    let tally = WorkerTally {
+        counts: &counts,
+        refusals: Refusals::new(&log),
+    };
+    let step = KeyStep::Store {
+        verb: Verb::Set,
+        key: Bytes::of(b"key"),
+        flags: 0,
+        exptime: 0,
+        block: Bytes::of(b"block"),
+    };
+    tally.took(&step, Outcome::Stored);
+    tally.took(&step, Outcome::Stored);
+    assert!(rt; log.take_wanted().is_none());
+    tally.took(&step, Outcome::NoChunk);
+    assert!(rt; counts.at(Counted::SetStored.place()) == 2);
+    assert!(rt; counts.at(Counted::Refused.place()) == 1);
+    // 48 bytes of an item's head, 3 of its key, 5 of its block
+    assert!(rt; log.take_wanted() == Some(Wanted::Size(56)));
+    Ok(())
+}

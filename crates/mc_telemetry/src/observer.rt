@@ -1,0 +1,107 @@
+//! Reads the values of one scrape.
+
+use crate::stats::StoreStats;
+use mc_metrics::{COUNTED, Counts, Reading, SlabReading};
+use mc_slab::class_of;
+use mc_sockets::{Crowd, PARTINGS};
+use std::alloc::{AllocError, Global};
+use std::sync::{Arc, Wait};
+use std::time::{Clock, Instant};
+
+/// The size of a page of a store, in bytes.
+const PAGE: u64 = 1_048_576;
+
+/// An upper bound on the number of classes of chunks.
+const CLASSES: usize = 64;
+
+/// Reads the workers' counters, the counts of connections, and what the store reports.
+#[derive(Drop)]
+pub struct Observer {
+    /// The connections of the server.
+    pub crowd: Arc<Crowd>,
+    /// The counters of each worker.
+    pub counts: Vec<Arc<Counts>>,
+    /// The number of pages that items may take.
+    pub pages: u32,
+    /// When the server began; nothing if there was no clock.
+    pub since: Option<Instant>,
+}
+
+impl Observer {
+    /// Returns all values of one scrape. The store's shelves are held one after another, and then
+    /// what they share for each class of chunks. The one error is a refused allocation.
+    pub fn read<R: Wait + Clock, S: StoreStats>(
+        &self,
+        rt: &R,
+        alloc: Global,
+        stats: &mut S,
+    ) -> Result<Reading, AllocError> {
+        let tables = stats.tables(rt);
+        let slabs = slabs_of(rt, alloc, stats)?;
+        Ok(Reading {
+            counts: self.sum_counts(),
+            closed: self.closed_counts(alloc)?,
+            uptime: self.uptime(rt),
+            connections: u64::from(self.crowd.open()),
+            accepted: self.crowd.accepted_count(),
+            most: u64::from(self.crowd.most()),
+            tables,
+            limit: u64::from(self.pages) * PAGE,
+            shelves: u64::from(stats.shelves()),
+            slabs,
+        })
+    }
+
+    /// Returns the sums of the workers' counters.
+    fn sum_counts(&self) -> [u64; COUNTED] {
+        let mut sums = [0u64; COUNTED];
+        for at in 0..COUNTED {
+            for counts in &self.counts {
+                sums[at] = sums[at].wrapping_add(counts.at(at));
+            }
+        }
+        sums
+    }
+
+    /// Returns how many connections were closed for each reason.
+    fn closed_counts(&self, alloc: Global) -> Result<Vec<u64>, AllocError> {
+        let mut closed = Vec::with_capacity(alloc, PARTINGS)?;
+        for place in 0..PARTINGS {
+            closed.push(self.crowd.closed_at(place))?;
+        }
+        Ok(closed)
+    }
+
+    /// Returns for how many seconds the server has run, 0 if no clock tells.
+    fn uptime<R: Clock>(&self, rt: &R) -> u64 {
+        match self.since {
+            Some(since) => match since.elapsed(rt) {
+                Ok(time) => time.as_secs(),
+                Err(_) => 0,
+            },
+            None => 0,
+        }
+    }
+}
+
+/// Returns the classes of chunks that have a page, from the smallest up. The one error is a refused
+/// allocation.
+fn slabs_of<R: Wait, S: StoreStats>(
+    rt: &R,
+    alloc: Global,
+    stats: &mut S,
+) -> Result<Vec<SlabReading>, AllocError> {
+    let mut slabs = Vec::new(alloc);
+    let mut next = class_of(0);
+    for _one in 0..CLASSES {
+        let Some(class) = next else {
+            break;
+        };
+        let slab = SlabReading::of(class, stats.account(rt, class));
+        if slab.pages > 0 {
+            slabs.push(slab)?;
+        }
+        next = class_of(u64::from(class.size()) + 1);
+    }
+    Ok(slabs)
+}
