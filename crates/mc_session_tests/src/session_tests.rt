@@ -223,25 +223,47 @@ fn keys_take_turns(rt: &impl Abort, alloc: Global) -> Result<(), AllocError> {
     let mut store = PlainStore::new(alloc, 64, PAGE)?;
     let mut reading = Session::new(alloc, GREATEST);
     let mut writing = Session::new(alloc, GREATEST);
+    reads_between_writes(rt, alloc, &mut store, &mut reading, &mut writing)?;
+    is_closed_behind_its_output(rt, alloc, &mut store, &mut writing);
+    Ok(())
+}
+
+/// One session reads two keys, and another writes both between its turns.
+fn reads_between_writes(
+    rt: &impl Abort,
+    alloc: Global,
+    store: &mut PlainStore,
+    reading: &mut Session,
+    writing: &mut Session,
+) -> Result<(), AllocError> {
     let ones = "set a 0 0 1\r\n1\r\nset b 0 0 1\r\n1\r\n";
-    turns(rt, alloc, &mut writing, &mut store, ones, 2)?;
-    turns(rt, alloc, &mut reading, &mut store, "get a b\r\n", 1)?;
+    turns(rt, alloc, writing, store, ones, 2)?;
+    turns(rt, alloc, reading, store, "get a b\r\n", 1)?;
     let twos = "set a 0 0 1\r\n2\r\nset b 0 0 1\r\n2\r\n";
-    turns(rt, alloc, &mut writing, &mut store, twos, 2)?;
-    turns(rt, alloc, &mut reading, &mut store, "", 1)?;
+    turns(rt, alloc, writing, store, twos, 2)?;
+    turns(rt, alloc, reading, store, "", 1)?;
     assert_eq!(rt;
         reading.out(),
         b"VALUE a 0 1\r\n1\r\nVALUE b 0 1\r\n2\r\nEND\r\n".as_slice()
     );
     assert!(rt; reading.is_idle());
+    Ok(())
+}
+
+/// A session that wrote four texts, of which one is sent, is closed.
+fn is_closed_behind_its_output(
+    rt: &impl Abort,
+    alloc: Global,
+    store: &mut PlainStore,
+    writing: &mut Session,
+) {
     assert!(rt; writing.out().len() == 32);
     writing.sent(8);
     assert_eq!(rt; writing.out(), b"STORED\r\nSTORED\r\nSTORED\r\n".as_slice());
     writing.close();
     assert!(rt; writing.is_closed());
-    let turn = writing.turn(alloc, &mut store, Moment::from_seconds(1000));
+    let turn = writing.turn(alloc, store, Moment::from_seconds(1000));
     assert!(rt; matches!(turn, Ok(Turn::Closed)));
-    Ok(())
 }
 
 #[test]
