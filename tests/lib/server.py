@@ -181,7 +181,7 @@ class Server(Started):
 class StillServer(Server):
     """A running server whose clock stands, and whose items have at most so many bytes with key and header.
 
-    With `buffers` its connections may hold so many MiB together: who holds much for long isn't closed by a clock that stands."""
+    With `buffers` its connections may hold so many MiB together."""
 
     def __init__(self, now=MOMENT, connections=MOST, greatest=GREATEST, buffers=None, **options):
         clock = [] if is_memcached(settings.program()) else ["--now", str(now)]

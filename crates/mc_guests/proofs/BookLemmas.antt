@@ -7,6 +7,7 @@ use Rattle.std.proofs.lemmas.List.Edits.{length-swap}
 use Rattle.mc_guests.specs.Guests.{has_ended}
 use Rattle.mc_guests.specs.Books.{RowState, BooksState, HasNumber, SleepsAt, Wakes, WakesOne, WakesNone, woken, put_behind, let_gone, LetsGo}
 use Rattle.mc_guests.specs.Books.{is_over, IsFateOf, StaysOrSleeps, Settles, SettlesFrom, none, and_one, swapped, cut}
+use Rattle.mc_guests.specs.Books.{MayWake, WakesSome, wakes_nobody, wakes_another}
 use Rattle.mc_guests.specs.declared.guests.Fate.{Fate}
 use Rattle.mc_guests.specs.declared.guests.WorkEnd.{WorkEnd}
 
@@ -119,3 +120,8 @@ pub settles_more : (at : ℕ) (old mid new : BooksState) (before between after :
 settles_more at old mid new before between after some front one =
     let e : at - 1 + 1 ≡ at = omega arith in
     (and_one (subst (λ (n : ℕ). SettlesFrom n old mid before between) (sym e) front.0) one, awake_before (at - 1) mid new between after (omega arith) one)
+
+-- some woke, and then others
+pub wakes_join : (old mid new : BooksState) → WakesSome old mid → WakesSome mid new → WakesSome old new
+wakes_join old mid _ first wakes_nobody = first
+wakes_join old mid new first (wakes_another later last) = wakes_another (wakes_join old mid _ first later) last

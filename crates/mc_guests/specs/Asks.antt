@@ -1,26 +1,43 @@
 -- What a round does to the store, where guests that want much may be kept waiting.
-use Rattle.std.specs.Prelude.{◌≡◌, ◌⊎◌, ℕ}
-use Rattle.mc_protocol.specs.declared.step.KeyStep.{KeyStep}
+use Rattle.std.specs.Prelude.{◌≡◌, ◌⊎◌, ◌≤◌, ℕ, List, length, Some, IsFalse}
+use Rattle.mc_protocol.specs.Commands.{longest_key}
+use Rattle.mc_protocol.specs.declared.step.KeyStep.TheVariants.{Read}
 use Rattle.mc_protocol.specs.declared.step.Steps.{Ghosts as Relations}
 use Rattle.mc_protocol.specs.declared.reply.Reply.{Reply}
-use Rattle.mc_guests.specs.Guests.{GuestState}
+use Rattle.mc_session.specs.Turns.{closed}
+use Rattle.mc_guests.specs.Guests.{GuestState, has_ended}
+use Rattle.mc_guests.specs.Links.{failed}
 use Rattle.mc_guests.specs.Visits.{Visited}
 use Rattle.mc_guests.specs.declared.guest.Visit.{Visit}
+use Rattle.mc_guests.specs.declared.guest.Visit.TheVariants.{Broken}
 
 -- how many bytes a guest may hold, however much others do
 abbrev pub little : ℕ
 little = 131072
 
-module _ {S : Type 0} (relations : Relations S) (now : ℕ) where
-  -- a step was taken at that moment
-  pub record TakesStep (before after : S) : Type 0 where
-    pub step : KeyStep
-    pub reply : Reply
-    pub took_it : relations.took before step now reply after
+-- its link failed or was to end while it was kept waiting, so that it has ended
+pub record LosesLink (old new : GuestState) : Type 0 where
+  pub goes_on : IsFalse (has_ended old.last)
+  pub last : new.last ≡ Some Broken
+  pub session : new.session ≡ closed old.session
+  pub link : new.link ≡ failed old.link
 
-  -- the store was asked how long a block is: nothing changed, what it holds is the same, or a step was taken
+-- a guest stays as it was, or has ended with its link
+abbrev pub StaysOrLosesLink : (old new : GuestState) → Type 0
+StaysOrLosesLink old new = (new ≡ old) ⊎ LosesLink old new
+
+module _ {S : Type 0} (relations : Relations S) (now : ℕ) where
+  -- a key was read at that moment
+  pub record ReadsKey (before after : S) : Type 0 where
+    pub key : List ℕ
+    pub short : length key ≤ longest_key
+    pub reply : Reply
+    pub took_it : relations.took before (Read key) now reply after
+
+  -- the store was asked how long a block is: nothing changed, what it holds is the same, or one
+  -- key was read
   abbrev pub MayAsk : (before after : S) → Type 0
-  MayAsk before after = (after ≡ before) ⊎ (relations.same before after ⊎ TakesStep before after)
+  MayAsk before after = (after ≡ before) ⊎ (relations.same before after ⊎ ReadsKey before after)
 
   -- the store may have been asked how long a block is, and then the guest was visited
   pub record AsksAndVisits (answer : Visit) (old new : GuestState) (before after : S) : Type 0 where
@@ -28,9 +45,10 @@ module _ {S : Type 0} (relations : Relations S) (now : ℕ) where
     pub asks : MayAsk before between
     pub visits : Visited relations now answer old new between after
 
-  -- the guest is kept waiting: it stays as it was, and the store may have been asked how long a block is
+  -- the guest is kept waiting: it stays as it was or has ended with its link, and the store may have been asked how
+  -- long a block is
   pub record IsKeptWaiting (old new : GuestState) (before after : S) : Type 0 where
-    pub stays : new ≡ old
+    pub stays : StaysOrLosesLink old new
     pub asks : MayAsk before after
 
   -- A round: some guests were visited one after another, and the store goes from each to the next; of a guest that is

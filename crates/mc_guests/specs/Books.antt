@@ -165,6 +165,17 @@ pub data SettlesFrom : (at : ℕ) (old new : BooksState) (before after : WorkEnd
 abbrev pub MayWake : (old new : BooksState) → Type 0
 MayWake old new = (new ≡ old) ⊎ ((at : ℕ) × SleepsAt at old × (new ≡ woken at old))
 
+-- some that slept may have been woken, one after another
+pub data WakesSome : (old new : BooksState) → Type 0 where
+  wakes_nobody : {books : BooksState} → WakesSome books books
+  wakes_another : {old mid new : BooksState} → WakesSome old mid → MayWake mid new → WakesSome old new
+
+-- whether one may be tried again is seen anew, and then some that slept may have been woken
+pub record LetsOn (old new : BooksState) : Type 0 where
+  pub tried : BooksState
+  pub sees : tried ≡ record old { may_try = tried.may_try }
+  pub wakes : WakesSome tried new
+
 -- a round leaves those that sleep, all numbers, and who is awake
 pub record KeepsBooks (old new : BooksState) : Type 0 where
   pub asleep : drop old.awake new.row.guests ≡ drop old.awake old.row.guests

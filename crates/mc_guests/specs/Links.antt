@@ -62,3 +62,8 @@ IsWrite old bytes (Ok (TookBytes n)) new =
     (n ≤ length bytes) × (new ≡ took (asked false old) (take n bytes))
 IsWrite old bytes (Ok TookNone) new = new ≡ asked false old
 IsWrite old bytes (Err fault) new = new ≡ failed (asked false old)
+
+-- what comes of a pause, by its answer: nothing, or the link failed once more
+abbrev pub Pauses : {A : Type 0} → LinkState → Result A LinkFault → LinkState → Type 0
+Pauses old (Ok done) new = new ≡ old
+Pauses old (Err fault) new = new ≡ failed old

@@ -2,7 +2,7 @@
 use Rattle.std.specs.Prelude.{◌≡◌, ◌⊎◌, ℕ, List, [], ◌∷◌, ◌++◌, take}
 use Rattle.mc_protocol.specs.declared.step.Steps.{Ghosts as Relations}
 use Rattle.mc_guests.specs.Asks.{AsksAndVisits, IsKeptWaiting}
-use Rattle.mc_guests.specs.Books.{BooksState, MayWake, KeepsBooks}
+use Rattle.mc_guests.specs.Books.{BooksState, LetsOn, KeepsBooks}
 use Rattle.mc_guests.specs.Guests.{GuestState}
 use Rattle.mc_guests.specs.declared.guest.Visit.{Visit}
 
@@ -25,8 +25,8 @@ module _ {S : Type 0} (relations : Relations S) (now : ℕ) where
     pub turns : HaveTurns (take old.awake old.row.guests) (take old.awake new.row.guests) before after
     pub keeps : KeepsBooks old new
 
-  -- one that is kept waiting may have been woken, and then all that were awake had their turns
+  -- some that are kept waiting may have been woken, and then all that were awake had their turns
   pub record VisitsAll (old new : BooksState) (before after : S) : Type 0 where
     pub between : BooksState
-    pub wakes : MayWake old between
+    pub wakes : LetsOn old between
     pub visits : VisitsAwake between new before after

@@ -7,9 +7,6 @@ ghost use Rattle.mc_guests.specs.Budgets.{may_try};
 /// How many bytes a guest may hold, however much others do.
 pub const LITTLE: usize = 131_072;
 
-/// How many seconds a link is quiet at least whose guest is to make room for others.
-pub const QUIET: u64 = 5;
-
 /// What the guests of a worker hold, and how much they are meant to.
 #[derive(Drop)]
 pub struct Budget {
@@ -23,10 +20,18 @@ pub struct Budget {
     pub large: usize,
     /// How many are kept waiting.
     pub waiting: usize,
-    /// Whether memory came back since one was kept waiting in vain.
+    /// Whether memory came back since the last retry.
     pub is_eased: bool,
-    /// Whether one that was kept waiting went on since the turn among them was passed on.
-    pub is_passed: bool,
+    /// Whether others wait for the oldest waiting guest.
+    pub is_kept: bool,
+    /// The bytes that were promised in this retry.
+    pub promised: usize,
+    /// The time, in ticks of 0.25 s.
+    pub ticks: u64,
+    /// The tick of the last retry.
+    pub tried: u64,
+    /// The tick of the last judgement of slow guests.
+    pub judged: u64,
 }
 
 impl Budget {
@@ -43,7 +48,11 @@ impl Budget {
             large: 0,
             waiting: 0,
             is_eased: false,
-            is_passed: false,
+            is_kept: false,
+            promised: 0,
+            ticks: 0,
+            tried: 0,
+            judged: 0,
         }
     }
 
@@ -57,9 +66,20 @@ impl Budget {
         wanted <= LITTLE || wanted <= self.share.saturating_sub(self.held) || self.large == 0
     }
 
+    /// Returns whether a waiting guest finds room for `more` bytes, beside what was promised.
+    pub(crate) fn has_left(&self, more: usize) -> bool {
+        let taken = self.held.saturating_add(self.promised);
+        more <= self.share.saturating_sub(taken) || (self.large == 0 && self.promised == 0)
+    }
+
     /// Returns whether it may soon be over.
     pub(crate) fn is_tight(&self) -> bool {
         self.waiting > 0 || self.held > self.tight
+    }
+
+    /// Returns whether others wait for the oldest waiting guest.
+    pub(crate) fn is_kept_for_one(&self) -> bool {
+        self.is_kept && self.waiting > 0
     }
 
     /// Returns whether one that is kept waiting may be tried again.
@@ -67,6 +87,29 @@ impl Budget {
         ensures { result ≡ may_try self.now }
     {
         self.is_eased && self.waiting > 0
+    }
+
+    /// Returns whether a retry is due, because memory came back or a tick has passed, and begins it.
+    pub(crate) fn tries_again(&mut self) -> bool {
+        if self.waiting == 0 || (!self.is_eased && self.ticks == self.tried) {
+            return false;
+        }
+        self.is_eased = false;
+        self.is_kept = false;
+        self.promised = 0;
+        self.tried = self.ticks;
+        true
+    }
+
+    /// Returns how many slow guests to judge now: once a tick, as many as wait, at most 16.
+    pub(crate) fn takes_turn_to_judge(&mut self) -> usize
+        ensures { may_try self.new ≡ may_try self.old }
+    {
+        if self.ticks == self.judged {
+            return 0;
+        }
+        self.judged = self.ticks;
+        self.waiting.min(JUDGED)
     }
 
     /// Counts a guest no more.
@@ -89,3 +132,6 @@ impl Budget {
         }
     }
 }
+
+/// The most slow guests that are judged in one tick.
+const JUDGED: usize = 16;

@@ -206,6 +206,16 @@ impl<L: Link + Drop> Link for Gathering<L> {
         }
     }
 
+    fn pause(&mut self) -> Result<(), LinkFault> {
+        if self.link.faults() == u64::MAX {
+            return Ok(());
+        }
+        match self.flush() {
+            Ok(()) => self.link.pause(),
+            Err(LinkFault) => Err(LinkFault),
+        }
+    }
+
     fn faults(&self) -> u64 {
         self.link.faults()
     }

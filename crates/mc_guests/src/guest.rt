@@ -4,6 +4,7 @@ ghost use Rattle.mc_protocol.specs.Commands.{longest_key};
 ghost use Rattle.mc_session.specs.Resting.{resting};
 ghost use Rattle.mc_guests.specs.Guests.{welcomed, has_ended, ends, IsWaiting};
 ghost use Rattle.mc_guests.specs.Visits.{Visited, Does, Writes, Reads};
+ghost use Rattle.mc_guests.specs.Asks.{StaysOrLosesLink};
 
 use crate::link::{Got, Link, LinkFault, Took};
 use crate::tap::Tap;
@@ -43,6 +44,8 @@ pub struct Guest<L: Link + Drop> {
     tap: Tap<L>,
     /// How many bytes are read at once.
     longest: usize,
+    /// The bytes that the last read or write moved.
+    moved: usize,
     last: Option<Visit>,
 }
 
@@ -64,6 +67,7 @@ impl<L: Link + Drop> Guest<L> {
             session: Session::new(alloc, greatest),
             tap: Tap { link },
             longest: FIRST_PIECE,
+            moved: 0,
             last: None,
         })
     }
@@ -117,6 +121,25 @@ impl<L: Link + Drop> Guest<L> {
         self.session.close();
         let waiting = self.session.out().len();
         self.session.sent(waiting);
+    }
+
+    /// Returns the bytes that the last read or write moved.
+    pub(crate) fn moved_bytes(&self) -> usize {
+        self.moved
+    }
+
+    /// Flushes its link, because the guest waits for memory. If the link failed or is to end, the
+    /// guest has ended.
+    pub(crate) fn pause(&mut self)
+        ensures { StaysOrLosesLink self.old self.new }
+    {
+        if self.ending().is_some() {
+            return;
+        }
+        if let Err(LinkFault) = self.tap.link.pause() {
+            self.session.close();
+            self.last = Some(Visit::Broken);
+        }
     }
 
     /// Counts the bytes of the unit that is read now, if its line announces a block, whether or not
@@ -176,6 +199,7 @@ impl<L: Link + Drop> Guest<L> {
                 if taken == 0 {
                     return Visit::Later;
                 }
+                self.moved = taken;
                 self.session.sent(taken);
                 Visit::Wrote
             }
@@ -215,6 +239,7 @@ impl<L: Link + Drop> Guest<L> {
                 if count == 0 {
                     return Visit::Later;
                 }
+                self.moved = count;
                 self.widen(count);
                 Visit::Read
             }

@@ -5,14 +5,14 @@ ghost use Rattle.mc_guests.specs.Guests.{welcomed, has_ended};
 ghost use Rattle.mc_guests.specs.Books.{no_books, quiet, woken, put_behind, let_in, counted};
 ghost use Rattle.mc_guests.specs.Budgets.{may_try};
 ghost use Rattle.mc_guests.specs.Books.{SleepsAt, StaysOrSleeps, IsFateOf, is_over};
-ghost use Rattle.mc_guests.specs.Books.{Wakes, MayWake, LetsGo, Settles, SettlesFrom};
+ghost use Rattle.mc_guests.specs.Books.{Wakes, WakesSome, MayWake, LetsOn, LetsGo, Settles, SettlesFrom};
 ghost use Rattle.mc_guests.specs.Turns.{VisitsAll, VisitsAwake};
 
 use crate::budget::Budget;
 use crate::guest::{Guest, Visit};
 use crate::link::Link;
 use crate::row::Row;
-use crate::weighed::Waits;
+use crate::weighed::{Judged, Waits};
 use mc_protocol::Steps;
 use mc_time::Moment;
 use std::alloc::Global;
@@ -54,6 +54,9 @@ impl<L: Link + Drop> Model for Guests<L> {
 
     ghost invariant = { λ g. g.awake ≤ length g.row.guests };
 }
+
+/// The most waiting guests that one retry looks at.
+const LOOKS: usize = 256;
 
 /// How a guest that is awake goes on.
 #[derive(Clone, Copy, Debug, PartialEq, Eq)]
@@ -112,8 +115,8 @@ impl<L: Link + Drop> Guests<L> {
         false
     }
 
-    /// Visits each that is awake once, and with them one that is kept waiting, if memory came back.
-    /// Who sleeps stays as it is.
+    /// Visits each awake guest once. Before, wakes waiting guests that find room, if memory came
+    /// back or a tick has passed.
     pub fn visit_all<S: Steps>(&mut self, alloc: Global, store: &mut S, now: Moment)
         ensures round { MakesRound S.Steps now store.old store.new }
         ensures visits { VisitsAll S.Steps now self.old self.new store.old store.new }
@@ -131,40 +134,148 @@ impl<L: Link + Drop> Guests<L> {
         row.visit_front(alloc, self.awake, store, now, budget);
     }
 
-    /// Wakes one of those that are kept waiting, if memory came back: the oldest and the newest of
-    /// them in turn. So those whose blocks don't come keep nobody out, however many they are, and
-    /// nobody waits for ever.
-    fn let_on(&mut self)
-        ensures { MayWake self.old self.new }
+    /// Sets the time, in ticks of 0.25 s.
+    pub fn tick(&mut self, ticks: u64)
+        ensures { self.new ≡ self.old }
     {
-        if !self.budget.may_try() {
-            return;
-        }
-        self.pass_turn();
-        let Some(number) = self.whose_turn() else {
-            return;
-        };
-        match self.row.place_of(number) {
-            Some(place) if self.waits_at(place) => {
-                self.row.set_waits(place, Waits::Next);
-                self.wake_at(place);
-            }
-            _ => self.strike_out(),
+        self.budget.ticks = ticks;
+    }
+
+    /// Wakes waiting guests that find room, if memory came back or a tick has passed.
+    fn let_on(&mut self)
+        ensures { LetsOn self.old self.new }
+    {
+        if self.tries_again() {
+            self.let_on_all();
         }
     }
 
-    /// Passes the turn from the oldest to the newest, and back, if the one whose turn it was went
-    /// on.
+    /// Wakes waiting guests that find room.
+    fn let_on_all(&mut self)
+        ensures { WakesSome self.old self.new }
+    {
+        self.let_on_in_turn();
+        self.let_on_others();
+    }
+
+    /// Returns whether a retry of the waiting guests is due, and records it.
+    fn tries_again(&mut self) -> bool
+        ensures { self.new ≡ record self.old { may_try = self.new.may_try } }
+    {
+        self.budget.tries_again()
+    }
+
+    /// Wakes the oldest and the newest waiting guest in turn, as long as they find room.
+    fn let_on_in_turn(&mut self)
+        ensures { WakesSome self.old self.new }
+    {
+        for _ in 0..LOOKS {
+            if !self.lets_next_on() {
+                return;
+            }
+        }
+    }
+
+    /// Wakes the waiting guest whose turn it is, if it finds room. Returns whether it did, or waits
+    /// no more. An oldest guest that waited for 2 s without room makes others wait.
+    fn lets_next_on(&mut self) -> bool
+        ensures { MayWake self.old self.new }
+    {
+        let Some(number) = self.whose_turn() else {
+            return false;
+        };
+        let place = match self.row.place_of(number) {
+            Some(place) if self.is_queued(place) => place,
+            _ => {
+                self.strike_out();
+                return true;
+            }
+        };
+        if !self.finds_room(place) {
+            self.keep_room(place);
+            return false;
+        }
+        self.strike_out();
+        self.pass_turn();
+        self.try_again(place);
+        true
+    }
+
+    /// Wakes all other waiting guests that find room, unless they wait for the oldest.
+    fn let_on_others(&mut self)
+        ensures { WakesSome self.old self.new }
+    {
+        if self.budget.is_kept {
+            return;
+        }
+        for _ in 0..self.queue.len().min(LOOKS) {
+            self.look_at_first();
+        }
+    }
+
+    /// Wakes the first guest of the queue if it finds room. Else moves it to the end.
+    fn look_at_first(&mut self)
+        ensures { MayWake self.old self.new }
+    {
+        let Some(number) = self.queue.pop_front() else {
+            return;
+        };
+        let place = match self.row.place_of(number) {
+            Some(place) if self.is_queued(place) => place,
+            _ => return,
+        };
+        if self.finds_room(place) || self.queue.push_back(number).is_err() {
+            self.try_again(place);
+        }
+    }
+
+    /// Wakes a waiting guest.
+    fn try_again(&mut self, at: usize)
+        ensures { MayWake self.old self.new }
+    {
+        if self.awake <= at && at < self.row.len() {
+            self.row.set_waits(at, Waits::Next);
+            let first = self.awake;
+            self.row.swap(at, first);
+            self.awake = first + 1;
+        }
+    }
+
+    /// Returns whether a waiting guest finds room, and promises the room to it.
+    fn finds_room(&mut self, at: usize) -> bool
+        ensures { self.new ≡ self.old }
+    {
+        if at >= self.row.len() {
+            return true;
+        }
+        let missing = self.row.missing(at);
+        if self.budget.has_left(missing) {
+            self.budget.promised = self.budget.promised.saturating_add(missing);
+            return true;
+        }
+        false
+    }
+
+    /// Makes others wait for this guest, if it is the oldest one's turn and it waited for 2 s.
+    fn keep_room(&mut self, at: usize)
+        ensures { self.new ≡ self.old }
+    {
+        self.budget.is_kept = !self.is_last && self.waits_long(at);
+    }
+
+    /// Returns whether the guest at a place waits in the queue for at least 2 s.
+    fn waits_long(&self, at: usize) -> bool {
+        at < self.row.len() && self.row.waits_long(at, self.budget.ticks)
+    }
+
+    /// Passes the turn from the oldest to the newest, and back.
     fn pass_turn(&mut self)
         ensures { self.new ≡ self.old }
     {
-        if self.budget.is_passed {
-            self.budget.is_passed = false;
-            self.is_last = !self.is_last;
-        }
+        self.is_last = !self.is_last;
     }
 
-    /// Names the link of the one of those in the queue whose turn it is.
+    /// Returns the number of the guest whose turn it is in the queue.
     fn whose_turn(&self) -> Option<u64> {
         if self.is_last {
             self.queue.back().copied()
@@ -173,7 +284,7 @@ impl<L: Link + Drop> Guests<L> {
         }
     }
 
-    /// Takes the one out of the queue whose turn it would be, which isn't kept waiting any more.
+    /// Removes the guest whose turn it is from the queue.
     fn strike_out(&mut self)
         ensures { self.new ≡ self.old }
     {
@@ -184,9 +295,9 @@ impl<L: Link + Drop> Guests<L> {
         }
     }
 
-    /// Returns whether the guest at a place is kept waiting, if there is one.
-    fn waits_at(&self, at: usize) -> bool {
-        at < self.row.len() && self.row.waits(at) != Waits::No
+    /// Returns whether the guest at a place is in the queue.
+    fn is_queued(&self, at: usize) -> bool {
+        at < self.row.len() && self.row.waits(at) == Waits::Queued
     }
 
     /// Counts those that are kept waiting.
@@ -194,13 +305,19 @@ impl<L: Link + Drop> Guests<L> {
         self.budget.waiting
     }
 
-    /// Names the link whose guest is to make room for others: it holds much and was quiet for 5 seconds, and its
-    /// bytes times these seconds are most. It isn't named again for as long. All guests are looked at, and stay
-    /// as they are.
-    pub fn hoarder(&mut self, now: Moment) -> Option<u64>
+    /// Returns how many slow guests to judge now: once a tick, as many as wait, at most 16.
+    pub fn takes_turn_to_judge(&mut self) -> usize
         ensures { self.new ≡ self.old }
     {
-        self.row.hoarder(now)
+        self.budget.takes_turn_to_judge()
+    }
+
+    /// Judges the slowest of the guests that hold more than 128 KiB, if it is slow: it moved nothing
+    /// for 5 s, or less than 64 KiB/s for at least 5 s. All guests are looked at.
+    pub fn judge_slowest(&mut self) -> Option<Judged>
+        ensures { self.new ≡ self.old }
+    {
+        self.row.judge_slowest(self.budget.ticks)
     }
 
     /// Lets go of those that have ended, which are counted, and lets those sleep that answered

@@ -28,7 +28,7 @@ pub struct LinkFault;
 /// and taken as they were, and counts; if no more faults can be counted, both calls answer `Later`.
 pub trait Link {
     ghost use Rattle.std.specs.Prelude.{◌≡◌, ◌-◌, ◌^◌, ◌++◌, Ok};
-    ghost use Rattle.mc_guests.specs.Links.{LinkState, Gives, IsWrite};
+    ghost use Rattle.mc_guests.specs.Links.{LinkState, Gives, IsWrite, Pauses};
 
     /// What it gave and took until now, how often it failed, whether it is at its end, and whether it was
     /// last asked to give and not to take.
@@ -54,6 +54,14 @@ pub trait Link {
         } else {
             self.try_write(first)
         }
+    }
+
+    /// Flushes what it took, because its guest waits for memory. The link is named at its next event.
+    /// Fails if the link failed or is to end.
+    fn pause(&mut self) -> Result<(), LinkFault>
+        ensures { Pauses (shown self.old) result (shown self.new) }
+    {
+        Ok(())
     }
 
     /// Counts how often it failed.

@@ -23,7 +23,15 @@ pub trait Links<L> {
     /// Passes some time if there is nothing to do.
     fn rest(&mut self);
 
-    /// Lets a link end whose guest holds much and was quiet, to make room for others. It is named then. By
-    /// itself it does nothing.
+    /// Closes the link of a slow guest to make room for others, and names it. Does nothing by default.
     fn end(&mut self, _number: u64) {}
+
+    /// Returns the time in ticks of 0.25 s, by a clock that never goes back. A pause of the process
+    /// counts as at most two ticks.
+    fn ticks(&mut self) -> u64 {
+        0
+    }
+
+    /// Names a link without an event, so that it is asked again. Does nothing by default.
+    fn ask_again(&mut self, _number: u64) {}
 }

@@ -8,7 +8,7 @@ use mc_time::Moment;
 use std::alloc::{AllocError, Global};
 use std::cell::Cell;
 
-/// Notes how long a block is that is to be told, and doesn't take it.
+/// Notes how long a block is that is to be told, and takes no reply.
 #[derive(Drop)]
 struct Measure<'a> {
     length: &'a Cell<usize>,
@@ -26,7 +26,7 @@ impl<'a> Answer for Measure<'a> {
         if let Reply::Hit { block, .. } = reply {
             self.length.set(block.bytes().len());
         }
-        Ok(())
+        Err(AllocError)
     }
 }
 

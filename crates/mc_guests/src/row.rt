@@ -9,7 +9,7 @@ use crate::guest::{Guest, Visit};
 use crate::link::Link;
 use crate::numbers::Numbers;
 use crate::rounds::round_within;
-use crate::weighed::{Waits, Weighed};
+use crate::weighed::{Judged, Waits, Weighed};
 use mc_protocol::Steps;
 use mc_time::Moment;
 use std::alloc::Global;
@@ -112,40 +112,44 @@ impl<L: Link + Drop> Row<L> {
         self.numbers.at(at)
     }
 
-    /// Names the link of the guest of which bytes times quiet seconds are most, of those that hoard at all, and
-    /// notes that it was heard of now.
-    pub fn hoarder(&mut self, now: Moment) -> Option<u64>
-        ensures { self.new ≡ self.old }
+    /// Returns the bytes that a guest waits for, beyond those that are counted.
+    pub fn missing(&self, at: usize) -> usize
+        requires { at < length self.now.guests }
     {
-        let number = self.most_hoarding(now)?;
-        self.note_heard(number, now);
-        Some(number)
+        self.guests[at].missing()
     }
 
-    /// Names the link of the guest of which bytes times quiet seconds are most, of those that hoard at all.
-    fn most_hoarding(&self, now: Moment) -> Option<u64> {
-        let mut most = 0u64;
+    /// Returns whether a guest waits in the queue for at least 2 s.
+    pub fn waits_long(&self, at: usize, ticks: u64) -> bool
+        requires { at < length self.now.guests }
+    {
+        self.guests[at].waits_long(ticks)
+    }
+
+    /// Judges the slowest guest that holds much, if one is slow.
+    pub fn judge_slowest(&mut self, ticks: u64) -> Option<Judged>
+        ensures { self.new ≡ self.old }
+    {
+        let (at, number) = self.slowest(ticks)?;
+        match self.guests.get_mut(at) {
+            Some(guest) => Some(guest.judge(number, ticks)),
+            None => None,
+        }
+    }
+
+    /// Returns the place of the slowest guest that holds much, and the number of its link.
+    fn slowest(&self, ticks: u64) -> Option<(usize, u64)> {
+        let mut least = u64::MAX;
         let mut found = None;
         for at in 0..self.guests.len() {
-            let hoards = self.guests[at].hoards(now);
-            if hoards > most {
-                most = hoards;
-                found = Some(self.numbers.at(at));
+            if let Some(rate) = self.guests[at].slowness(ticks)
+                && rate < least
+            {
+                least = rate;
+                found = Some((at, self.numbers.at(at)));
             }
         }
         found
-    }
-
-    /// Notes of the guest whose link has this number that it was heard of now.
-    fn note_heard(&mut self, number: u64, now: Moment)
-        ensures { self.new ≡ self.old }
-    {
-        let Some(at) = self.numbers.place_of(number) else {
-            return;
-        };
-        if let Some(guest) = self.guests.get_mut(at) {
-            guest.set_heard(now);
-        }
     }
 
     /// Says where the guest stands whose link has this number.

@@ -3,14 +3,24 @@ ghost use Rattle.std.specs.Prelude.{◌≡◌, ◌≤◌, length, IfSome, None};
 ghost use Rattle.mc_protocol.specs.Commands.{longest_key};
 ghost use Rattle.mc_guests.specs.Asks.{AsksAndVisits, IsKeptWaiting, MayAsk};
 
-use crate::budget::{Budget, LITTLE, QUIET};
+use crate::budget::{Budget, LITTLE};
 use crate::guest::{Guest, Visit};
 use crate::link::Link;
 use crate::measure::block_length;
+use crate::pace::Pace;
 use mc_protocol::Steps;
 use mc_time::Moment;
 use std::alloc::Global;
 use std::marker::Model;
+
+/// The bytes that an idle guest reserves. They aren't counted: idle guests keep nobody waiting.
+const IDLE: usize = 6144;
+
+/// The bytes that a guest reserves before it asks for the whole room of a large block.
+const BEGUN: usize = 32_768;
+
+/// The ticks after which others wait for a waiting guest.
+const LONG: u64 = 8;
 
 /// A guest, and what is known of the memory that it holds. Contracts see what they see of the guest.
 #[derive(Drop)]
@@ -23,20 +33,31 @@ pub struct Weighed<L: Link + Drop> {
     /// Whether it is let have all of the block that it reads.
     has_leave: bool,
     waits: Waits,
-    /// The second in which its link last gave or took bytes.
-    heard: u64,
+    /// The bytes that it wanted when it was kept waiting.
+    wanted: usize,
+    /// The pace of its link since it holds more than a little, or waits.
+    pace: Pace,
 }
 
 /// Whether a guest is kept waiting until there is room.
 #[derive(Clone, Copy, Debug, PartialEq, Eq)]
 pub enum Waits {
     No,
-    /// It is from now on.
+    /// It waits and isn't in the queue yet.
     New,
-    /// It stands in the queue.
+    /// It is in the queue.
     Queued,
-    /// It is its turn.
+    /// It is tried again.
     Next,
+}
+
+/// What to do with a guest that holds much and is slow, by the number of its link.
+#[derive(Clone, Copy, Debug, PartialEq, Eq)]
+pub enum Judged {
+    /// Ask the link again: the poll may have missed it.
+    Asks(u64),
+    /// Close the link: it was asked again and is still slow.
+    Ends(u64),
 }
 
 impl<L: Link + Drop> Model for Weighed<L> {
@@ -58,11 +79,12 @@ impl<L: Link + Drop> Weighed<L> {
             unit: 0,
             has_leave: false,
             waits: Waits::No,
-            heard: 0,
+            wanted: 0,
+            pace: Pace::new(0),
         }
     }
 
-    /// Says what its last visit answered, and nothing before the first.
+    /// Returns what its last visit answered, and nothing before the first.
     pub fn last(&self) -> Option<Visit>
         ensures { result ≡ self.now.last }
     {
@@ -74,29 +96,43 @@ impl<L: Link + Drop> Weighed<L> {
         self.waits
     }
 
-    /// Notes that it stands in the queue of those that are kept waiting, or that it is its turn there.
+    /// Notes that it stands in the queue of those that are kept waiting, or that it is tried again.
     pub fn set_waits(&mut self, waits: Waits)
         ensures { self.new ≡ self.old }
     {
         self.waits = waits;
     }
 
-    /// Multiplies the bytes for which it is counted by the seconds for which its link was quiet, if
-    /// it holds more than a little, goes on, and these are at least `QUIET`; else none.
-    pub fn hoards(&self, now: Moment) -> u64 {
-        let quiet = now.seconds().saturating_sub(self.heard);
-        if self.waits == Waits::No && self.counted > LITTLE && quiet >= QUIET {
-            (self.counted as u64).saturating_mul(quiet)
+    /// Returns the bytes that it waits for, beyond those that are counted.
+    pub fn missing(&self) -> usize {
+        self.wanted.saturating_sub(self.counted)
+    }
+
+    /// Returns whether it waits in the queue for at least 2 s.
+    pub fn waits_long(&self, ticks: u64) -> bool {
+        self.waits == Waits::Queued && self.pace.age(ticks) >= LONG
+    }
+
+    /// Returns its rate if it is slow, holds more than a little and doesn't wait.
+    pub fn slowness(&self, ticks: u64) -> Option<u64> {
+        if self.waits == Waits::No && self.counted > LITTLE && self.pace.is_slow(ticks) {
+            Some(self.pace.rate(ticks))
         } else {
-            0
+            None
         }
     }
 
-    /// Notes that its link is to end, so that it isn't found to hoard again at once.
-    pub fn set_heard(&mut self, now: Moment)
+    /// Judges a slow guest, whose link has this number.
+    pub fn judge(&mut self, number: u64, ticks: u64) -> Judged
         ensures { self.new ≡ self.old }
     {
-        self.heard = now.seconds();
+        if self.pace.was_asked(ticks) {
+            self.pace = Pace::new(ticks);
+            Judged::Ends(number)
+        } else {
+            self.pace.ask(ticks);
+            Judged::Asks(number)
+        }
     }
 
     /// Gives back what it holds, and counts it no more.
@@ -106,8 +142,8 @@ impl<L: Link + Drop> Weighed<L> {
         budget.is_eased = true;
     }
 
-    /// Visits the guest. If it wants more than a little and there is no room for that, it is kept
-    /// waiting and stays as it was.
+    /// Visits the guest. Returns nothing if it wants more than a little and there is no room: it is
+    /// kept waiting and stays as it was, or has ended if its link failed or is to end.
     pub fn visit<S: Steps>(
         &mut self,
         alloc: Global,
@@ -121,49 +157,49 @@ impl<L: Link + Drop> Weighed<L> {
             IsKeptWaiting S.Steps now self.old self.new store.old store.new }
     {
         let wanted = self.wanted_bytes(alloc, store, now, budget);
-        if !self.may_go_on(wanted, now, budget) {
+        if !self.may_go_on(wanted, budget) {
+            self.guest.pause();
             return None;
         }
         let answer = self.guest.visit(alloc, store, now);
-        self.weigh(answer, now, budget);
+        self.weigh(answer, budget);
         Some(answer)
     }
 
     /// Returns whether it may go on, wanting so many bytes; else it is kept waiting.
     #[inline]
-    fn may_go_on(&mut self, wanted: usize, now: Moment, budget: &mut Budget) -> bool
+    fn may_go_on(&mut self, wanted: usize, budget: &mut Budget) -> bool
         ensures { self.new ≡ self.old }
     {
         if wanted <= LITTLE && self.waits == Waits::No {
             self.has_leave = false;
             return true;
         }
-        self.finds_room(wanted, now, budget)
+        self.finds_room(wanted, budget)
     }
 
     /// Returns whether there is room for it to go on, wanting so many bytes; else it is kept
     /// waiting.
     #[inline(never)]
-    fn finds_room(&mut self, wanted: usize, now: Moment, budget: &mut Budget) -> bool
+    fn finds_room(&mut self, wanted: usize, budget: &mut Budget) -> bool
         ensures { self.new ≡ self.old }
     {
         budget.take_out(self.counted, self.waits == Waits::No);
         if !self.has_room(wanted, budget) {
-            self.keep(budget);
+            self.keep(wanted, budget);
             return false;
         }
         budget.put_in(self.counted, true);
         if self.waits != Waits::No {
-            // while it was kept waiting nothing could be heard of it
-            self.heard = now.seconds();
-            budget.is_passed = true;
+            self.pace = Pace::new(budget.ticks);
         }
         self.waits = Waits::No;
         self.has_leave = wanted > LITTLE;
         true
     }
 
-    /// Counts the bytes that its next visit may have it hold, if they are many.
+    /// Returns the bytes that its next visit may reserve, if they are many: for a large block that
+    /// has begun to come, or for an answer once memory is tight.
     fn wanted_bytes<S: Steps>(
         &self,
         alloc: Global,
@@ -176,7 +212,7 @@ impl<L: Link + Drop> Weighed<L> {
         if self.unit > LITTLE {
             let announced = self.guest.announced_bytes();
             if announced > LITTLE {
-                return announced;
+                return missing_of(announced, self.guest.capacity());
             }
         }
         if !budget.is_tight() {
@@ -189,16 +225,16 @@ impl<L: Link + Drop> Weighed<L> {
     }
 
     /// Returns whether it may go on, wanting so many bytes: a little, or what it had leave for, or
-    /// what fits, if no other one came before it.
+    /// what fits, if nobody waits for long.
     fn has_room(&self, wanted: usize, budget: &Budget) -> bool {
-        let is_first = self.waits == Waits::Next || budget.waiting == 0;
+        let is_open = self.waits == Waits::Next || !budget.is_kept_for_one();
         wanted <= LITTLE
             || (self.has_leave && wanted <= self.counted)
-            || (is_first && budget.fits(wanted))
+            || (is_open && budget.fits(wanted))
     }
 
-    /// Keeps it waiting.
-    fn keep(&mut self, budget: &mut Budget)
+    /// Keeps it waiting, as it wants so many bytes.
+    fn keep(&mut self, wanted: usize, budget: &mut Budget)
         ensures { self.new ≡ self.old }
     {
         match self.waits {
@@ -206,32 +242,31 @@ impl<L: Link + Drop> Weighed<L> {
                 if self.counted > LITTLE {
                     budget.is_eased = true;
                 }
+                self.pace = Pace::new(budget.ticks);
                 self.waits = Waits::New;
             }
-            Waits::Next => {
-                budget.is_eased = false;
-                self.waits = Waits::Queued;
-            }
+            Waits::Next => self.waits = Waits::New,
             Waits::New | Waits::Queued => {}
         }
+        self.wanted = wanted;
         budget.put_in(self.counted, false);
     }
 
     /// Counts it for what it holds after a visit that answered so, and for all of a block that it has leave to
     /// read.
-    fn weigh(&mut self, answer: Visit, now: Moment, budget: &mut Budget)
+    fn weigh(&mut self, answer: Visit, budget: &mut Budget)
         ensures { self.new ≡ self.old }
     {
         match answer {
             Visit::Wrote => {
-                self.heard = now.seconds();
+                self.pace.moves(self.guest.moved_bytes(), budget.ticks);
                 // of one who holds little it is seen behind a later visit that it holds less
                 if self.counted <= LITTLE {
                     return;
                 }
             }
             Visit::Read => {
-                self.heard = now.seconds();
+                self.pace.moves(self.guest.moved_bytes(), budget.ticks);
                 self.unit = self.guest.unit();
             }
             Visit::Turned => {
@@ -243,7 +278,7 @@ impl<L: Link + Drop> Weighed<L> {
             }
             Visit::Served | Visit::Broken | Visit::Refused => {}
         }
-        let reserved = self.guest.capacity();
+        let reserved = self.guest.capacity().saturating_sub(IDLE);
         let counted = if self.has_leave {
             reserved.max(self.unit)
         } else {
@@ -262,8 +297,21 @@ impl<L: Link + Drop> Weighed<L> {
         if counted < self.counted {
             budget.is_eased = true;
         }
+        if self.counted <= LITTLE && counted > LITTLE {
+            self.pace = Pace::new(budget.ticks);
+        }
         budget.take_out(self.counted, true);
         budget.put_in(counted, true);
         self.counted = counted;
+    }
+}
+
+/// Returns the bytes that a guest wants for a large block: none while few are reserved, or once
+/// there is room for all of it.
+fn missing_of(announced: usize, reserved: usize) -> usize {
+    if reserved < BEGUN || announced <= reserved {
+        0
+    } else {
+        announced
     }
 }

@@ -16,7 +16,10 @@ const GREATEST: u64 = 16_777_216;
 /// More rounds than guests are awake in.
 const ROUNDS: u64 = 1000;
 
-// Lines that announce a block: each is so many bytes with its block, which doesn't come.
+/// How many bytes come of a block: so many that all of its room is asked for.
+const BEGUN: usize = 40_000;
+
+// Lines that announce a block: each is so many bytes with its block, of which at most the first bytes come.
 
 const OF_131072: &[u8] = b"set b 0 0 131052\r\n";
 
@@ -39,6 +42,8 @@ const OF_9000000: &[u8] = b"set b 0 0 8999979\r\n";
 #[derive(Drop)]
 struct Quick<'a> {
     input: &'a [u8],
+    /// How many bytes it gives behind these.
+    more: usize,
     is_over: &'a Cell<bool>,
     is_ended: bool,
     was_read: bool,
@@ -53,6 +58,11 @@ impl<'a> Link for Quick<'a> {
         self.was_read = true;
         let count = piece.len().min(self.input.len());
         if count == 0 {
+            let more = piece.len().min(self.more);
+            self.more -= more;
+            if more > 0 {
+                return Ok(Got::Bytes(more));
+            }
             if self.is_over.get() {
                 self.is_ended = true;
                 return Ok(Got::End);
@@ -118,8 +128,8 @@ fn go_round(alloc: Global, hall: &mut Hall<'_>) {
     }
 }
 
-/// Lets a guest in whose link has this number, goes round until nobody is awake, and says how many
-/// are kept waiting then.
+/// Lets a guest in whose link has this number, goes round until nobody is awake, and returns how many
+/// are kept waiting then. Behind a line that announces a block its first bytes come.
 fn let_in<'a>(
     alloc: Global,
     hall: &mut Hall<'a>,
@@ -127,8 +137,10 @@ fn let_in<'a>(
     input: &'a [u8],
     is_over: &'a Cell<bool>,
 ) -> Result<usize, AllocError> {
+    let more = if input.starts_with(b"set") { BEGUN } else { 0 };
     let link = Quick {
         input,
+        more,
         is_over,
         is_ended: false,
         was_read: false,
@@ -327,20 +339,46 @@ fn waits_for_an_idle_one(
     Ok(let_two_in(alloc, &mut hall, &goes_on)?)
 }
 
-/// It is counted for some bytes, 4096 at most, and for none when it has left.
+/// It is counted for none, also when it has left.
 const IDLE: [(usize, bool, usize); 3] = [
-    (1_004_096, false, 0),
-    (1_000_000, false, 1),
+    (1_000_000, false, 0),
+    (999_999, false, 1),
     (1_000_000, true, 0),
 ];
 
 #[test]
-fn an_idle_guest_holds_two_first_pieces(rt: HostRuntime) -> Result<(), Fail> {
+fn an_idle_guest_counts_for_nothing(rt: HostRuntime) -> Result<(), Fail> {
     for length in [1, 60_000, 120_000, 1_000_000] {
         for (share, has_left, waiting) in &IDLE {
             let counted = waits_for_an_idle_one(rt.alloc(), length, *share, *has_left)?;
             assert_eq!(rt; counted, *waiting);
         }
     }
+    Ok(())
+}
+
+/// So many announce 9,000,000 bytes and send none of them. Returns how many are kept waiting of one that sends some of
+/// 400,000.
+fn waits_for_lines(alloc: Global, lines: u64) -> Result<usize, AllocError> {
+    let goes_on = Cell::new(false);
+    let mut hall = hall_of(alloc, Counting::new(alloc, false)?, 1_000_000);
+    for number in 0..lines {
+        let line = Quick {
+            input: OF_9000000,
+            more: 0,
+            is_over: &goes_on,
+            is_ended: false,
+            was_read: false,
+        };
+        if !hall.guests.welcome(alloc, line, GREATEST, number) {
+            return Err(AllocError);
+        }
+    }
+    let_in(alloc, &mut hall, u64::MAX, OF_400000, &goes_on)
+}
+
+#[test]
+fn lines_alone_keep_nobody_waiting(rt: HostRuntime) -> Result<(), Fail> {
+    assert_eq!(rt; waits_for_lines(rt.alloc(), 100)?, 0);
     Ok(())
 }

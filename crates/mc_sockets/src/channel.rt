@@ -19,8 +19,12 @@ pub struct Readiness {
     pub writes: bool,
     /// The other end sends no more, or the connection failed.
     pub is_final: bool,
+    /// The connection failed, or both ends have closed it.
+    pub has_failed: bool,
     /// Its link answered `Later`, and is named at the next event.
     pub waits: bool,
+    /// It began to wait since the last look at idle connections.
+    pub is_fresh: bool,
     /// Its link is gone, and some output is still to be sent.
     pub leaves: bool,
     /// It is to end, for this.
@@ -35,7 +39,9 @@ impl Readiness {
         reads: true,
         writes: true,
         is_final: false,
+        has_failed: false,
         waits: false,
+        is_fresh: false,
         leaves: false,
         ends: None,
         is_marked: false,
@@ -111,7 +117,7 @@ impl Wire {
     fn read(&mut self, piece: &mut [u8]) -> io::Result<usize>
         ensures { ReadsAtMost result piece.new }
     {
-        let known = self.readiness.get();
+        let known = self.goes_on();
         if let Some(parting) = known.ends {
             self.connection.note(parting);
             return Ok(0);
@@ -162,7 +168,7 @@ impl Wire {
     fn write(&mut self, first: &[u8], second: &[u8]) -> io::Result<usize>
         ensures { IfOk result (λ count. count ≤ length first.now + length second.now) }
     {
-        if !self.readiness.get().writes {
+        if !self.goes_on().writes {
             return Err(self.later());
         }
         match self.send(first, second) {
@@ -211,6 +217,39 @@ impl Wire {
         self.counts.add(counted, bytes as u64);
     }
 
+    /// Has the link named at the next event, because its guest waits for memory. Fails if the
+    /// connection failed or is to end.
+    fn pause(&mut self) -> io::Result<()> {
+        let known = self.readiness.get();
+        let parting = match known.ends {
+            Some(parting) => Some(parting),
+            None if known.has_failed => Some(Parting::ReadFault),
+            None => None,
+        };
+        if let Some(parting) = parting {
+            self.connection.note(parting);
+            return Err(io::Error::from(ErrorKind::ConnectionAborted));
+        }
+        self.readiness.set(Readiness {
+            waits: true,
+            is_fresh: known.is_fresh || !known.waits,
+            ..known
+        });
+        Ok(())
+    }
+
+    /// Returns the readiness, and clears `waits`: the link goes on.
+    fn goes_on(&self) -> Readiness {
+        let known = self.readiness.get();
+        if known.waits {
+            self.readiness.set(Readiness {
+                waits: false,
+                ..known
+            });
+        }
+        self.readiness.get()
+    }
+
     /// Returns `WouldBlock`, and has the link named at the next event; or `ConnectionAborted` if
     /// the connection is to end.
     fn later(&mut self) -> io::Error {
@@ -221,6 +260,7 @@ impl Wire {
         }
         self.readiness.set(Readiness {
             waits: true,
+            is_fresh: true,
             ..known
         });
         io::Error::from(ErrorKind::WouldBlock)
@@ -274,6 +314,14 @@ impl Link for Channel {
                 Err(LinkFault)
             }
         }
+    }
+
+    fn pause(&mut self) -> Result<(), LinkFault> {
+        if self.faults == u64::MAX || self.wire.pause().is_ok() {
+            return Ok(());
+        }
+        self.faults += 1;
+        Err(LinkFault)
     }
 
     fn faults(&self) -> u64 {

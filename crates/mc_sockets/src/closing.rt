@@ -50,4 +50,12 @@ impl<'a, R: Wait + Clock> Links<SocketLink> for ClosingLinks<'a, R> {
     fn end(&mut self, number: u64) {
         self.links.end(number)
     }
+
+    fn ticks(&mut self) -> u64 {
+        self.links.ticks()
+    }
+
+    fn ask_again(&mut self, number: u64) {
+        self.links.ask_again(number)
+    }
 }

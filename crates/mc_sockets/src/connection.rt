@@ -32,7 +32,7 @@ pub enum Parting {
     Idle,
     /// The listener has failed, and the program ends.
     ListenerFailed,
-    /// It held much and was quiet while others were kept waiting for memory.
+    /// It held much and was slow while others were kept waiting for memory.
     Hoarding,
 }
 
@@ -62,7 +62,7 @@ impl Parting {
             Parting::SessionOver => "quit, a line too long, or out of memory",
             Parting::Idle => "nothing was heard of it for as long as --idle-timeout allows",
             Parting::ListenerFailed => "the listener failed",
-            Parting::Hoarding => "it held much and was quiet while others waited for memory",
+            Parting::Hoarding => "it held much and was slow while others waited for memory",
         }
     }
 }

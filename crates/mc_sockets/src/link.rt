@@ -44,6 +44,10 @@ impl Link for SocketLink {
         self.gathering.try_write(bytes)
     }
 
+    fn pause(&mut self) -> Result<(), LinkFault> {
+        self.gathering.pause()
+    }
+
     fn faults(&self) -> u64 {
         self.gathering.faults()
     }

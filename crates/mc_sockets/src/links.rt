@@ -31,6 +31,9 @@ const ASKED: u32 = 16;
 /// After how many bytes that were moved it is asked for them too.
 const MOVED: usize = 262_144;
 
+/// How long a tick is, in milliseconds.
+const TICK: u64 = 250;
+
 /// How many connections that can't be served are passed over at most in the search for one that can.
 const PASSED: usize = 1024;
 
@@ -91,6 +94,10 @@ pub struct SocketLinks<'a, R: Wait + Clock> {
     gave: bool,
     /// Looks for connections that are idle; none if they may be for ever.
     watch: Option<Watch>,
+    /// The time in ticks of 0.25 s.
+    ticks: u64,
+    /// When a tick was last counted.
+    ticked: Option<Instant>,
     counts: Arc<Counts>,
 }
 
@@ -119,6 +126,8 @@ impl<'a, R: Wait + Clock> SocketLinks<'a, R> {
             asked: 0,
             gave: false,
             watch: None,
+            ticks: 0,
+            ticked: None,
             counts,
         }
     }
@@ -142,11 +151,29 @@ impl<'a, R: Wait + Clock> SocketLinks<'a, R> {
         if self.poll.poll(&mut self.events, Some(timeout)).is_err() {
             return;
         }
+        self.count_ticks();
         let told = self.note_events();
         if let Some(before) = before
             && told < self.events.capacity()
         {
             self.end_idle(before);
+        }
+    }
+
+    /// Counts the ticks that passed, at most two: a pause of the process counts no more.
+    fn count_ticks(&mut self) {
+        let Ok(now) = Instant::now(self.rt) else {
+            return;
+        };
+        let Some(ticked) = self.ticked else {
+            self.ticked = Some(now);
+            return;
+        };
+        let passed = now.duration_since(ticked);
+        if passed >= Duration::from_millis(TICK) {
+            let is_twice = passed >= Duration::from_millis(2 * TICK);
+            self.ticks = self.ticks.saturating_add(if is_twice { 2 } else { 1 });
+            self.ticked = Some(now);
         }
     }
 
@@ -305,6 +332,18 @@ impl<'a, R: Wait + Clock> Links<SocketLink> for SocketLinks<'a, R> {
         for place in self.places.iter_mut() {
             if place.is_of(number) {
                 place.end(Parting::Hoarding, &mut self.named);
+            }
+        }
+    }
+
+    fn ticks(&mut self) -> u64 {
+        self.ticks
+    }
+
+    fn ask_again(&mut self, number: u64) {
+        for place in self.places.iter_mut() {
+            if place.is_of(number) {
+                place.ask_again(&mut self.named);
             }
         }
     }

@@ -43,6 +43,7 @@ impl Place {
             reads: known.reads || event.is_readable() || is_final,
             writes: known.writes || event.is_writable() || is_final,
             is_final: known.is_final || is_final,
+            has_failed: known.has_failed || event.is_error() || event.is_write_closed(),
             is_marked: known.is_marked || event.is_priority(),
             waits: false,
             ..known
@@ -52,6 +53,20 @@ impl Place {
             let _ = named.push_back(self.number);
         }
         known.leaves
+    }
+
+    /// Names the link without an event if it waits, so that it is asked again.
+    pub fn ask_again(&mut self, named: &mut VecDeque<u64>) {
+        let known = self.readiness.get();
+        if known.waits {
+            self.readiness.set(Readiness {
+                reads: true,
+                writes: true,
+                waits: false,
+                ..known
+            });
+            let _ = named.push_back(self.number);
+        }
     }
 
     /// Lets the connection end, for this, and names its link. Returns whether the link is gone.
@@ -70,8 +85,16 @@ impl Place {
     /// Returns whether it was first seen to wait so long before the one moment, with no event
     /// since. If it waits and wasn't seen to before, it is seen now.
     pub fn has_waited(&mut self, limit: Duration, before: Instant, now: Instant) -> bool {
-        if !self.readiness.get().waits {
+        let known = self.readiness.get();
+        if !known.waits {
             return false;
+        }
+        if known.is_fresh {
+            self.waits_since = None;
+            self.readiness.set(Readiness {
+                is_fresh: false,
+                ..known
+            });
         }
         match self.waits_since {
             Some(since) => before.duration_since(since) >= limit,

@@ -4,6 +4,7 @@ use Rattle.std.proofs.Common.{◌≡◌, inl, inr, ℕ, zero, ◌<◌, ◌%◌, 
 use Rattle.mc_protocol.specs.Commands.{steps}
 use Rattle.mc_protocol.specs.Commands.{Command}
 use Rattle.mc_protocol.specs.declared.step.KeyStep.{KeyStep}
+use Rattle.mc_protocol.specs.declared.step.KeyStep.TheVariants.{Read as ReadStep}
 use Rattle.mc_protocol.specs.declared.step.Steps.{Ghosts as Relations}
 use Rattle.mc_protocol.specs.declared.reply.Reply.{Reply}
 use Rattle.mc_parse.specs.Units.{ProtocolUnit, Request, Fault, LongLine}
@@ -64,7 +65,7 @@ module _ {S : Type 0} (relations : Relations S) (now : ℕ) (Keeps : S → S →
 
   ask_keeps : (a b : S) → MayAsk relations now a b → Keeps a b
   ask_keeps a b (inl e) = stays a b e
-  ask_keeps a b (inr r) = elim r [ inl e ↦ alike a b e | inr t ↦ one a t.step t.reply b t.took_it ]
+  ask_keeps a b (inr r) = elim r [ inl e ↦ alike a b e | inr t ↦ one a (ReadStep t.key) t.reply b t.took_it ]
 
   pub round_keeps : (both : (a b c : S) → Keeps a b → Keeps b c → Keeps a c) (a b : S)
       → MakesRound relations now a b → Keeps a b

@@ -55,15 +55,19 @@ impl<'a, S: Steps + Drop, T: Tally> Counting<'a, S, T> {
         }
     }
 
-    /// Reports a step whose reply goes to an `Answer` to the tally, if it was taken.
+    /// Reports a step whose reply goes to an `Answer` to the tally, if it was taken. A read that told
+    /// nothing isn't reported: it only measured a block.
     fn count_told(
         &self,
         step: &KeyStep<'_>,
         told: &Result<(), Unanswered>,
         noted: Option<Outcome>,
     ) {
-        if let (Ok(()) | Err(Unanswered::Untold), Some(outcome)) = (told, noted) {
-            self.tally.took(step, outcome);
+        let is_read = matches!(step, KeyStep::Read { .. });
+        match (told, noted) {
+            (Ok(()), Some(outcome)) => self.tally.took(step, outcome),
+            (Err(Unanswered::Untold), Some(outcome)) if !is_read => self.tally.took(step, outcome),
+            _ => {}
         }
     }
 }

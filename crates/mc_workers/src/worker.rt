@@ -11,7 +11,7 @@ ghost use Rattle.mc_workers.specs.Rounds.{TidiesAndVisits, TidiesWhereRisen, Wor
 
 use crate::counting::Counting;
 use crate::tending::Tending;
-use mc_guests::{Budget, Door, Guests, Link, Links, NoTally, Tally, WorkEnd};
+use mc_guests::{Budget, Door, Guests, Judged, Link, Links, NoTally, Tally, WorkEnd};
 use mc_hop::KeyHash;
 use mc_shared::{Caller, Gate, Shared};
 use mc_time::{Clock, Moment};
@@ -30,8 +30,9 @@ pub struct Worker<'a, G: Gate, T: Tally, C: Clock> {
     pub first: u32,
     /// Bytes of input and output that its guests may hold.
     ///
-    /// Above it, a guest that needs more than 131072 bytes waits. The guest that holds most and was
-    /// idle for 5 seconds is closed to make room for those that wait.
+    /// Above it, a guest that needs more than 131072 bytes waits. While guests wait, the slowest of
+    /// those that hold more than 131072 bytes are closed: they moved nothing for 5 seconds, or less
+    /// than 65536 bytes a second.
     pub share: usize,
 }
 
@@ -77,7 +78,7 @@ impl<'a, G: Gate, T: Tally, C: Clock> Worker<'a, G, T, C> {
             let now = self.clock.now();
             turn = make_round(alloc, &mut guests, &mut counting, turn, before, now);
             guests.settle(&mut end);
-            make_room(&mut guests, links, before, now);
+            make_room(&mut guests, links);
             if !door.open_for_all(alloc, links, &mut guests, &mut end) {
                 return (counting.into_steps().into_caller(), end);
             }
@@ -155,32 +156,15 @@ fn tidy_if_risen<R: Wait, K: KeyHash + Drop, G: Gate, T: Tally>(
     }
 }
 
-/// The most links that are closed at one rising of the clock.
-const ENDED: usize = 16;
-
-/// Closes links of guests that hold most, if the clock has risen, to make room for waiting guests.
-///
-/// It closes at most as many as are waiting.
-fn make_room<L: Link + Drop, Q: Links<L>>(
-    guests: &mut Guests<L>,
-    links: &mut Q,
-    before: Moment,
-    now: Moment,
-)
+/// Judges the slowest guests that hold much, once a tick: as many as wait, at most 16.
+fn make_room<L: Link + Drop, Q: Links<L>>(guests: &mut Guests<L>, links: &mut Q)
     ensures { guests.new ≡ guests.old }
 {
-    if before.seconds() < now.seconds() {
-        end_hoarders(guests, links, now);
-    }
-}
-
-/// Closes the links of the guests that hold most, at most as many as are waiting.
-fn end_hoarders<L: Link + Drop, Q: Links<L>>(guests: &mut Guests<L>, links: &mut Q, now: Moment)
-    ensures { guests.new ≡ guests.old }
-{
-    for _one in 0..guests.waiting_guests().min(ENDED) {
-        match guests.hoarder(now) {
-            Some(number) => links.end(number),
+    guests.tick(links.ticks());
+    for _one in 0..guests.takes_turn_to_judge() {
+        match guests.judge_slowest() {
+            Some(Judged::Asks(number)) => links.ask_again(number),
+            Some(Judged::Ends(number)) => links.end(number),
             None => return,
         }
     }

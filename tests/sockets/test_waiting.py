@@ -1,0 +1,291 @@
+"""Who waits for whom: clients that send a byte now and then, or read slowly, or time out and come again, keep no honest one waiting."""
+import contextlib
+import os
+import selectors
+import signal
+import threading
+import time
+
+from tests.lib.abuse import LITTLE, MB, costs
+from tests.lib.case import ProgramCase
+from tests.lib.peer import Peer, clients
+from tests.lib.server import Server
+from tests.lib.wait import until
+
+# An honest request is answered in so many seconds, but for one in a hundred.
+SOON, SHARE = 1, 100
+# What honest clients set and get, in turn.
+LENGTHS = [1, 100, 20_000, 200_000, 1_000_000]
+# How many there are, and for how long they ask.
+HONEST, SECONDS = 6, 12
+# How many slow readers there are, how many bytes a second each reads, and how many fast ones are beside them.
+SLOW, PACE, FAST = 100, 400_000, 20
+# For so long a server stands still, while so many send a block.
+STILL, UPLOADS = 7, 40
+# What all may hold by default, in bytes.
+HELD = 64 * MB
+
+
+class Honest(threading.Thread):
+    """A client that sets and gets blocks of all lengths, and notes how long each took."""
+
+    def __init__(self, port, name, lengths):
+        super().__init__(daemon=True)
+        self.port, self.key, self.lengths, self.times, self.fault = port, b"honest%d" % name, lengths, [], None
+
+    def run(self):
+        try:
+            end = time.monotonic() + SECONDS
+            with Peer(self.port, 3 * SECONDS) as peer:
+                while time.monotonic() < end:
+                    for length in self.lengths:
+                        self.turn(peer, length)
+        except (OSError, AssertionError) as error:
+            self.fault = error
+
+    def turn(self, peer, length):
+        block = b"h" * length
+        asked = [
+            (b"set %s 0 0 %d\r\n%s\r\n" % (self.key, length, block), b"STORED\r\n"),
+            (b"get %s\r\n" % self.key, b"VALUE %s 0 %d\r\n%s\r\nEND\r\n" % (self.key, length, block)),
+        ]
+        for sent, wanted in asked:
+            began = time.monotonic()
+            peer.asks(sent, wanted)
+            self.times.append(time.monotonic() - began)
+
+
+class Drips(threading.Thread):
+    """Clients that begin a block and send a byte of it each 1, 3 or 10 seconds. One that was closed comes again."""
+
+    PERIODS = [1, 3, 10]
+
+    def __init__(self, port, count, length, first=0):
+        super().__init__(daemon=True)
+        self.port, self.line, self.over, self.closed = port, b"set drip 0 0 %d\r\n" % length + b"d" * first, threading.Event(), 0
+        self.links = [self.begin(at) for at in range(count)]
+
+    def begin(self, at):
+        peer = Peer(self.port)
+        peer.send(self.line)
+        return [time.monotonic() + self.PERIODS[at % 3], peer]
+
+    def run(self):
+        while not self.over.wait(0.05):
+            for at, (due, peer) in enumerate(self.links):
+                if time.monotonic() >= due:
+                    try:
+                        peer.send(b"d")
+                        self.links[at][0] = time.monotonic() + self.PERIODS[at % 3]
+                    except OSError:
+                        self.closed += 1
+                        peer.close()
+                        with contextlib.suppress(OSError):
+                            self.links[at] = self.begin(at)
+
+    def __enter__(self):
+        self.start()
+        return self
+
+    def __exit__(self, *_):
+        self.over.set()
+        self.join()
+        for _, peer in self.links:
+            peer.close()
+
+
+class TimesOut(threading.Thread):
+    """A client that asks for a block or begins one, gives up after half a second, and comes again. It breaks every second connection."""
+
+    def __init__(self, port, sent):
+        super().__init__(daemon=True)
+        self.port, self.sent, self.over, self.came = port, sent, threading.Event(), 0
+
+    def run(self):
+        while not self.over.is_set():
+            with contextlib.suppress(OSError):
+                peer = Peer(self.port, 0.5)
+                with contextlib.suppress(OSError):
+                    peer.send(self.sent)
+                self.over.wait(0.5)
+                self.came += 1
+                if self.came % 2:
+                    peer.reset()
+                else:
+                    peer.close()
+
+
+class Reader:
+    """A client that asks for a block again and again, and reads so many bytes a second, or as many as come."""
+
+    def __init__(self, peer, pace):
+        self.socket, self.pace, self.began, self.got, self.asked, self.is_closed = peer.socket, pace, time.monotonic(), 0, 0, False
+        self.socket.setblocking(False)
+
+    def turn(self, room, answer):
+        """Reads what is due, and asks ahead for two answers."""
+        while self.asked * answer < self.got + 2 * answer:
+            self.socket.send(b"get large\r\n")
+            self.asked += 1
+        due = len(room) if self.pace is None else int(self.pace * (time.monotonic() - self.began)) - self.got
+        if due <= 0:
+            return
+        count = self.socket.recv_into(room[: min(due, len(room))])
+        self.is_closed = count == 0
+        self.got += count
+
+
+def readers(paces, port, answer, seconds):
+    """Has clients read for so many seconds, and gives them."""
+    room = memoryview(bytearray(2**17))
+    with clients(port, len(paces)) as peers:
+        made = [Reader(peer, pace) for peer, pace in zip(peers, paces)]
+        end = time.monotonic() + seconds
+        while time.monotonic() < end:
+            for it in made:
+                if not it.is_closed:
+                    try:
+                        it.turn(room, answer)
+                    except BlockingIOError:
+                        pass
+                    except OSError:
+                        it.is_closed = True
+            time.sleep(0.005)
+        return made
+
+
+class Waiting(ProgramCase):
+    def honest_are_answered(self, server, lengths=LENGTHS):
+        """Fails unless honest requests are answered soon, but for one in a hundred, and none wrong or refused."""
+        asking = [Honest(server.port, name, lengths) for name in range(HONEST)]
+        for it in asking:
+            it.start()
+        for it in asking:
+            it.join(5 * SECONDS)
+        self.assertEqual([it.fault for it in asking], [None] * HONEST)
+        times = sorted(time for it in asking for time in it.times)
+        late = [it for it in times if it > SOON]
+        print(f"    {len(times)} requests, {len(late)} of them after more than {SOON} s, the last after {times[-1]:.2f} s")
+        self.assertGreaterEqual(len(times), 20 * HONEST)
+        self.assertLessEqual(len(late), len(times) // SHARE, f"late ones: {late[-5:]}")
+
+    def test_a_byte_now_and_then(self):
+        """Sixty clients begin a block of 1 MB and send a byte each 1, 3 or 10 seconds."""
+        with Server() as server:
+            before = server.memory()
+            with Drips(server.port, 60, 1_000_000):
+                self.honest_are_answered(server)
+                costs(server, before, HELD + LITTLE)
+
+    def test_a_byte_of_8_mb_now_and_then(self):
+        """Eight clients begin a block of 8 MB so."""
+        with Server(args=["-I", "8m"]) as server, Drips(server.port, 8, 8_000_000):
+            self.honest_are_answered(server)
+
+    def test_clients_that_time_out(self):
+        """Beside those clients that drip, others give up after half a second, and come again."""
+        with Server() as server, Drips(server.port, 60, 1_000_000) as drips:
+            with Peer(server.port) as peer:
+                peer.asks(b"set large 0 0 1000000\r\n%s\r\n" % (b"l" * 1_000_000), b"STORED\r\n")
+            asked = [b"get large\r\n" * 3, b"set half 0 0 1000000\r\n" + b"h" * 900_000, b"set half 0 0 1000000\r\n"]
+            come = [TimesOut(server.port, asked[at % 3]) for at in range(30)]
+            for it in come:
+                it.start()
+            try:
+                self.honest_are_answered(server)
+                living = len(drips.links) + len(come)
+                self.assertTrue(until(lambda: server.connections() <= living + 10, 2), f"{server.connections()} connections of {living} clients")
+            finally:
+                for it in come:
+                    it.over.set()
+                for it in come:
+                    it.join(2)
+            self.assertGreater(min(it.came for it in come), 3)
+
+    def test_slow_readers(self):
+        """A hundred clients read blocks of 1 MB at 400 kB a second beside twenty fast ones: none is closed."""
+        with Server() as server:
+            with Peer(server.port) as peer:
+                peer.asks(b"set large 0 0 1000000\r\n%s\r\n" % (b"l" * 1_000_000), b"STORED\r\n")
+            answer = len(b"VALUE large 0 1000000\r\n\r\nEND\r\n") + 1_000_000
+            made = readers([PACE] * SLOW + [None] * FAST, server.port, answer, 2 * SECONDS)
+        closed = sum(it.is_closed for it in made)
+        slow = [it.got for it in made if it.pace]
+        print(f"    slow ones got {min(slow):,} to {max(slow):,} bytes, fast ones {sum(it.got for it in made) - sum(slow):,} together")
+        self.assertEqual(closed, 0, f"{closed} of {SLOW + FAST} were closed")
+
+    def test_a_pause(self):
+        """A server stands still for 7 seconds while forty clients send blocks: each block is stored."""
+        block = b"b" * 1_000_000
+        with Server() as server, clients(server.port, UPLOADS, seconds=30) as peers:
+            for at, peer in enumerate(peers):
+                peer.send(b"set block%d 0 0 1000000\r\n%s" % (at, block[:100_000]))
+            os.kill(server.pid, signal.SIGSTOP)
+            try:
+                time.sleep(STILL)
+            finally:
+                os.kill(server.pid, signal.SIGCONT)
+            sending = [threading.Thread(target=peer.send, args=(block[100_000:] + b"\r\n",), daemon=True) for peer in peers]
+            for it in sending:
+                it.start()
+            for it in sending:
+                it.join(30)
+            for peer in peers:
+                peer.is_told(b"STORED\r\n")
+
+
+class Kept(ProgramCase):
+    """What becomes of those that are kept waiting, as others hold all that there is."""
+
+    @contextlib.contextmanager
+    def full(self, *args):
+        """A server of one worker whose buffers are full of blocks that don't come whole, for 5 seconds and a bit."""
+        with Server(args=["--buffer-limit", "8", *args], workers=1) as server:
+            with Peer(server.port) as peer:
+                peer.asks(b"set large 0 0 1000000\r\n%s\r\n" % (b"l" * 1_000_000), b"STORED\r\n")
+                peer.asks(b"set small 0 0 1\r\ns\r\n", b"STORED\r\n")
+            with clients(server.port, 8) as holders:
+                for it in holders:
+                    it.socket.setblocking(False)
+                    self.send_some(it, b"set held 0 0 1000000\r\n" + b"h" * 900_000)
+                yield server
+
+    def send_some(self, peer, data):
+        """Sends as much as the server takes in a second."""
+        with selectors.DefaultSelector() as chooser:
+            chooser.register(peer.socket, selectors.EVENT_WRITE)
+            while data and chooser.select(0.2):
+                data = data[peer.socket.send(data) :]
+
+    def test_small_answers_before_a_large_one(self):
+        """Answers that were decided come at once, though the next request waits."""
+        with self.full() as server, Peer(server.port) as peer:
+            began = time.monotonic()
+            peer.asks(b"get small\r\nget small\r\nget large\r\n", b"VALUE small 0 1\r\ns\r\nEND\r\n" * 2)
+            self.assertLess(time.monotonic() - began, 0.5)  # (0.1 s, and some for a machine that is busy)
+            peer.is_told(b"VALUE large 0 1000000\r\n%s\r\nEND\r\n" % (b"l" * 1_000_000))
+
+    def test_one_that_breaks_leaves(self):
+        """A connection that is reset while it waits is closed at once."""
+        with self.full() as server:
+            before = server.connections()
+            peer = Peer(server.port)
+            peer.send(b"get large\r\n")
+            time.sleep(0.3)
+            self.assertEqual(server.connections(), before + 1)
+            peer.reset()
+            self.assertTrue(until(lambda: server.connections() <= before, 1), "it is there")
+
+    def test_one_that_is_idle_leaves(self):
+        """One that waits ends by --idle-timeout."""
+        with self.full("--idle-timeout", "1") as server, Peer(server.port) as peer:
+            peer.send(b"get large\r\n")
+            self.assertTrue(peer.is_closed())
+
+    def test_all_get_through(self):
+        """Each of many that wait is served once those that hold much have ended, and none is closed."""
+        with self.full() as server, clients(server.port, 40, seconds=30) as peers:
+            for peer in peers:
+                peer.send(b"get large\r\n")
+            for peer in peers:
+                peer.is_told(b"VALUE large 0 1000000\r\n%s\r\nEND\r\n" % (b"l" * 1_000_000))
