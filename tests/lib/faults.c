@@ -1,14 +1,17 @@
 // Makes calls of the program fail that it is preloaded to, and sets its clock back; faults.py compiles it and says when.
 //
 // What fails is read from the file that FAULTS names, which stays mapped: a test changes it while the program runs. It holds 64-bit
-// words: the seconds that are added to the system's clock, seven that nobody reads, and then a row of 16 for each call of CALLS in
-// that order: each Kth call fails (0: none), how many may fail still (negative: no end), how many calls there were, how many failed,
-// how many errors follow, and the errors in turn. An error 0 stands for an answer of 0, as of a send that takes nothing. A call that
-// fails isn't made, but for close, whose descriptor is gone on Linux whatever it answers.
+// words: the seconds that are added to the system's clock, whether each peer seems to be another machine's, six that nobody reads, and
+// then a row of 16 for each call of CALLS in that order: each Kth call fails (0: none), how many may fail still (negative: no end), how
+// many calls there were, how many failed, how many errors follow, and the errors in turn. An error 0 stands for an answer of 0, as of a
+// send that takes nothing; 1000 and more for a call that is made after so many milliseconds less 1000. A call that fails isn't made, but
+// for close, whose descriptor is gone on Linux whatever it answers.
 #define _GNU_SOURCE
+#include <arpa/inet.h>
 #include <dlfcn.h>
 #include <errno.h>
 #include <fcntl.h>
+#include <netinet/in.h>
 #include <pthread.h>
 #include <stdatomic.h>
 #include <stdint.h>
@@ -23,7 +26,7 @@
 
 enum call { ACCEPT4, RECV, SEND, SENDMSG, EPOLL_WAIT, EPOLL_CTL, CLOSE, WRITE, PTHREAD_CREATE, CALLS };
 enum column { EVERY, LEFT, MADE, FAILED, ERRORS, FIRST, WIDTH = 16 };
-enum { FRONT = 8 };
+enum { CLOCK, ELSEWHERE, FRONT = 8, DELAY = 1000 };
 
 typedef _Atomic int64_t word;
 
@@ -56,13 +59,26 @@ static int fault(enum call call) {
     return (int)row[FIRST + nth % count];
 }
 
+// The same, after the time for which this call is to wait.
+static int fault_or_delay(enum call call) {
+    int error = fault(call);
+    if (error < DELAY)
+        return error;
+    struct timespec time = {(error - DELAY) / 1000, (error - DELAY) % 1000 * 1000000L};
+    nanosleep(&time, NULL);
+    return -1;
+}
+
 #define NEXT(name) __typeof__(&name) next = (__typeof__(&name))dlsym(RTLD_NEXT, #name)
-#define FAIL(call) int error = fault(call); if (error >= 0) return error ? (errno = error, -1) : 0
+#define FAIL(call) int error = fault_or_delay(call); if (error >= 0) return error ? (errno = error, -1) : 0
 
 int accept4(int fd, struct sockaddr *address, socklen_t *size, int flags) {
     FAIL(ACCEPT4);
     NEXT(accept4);
-    return next(fd, address, size, flags);
+    int answer = next(fd, address, size, flags);
+    if (answer >= 0 && told[ELSEWHERE] && address && address->sa_family == AF_INET)
+        ((struct sockaddr_in *)address)->sin_addr.s_addr = inet_addr("192.0.2.1");
+    return answer;
 }
 
 ssize_t recv(int fd, void *bytes, size_t size, int flags) {
@@ -97,7 +113,7 @@ int epoll_ctl(int fd, int what, int of, struct epoll_event *event) {
 
 int close(int fd) {
     NEXT(close);
-    int answer = next(fd), error = fault(CLOSE);
+    int error = fault_or_delay(CLOSE), answer = next(fd);
     return error > 0 ? (errno = error, -1) : answer;
 }
 
@@ -110,7 +126,7 @@ ssize_t write(int fd, const void *bytes, size_t size) {
 }
 
 int pthread_create(pthread_t *thread, const pthread_attr_t *how, void *(*run)(void *), void *with) {
-    int error = fault(PTHREAD_CREATE);
+    int error = fault_or_delay(PTHREAD_CREATE);
     if (error > 0)
         return error;
     NEXT(pthread_create);
@@ -121,6 +137,6 @@ int clock_gettime(clockid_t clock, struct timespec *time) {
     NEXT(clock_gettime);
     int answer = next(clock, time);
     if (answer == 0 && clock == CLOCK_REALTIME)
-        time->tv_sec += told[0];
+        time->tv_sec += told[CLOCK];
     return answer;
 }

@@ -3,6 +3,7 @@
     with Faults() as faults, Server(faults=faults) as server:
         faults.fail("recv", [errno.EINTR], every=3)     # each third call of recv fails so
         faults.fail("accept4", [errno.EMFILE], left=1)  # the next one alone
+        faults.fail("close", [delay(50)])               # each is made 50 ms later
         faults.end()
         faults.set_clock_back(3600)
 
@@ -18,9 +19,14 @@ import tempfile
 HERE = os.path.dirname(os.path.realpath(__file__))
 # As in faults.c.
 CALLS = ["accept4", "recv", "send", "sendmsg", "epoll_wait", "epoll_ctl", "close", "write", "pthread_create"]
-FRONT, WIDTH, WORD = 8, 16, 8
+CLOCK, ELSEWHERE, FRONT, WIDTH, WORD, DELAY = 0, 1, 8, 16, 8, 1000
 EVERY, LEFT, MADE, FAILED, ERRORS, FIRST = range(6)
 MOST = WIDTH - FIRST
+
+
+def delay(milliseconds):
+    """What stands in place of an error for a call that is made so much later."""
+    return DELAY + milliseconds
 
 
 @functools.cache
@@ -77,7 +83,11 @@ class Faults:
 
     def set_clock_back(self, seconds):
         """Sets the system's clock back, as the program sees it, from what the machine's says."""
-        self._set(0, -seconds)
+        self._set(CLOCK, -seconds)
+
+    def move_peers(self):
+        """Lets each peer that is accepted from now on seem to be on another machine, at 192.0.2.1."""
+        self._set(ELSEWHERE, 1)
 
     def close(self):
         self.words.close()

@@ -105,7 +105,7 @@ fn plan_with<'a, R: AllocGlobal + Clock>(
         inboxes,
         counts,
     } = workers;
-    let common = make_common(rt.alloc(), notice.options, &bound.listeners, inboxes)?;
+    let common = make_common(rt, notice.options, &bound.listeners, inboxes)?;
     let crowd = make_crowd(rt.alloc(), notice.options, &common.log)?;
     let metrics = make_metrics(rt, notice.options, bound.door, &crowd, counts)?;
     let Listeners { first, others } = bound.listeners;
@@ -125,27 +125,23 @@ fn plan_with<'a, R: AllocGlobal + Clock>(
 }
 
 /// Returns what all threads borrow. It fails if memory is refused, or a descriptor.
-fn make_common(
-    alloc: Global,
+fn make_common<R: AllocGlobal + Clock>(
+    rt: &R,
     options: &Options,
     listeners: &Listeners,
     inboxes: Vec<Inbox>,
 ) -> Result<Common, Wanting> {
+    let alloc = rt.alloc();
     let arrivals = Arrivals::new(inboxes, sockets_of(alloc, listeners)?);
     look_for_descriptors(alloc, listeners)?;
-    let log = Log::new(alloc, options.verbose)?;
+    let log = Log::new(rt, alloc, options.verbose)?;
     Ok(Common { arrivals, log })
 }
 
-/// Returns a counter of connections. They are logged if `verbose` is set. The one error is a refused
-/// allocation.
+/// Returns a counter of connections. The one error is a refused allocation.
 fn make_crowd(alloc: Global, options: &Options, log: &Arc<Log>) -> Result<Arc<Crowd>, AllocError> {
-    let told = if options.verbose {
-        Some(log.clone().map_err(|_| AllocError)?)
-    } else {
-        None
-    };
-    Crowd::new(alloc, options.connections, told)
+    let log = log.clone().map_err(|_| AllocError)?;
+    Crowd::new(alloc, options.connections, Some(log))
 }
 
 /// Returns the metrics server, if there is a listener for scrapes. The one error is a refused

@@ -163,6 +163,10 @@ fn write_line(stderr: Stderr, line: Line) -> io::Result<()> {
             let why = parting.text();
             eprintln!(stderr; "mcserver: connection {number} closed: {why}")
         }
+        Line::Warned(warning) => {
+            let text = warning.text();
+            eprintln!(stderr; "mcserver: warning: {text} (reported once a minute)")
+        }
     }
 }
 
