@@ -13,12 +13,13 @@ STORED = b"STORED\r\n"
 class Keeper(threading.Thread):
     """A client with keys of its own, which goes on until it is asked to stop."""
 
-    def __init__(self, port, number, seconds, size=20):
+    def __init__(self, port, number, seconds, size, is_behind):
         super().__init__(daemon=True)
         self.port, self.number, self.seconds, self.size = port, number, seconds, size
         self.over, self.peer, self.fault = threading.Event(), None, None
         self.items = {b"k%d.%d" % (number, at): {None} for at in range(KEYS)}
         self.asked, self.closings, self.slowest = 0, 0, 0.0
+        self.is_behind = is_behind
 
     def run(self):
         try:
@@ -54,7 +55,9 @@ class Keeper(threading.Thread):
 
     def read(self, key):
         """Reads an item, which then has the one value that was told."""
-        self.peer.send(b"get %s\r\n" % key)
+        self.peer.send(b"version\r\n" * self.is_behind + b"get %s\r\n" % key)
+        if self.is_behind and not (line := self.line()).startswith(b"VERSION "):
+            raise AssertionError(f"the answer to version is {line}")
         head = self.line()
         if head == b"END\r\n":
             found = None
@@ -99,14 +102,19 @@ class Keeper(threading.Thread):
 
 
 class Keepers:
-    """Several such clients, which run while the block does. What one found wrong is raised at its end, and then all items are read."""
+    """Several such clients, which run while the block does. What one found wrong is raised at its end, and then all items are read.
 
-    def __init__(self, port, count=12, seconds=20, size=20, before_reading=lambda: None):
-        self.all = [Keeper(port, number, seconds, size) for number in range(count)]
+    With `is_behind` each get stands behind a version in what is sent."""
+
+    def __init__(self, port, count=12, seconds=20, size=20, is_behind=False, before_reading=lambda: None):
+        self.all = [Keeper(port, number, seconds, size, is_behind) for number in range(count)]
         self.before_reading = before_reading
 
     def asked(self):
         return sum(it.asked for it in self.all)
+
+    def have_all_asked(self):
+        return all(it.asked for it in self.all)
 
     def closings(self):
         return sum(it.closings for it in self.all)

@@ -45,16 +45,16 @@ LARGE = 100_000
 
 
 @contextlib.contextmanager
-def served(case, *args, size=20, **options):
+def served(case, size=20, is_behind=False, **options):
     """A server with clients beside, whose calls may fail in the block; what it doesn't give back is raised."""
     with Faults() as faults, StillServer(faults=faults, **options) as server:
         with Peer(server.port) as peer:
             peer.asks(b"set first 0 0 1\r\nx\r\n", b"STORED\r\n")
         server.settle()
         had = server.descriptors()
-        keepers = Keepers(server.port, size=size, before_reading=faults.end)
+        keepers = Keepers(server.port, size=size, is_behind=is_behind, before_reading=faults.end)
         with keepers:
-            case.assertTrue(until(lambda: keepers.asked() > 12, 5), "nobody was answered before the faults")
+            case.assertTrue(until(keepers.have_all_asked, 5), "a client wasn't answered before the faults")
             yield faults, server, keepers
             case.assertTrue(server.runs(), f"the server has ended: {server.said()}")
         case.assertTrue(until(lambda: server.descriptors() <= had, GIVEN_BACK), f"{server.descriptors()} descriptors, {had} before")
@@ -67,8 +67,9 @@ class Storms(ProgramCase):
     def check(self, row):
         """Each Kth call fails for a while, with new connections all the time; each answer is right and in time."""
         _, call, every, errors, may_close, seconds = row
+        # a large answer behind a small one is sent with it in one call
         size = LARGE if call == "sendmsg" else 20
-        with served(self, size=size) as (faults, server, keepers):
+        with served(self, size, call == "sendmsg") as (faults, server, keepers):
             faults.fail(call, errors, every, 4 * len(errors) if call == "accept4" else -1)
             end = time.monotonic() + STORM
             while time.monotonic() < end:
@@ -179,6 +180,7 @@ class Warned(ProgramCase):
 
     def test_of_too_many_connections(self):
         with StillServer(connections=2) as server:
+            server.settle()
             with Peer(server.port) as one, Peer(server.port) as two:
                 one.asks(b"get a\r\n", b"END\r\n")
                 two.asks(b"get a\r\n", b"END\r\n")

@@ -162,7 +162,7 @@ fn make_metrics<R: AllocGlobal + Clock>(
         pages: options.settings.pages,
         since: Instant::now(rt).ok(),
     };
-    let server = MetricsServer::new(rt.alloc(), door, observer, options.may_quit)?;
+    let server = MetricsServer::new(rt.alloc(), door, observer, options.may_quit);
     Ok(Some(server))
 }
 

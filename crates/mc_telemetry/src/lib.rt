@@ -7,7 +7,7 @@
 //! A worker counts its steps by a [`WorkerTally`] (`tally.rt`), each step as [`counted_as`] says
 //! (`counting.rt`). For a scrape an [`Observer`] reads the counters, the connections and the store
 //! (`observer.rt`), the table of families says what is printed (`families.rt`), and a [`MetricsServer`]
-//! answers over HTTP (`scrape.rt`). [`write_lines`] writes to standard error in a thread of its own
+//! answers over HTTP (`scrape.rt`), several clients at once (`exchange.rt`). [`write_lines`] writes to standard error in a thread of its own
 //! (`logger.rt`): where the server listens, which connections open and close, and, once a minute, that
 //! the store is full (`full.rt`).
 //!
@@ -21,6 +21,7 @@
 #![tactic(auto)]
 
 mod counting;
+mod exchange;
 mod families;
 mod full;
 mod logger;
