@@ -3,6 +3,7 @@ wrong, and gives its descriptors back."""
 import contextlib
 import errno
 import time
+from concurrent.futures import ThreadPoolExecutor
 
 from tests.lib.abuse import ANSWERED, GIVEN_BACK
 from tests.lib.case import ProgramCase, tests_of
@@ -42,6 +43,8 @@ STORM = 1.5
 # At each of so many calls alone a call fails.
 ALONE = 6
 LARGE = 100_000
+# A link that was told nothing for 10 seconds is asked again, and answers within so many.
+AGAIN = 15
 
 
 @contextlib.contextmanager
@@ -128,6 +131,24 @@ class NoFile(ProgramCase):
                 self.assertLess(made, 1000, "calls of accept in one second")
 
 
+class Unheard(ProgramCase):
+    def test_calls_that_answer_nothing(self):
+        """Where the system says that there is nothing or no room and there is, and so tells of no change, a link is asked again."""
+        rows = [("recv", errno.EAGAIN), ("send", errno.EAGAIN), ("send", 0)]
+        with ThreadPoolExecutor(len(rows)) as pool:
+            list(pool.map(self.is_answered, rows))
+
+    def is_answered(self, row):
+        call, error = row
+        with Faults() as faults, StillServer(faults=faults) as server:
+            server.settle()
+            with Peer(server.port, AGAIN) as peer:
+                peer.asks(b"get a\r\n", b"END\r\n")
+                faults.fail(call, [error], left=1)
+                peer.asks(b"get a\r\n", b"END\r\n")
+                self.assertEqual(1, faults.count(call), f"calls of {call} that failed")
+
+
 class ListenerFails(ProgramCase):
     def test_the_listeners_own_error(self):
         """An error of the listener's own ends the program with its text, and no other does."""
@@ -148,7 +169,7 @@ class ThreadsFail(ProgramCase):
                 faults.fail("pthread_create", [errno.EAGAIN], every=nth, left=1)
                 words = ["-p", str(free_port()), "-t", "3", "--metrics", str(free_port())]
                 ran = outcome(started(self.program, words, env=faults.environment), 10)
-                self.assertEqual((1, b"mcserver: cannot start a thread\n"), (ran.status, ran.stderr.splitlines(True)[-1]))
+                self.assertEqual((1, b"mcserver: cannot start a thread (ulimit -u)\n"), (ran.status, ran.stderr.splitlines(True)[-1]))
 
 
 class Elsewhere(ProgramCase):

@@ -177,7 +177,7 @@ fn start<'s, E, F: FnOnce() + Send + Drop + 's>(
 {
     match builder.spawn_scoped(scope, task) {
         Ok(_thread) => Ok(()),
-        Err(_) => Err(Wanting::Memory),
+        Err(_) => Err(Wanting::Thread),
     }
 }
 
