@@ -2,6 +2,7 @@
 wrong, and gives its descriptors back."""
 import contextlib
 import errno
+import fcntl
 import time
 from concurrent.futures import ThreadPoolExecutor
 
@@ -170,6 +171,23 @@ class ThreadsFail(ProgramCase):
                 words = ["-p", str(free_port()), "-t", "3", "--metrics", str(free_port())]
                 ran = outcome(started(self.program, words, env=faults.environment), 10)
                 self.assertEqual((1, b"mcserver: cannot start a thread (ulimit -u)\n"), (ran.status, ran.stderr.splitlines(True)[-1]))
+
+
+class Unread(ProgramCase):
+    def test_an_orderly_end_while_nobody_reads_standard_error(self):
+        """With -v, more lines than the pipe takes: it serves on, and ends as soon as it is asked to."""
+        port, metrics = free_port(), free_port()
+        words = ["-v", "-p", str(port), "--metrics", str(metrics), "--allow-quit"]
+        with started(self.program, words) as process:
+            fcntl.fcntl(process.stderr, fcntl.F_SETPIPE_SZ, 4096)
+            self.assertTrue(until(lambda: answers(HOST, port), 10), "nobody is answered")
+            for _ in range(200):
+                self.assertTrue(answers(HOST, port, ANSWERED), "a client isn't answered")
+            self.assertEqual(200, told(sent(metrics, POST)).status)
+            try:
+                self.assertEqual(0, process.wait(8))
+            finally:
+                process.kill()
 
 
 class Elsewhere(ProgramCase):

@@ -7,7 +7,7 @@ use mc_host::{Door, Listeners, Wanting, look_for_descriptors, most_descriptors, 
 use mc_metrics::Counts;
 use mc_options::Options;
 use mc_sockets::{Arrivals, Crowd, EVENTS, Inbox, Log, Share, WAKER};
-use mc_telemetry::{MetricsServer, Notice, Observer};
+use mc_telemetry::{MetricsServer, Notice, Observer, Outlet};
 use mio::{Events, Poll, Waker};
 use std::alloc::{AllocError, AllocGlobal, Global};
 use std::fs::Files;
@@ -42,6 +42,8 @@ pub struct ThreadPlan<'a> {
     pub crowd: Arc<Crowd>,
     pub metrics: Option<MetricsServer>,
     pub notice: Notice<'a>,
+    /// Where the logger writes.
+    pub outlet: Outlet,
 }
 
 /// What the thread of a worker is to own.
@@ -90,13 +92,15 @@ pub fn make_plan<'a, R: Net + Files + AllocGlobal + Clock>(
         options,
         descriptors: most_descriptors(rt),
     };
-    plan_with(rt, notice, bound, workers)
+    let outlet = Outlet::new(rt, rt.alloc(), stderr)?;
+    plan_with(rt, notice, outlet, bound, workers)
 }
 
 /// Returns the plan of a server with these workers, and what its threads borrow.
 fn plan_with<'a, R: AllocGlobal + Clock>(
     rt: &R,
     notice: Notice<'a>,
+    outlet: Outlet,
     bound: Bound,
     workers: Workers,
 ) -> Result<(ServerPlan<'a>, Common), Wanting> {
@@ -115,6 +119,7 @@ fn plan_with<'a, R: AllocGlobal + Clock>(
         crowd: crowd.clone().map_err(|_| AllocError)?,
         metrics,
         notice,
+        outlet,
     };
     let plan = ServerPlan {
         listener: first,
