@@ -150,7 +150,7 @@ impl<'a, R: Wait + Clock> SocketLinks<'a, R> {
             && told < self.events.capacity()
         {
             self.end_idle(before);
-            self.ask_again(before);
+            self.ask_unheard(before);
         }
     }
 
@@ -195,7 +195,7 @@ impl<'a, R: Wait + Clock> SocketLinks<'a, R> {
 
     /// Asks links again of which no event came for long before the moment before all events were told, of
     /// those whose turn it is.
-    fn ask_again(&mut self, before: Instant) {
+    fn ask_unheard(&mut self, before: Instant) {
         let Some(watch) = &mut self.unheard else {
             return;
         };
@@ -206,7 +206,7 @@ impl<'a, R: Wait + Clock> SocketLinks<'a, R> {
         for _one in 0..watch.due(places, now) {
             let at = watch.turn(places);
             if let Some(place) = self.places.get_mut(at)
-                && place.ask_again(watch.limit(), before, now, &mut self.named)
+                && place.ask_if_unheard(watch.limit(), before, now, &mut self.named)
                 && let Some(common) = &self.common
             {
                 common.send_rest(at);

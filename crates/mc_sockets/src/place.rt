@@ -74,7 +74,7 @@ impl Place {
     /// Names the link if no event came of it for so long before the one moment while it waits, or is
     /// gone: its next call asks the system again, which may have reported nothing. Returns whether
     /// the link is gone, and what it left may be sent.
-    pub fn ask_again(
+    pub fn ask_if_unheard(
         &mut self,
         limit: Duration,
         before: Instant,
