@@ -66,13 +66,12 @@ def die_with_parent():
 class Started:
     """A process that takes connections on a port, with what it writes in a file."""
 
-    def __init__(self, words, port):
+    def __init__(self, words, port, environment=None):
         self.port, self.address = port, (HOST, port)
         self.output = tempfile.TemporaryFile()
+        streams = {"stdin": subprocess.DEVNULL, "stdout": self.output, "stderr": self.output}
         try:
-            self.process = subprocess.Popen(
-                words, stdin=subprocess.DEVNULL, stdout=self.output, stderr=self.output, preexec_fn=die_with_parent
-            )
+            self.process = subprocess.Popen(words, env=environment, preexec_fn=die_with_parent, **streams)
         except OSError as error:
             self.output.close()
             raise CannotStart(f"{words[0]}: {error}") from error
@@ -164,15 +163,17 @@ class Started:
 class Server(Started):
     """A running server. Without a port it takes one that is free; `args` are further words of its command line.
 
-    A limit is a kind, how much of it the server has, and how much it may be given later."""
+    A limit is a kind, how much of it the server has, and how much it may be given later. With `faults` (lib/faults.py) its calls
+    of the system fail when a test says so."""
 
-    def __init__(self, program=None, port=None, pages=64, workers=4, args=(), limit=None):
+    def __init__(self, program=None, port=None, pages=64, workers=4, args=(), limit=None, faults=None):
         program = program or settings.program()
         wrapped = [sys.executable, "-I", "-S", "-c", LIMITED, *map(str, limit)] if limit else []
         for last in [*[False] * (TRIES - 1), True]:
             chosen = port or free_port()
             try:
-                return super().__init__([*wrapped, *command(program, chosen, pages, workers, args)], chosen)
+                words = [*wrapped, *command(program, chosen, pages, workers, args)]
+                return super().__init__(words, chosen, faults.environment if faults else None)
             except CannotStart:
                 if port or limit or last:  # (a port may be taken by another between the look and the start)
                     raise

@@ -246,14 +246,14 @@ class Requests(ProgramCase):
             self.assertEqual(200, told(rest(link)).status)
 
     def test_slow_ones_keep_nobody_out(self):
-        """One that says nothing, and one that says a little now and then, are closed in time, and a scrape behind each is answered."""
+        """One that says nothing, and one that says a little now and then, are closed in time, and a scrape beside each is answered at once."""
         with MetricsServer() as server:
             for said in (b"", b"GET /metrics HT"):
                 with socket.create_connection((HOST, server.metrics), timeout=SOON) as link:
                     link.sendall(said)
                     began = time.monotonic()
                     server.scrape(SOON)
-                    self.assertGreater(time.monotonic() - began, LIMIT / 2, "it wasn't served behind the other")
+                    self.assertLess(time.monotonic() - began, LIMIT / 2, "seconds for a scrape beside the other")
                     self.assertEqual(408, told(rest(link)).status)
             self.drips(server)
             began = time.monotonic()

@@ -21,6 +21,7 @@ status_of end.NotText = 2
 status_of end.Shown = 0
 status_of end.NotShown = 1
 status_of end.NoMemory = 1
+status_of end.NoThread = 1
 
 -- what is wrong; of a bad command line clap has said it, and where it can't listen the address and the
 -- reason stand behind it
@@ -37,6 +38,7 @@ text_of end.NotText = codes "error: invalid UTF-8 was detected in one or more ar
 text_of end.Shown = codes ""
 text_of end.NotShown = codes "mcserver: write fault"
 text_of end.NoMemory = codes "mcserver: out of memory"
+text_of end.NoThread = codes "mcserver: cannot start a thread (ulimit -u)"
 
 -- why it can't listen
 abbrev pub reason_of : Obstacle → List ℕ
@@ -80,12 +82,13 @@ EndsWithoutDoor scrapes end.NoMemory = Unit {0}
 EndsWithoutDoor scrapes _ = ⊥
 
 -- the ends of a program that was to listen at endpoints, to answer scrapes at another, and to end where it is
--- asked to or not: it can't listen, and names one of them, memory ran out before the first connection, a
--- listener failed, or it may be asked to end, and was
+-- asked to or not: it can't listen, and names one of them, memory ran out before the first connection,
+-- the system refused a thread, a listener failed, or it may be asked to end, and was
 abbrev pub EndsListening : Endpoints → (scrapes : Option Endpoint) → (may_quit : Bool) → End → Type 0
 EndsListening endpoints scrapes may_quit (end.CannotListen it) =
     IsOneOf endpoints it.endpoint ⊎ NamesScrapes scrapes it
 EndsListening endpoints scrapes may_quit end.NoMemory = Unit {0}
+EndsListening endpoints scrapes may_quit end.NoThread = Unit {0}
 EndsListening endpoints scrapes may_quit (end.Served (Err fault.Read)) = Unit {0}
 EndsListening endpoints scrapes may_quit end.Stopped = may_quit ≡ true
 EndsListening endpoints scrapes may_quit _ = ⊥

@@ -22,6 +22,7 @@ pub enum Wanting {
     /// A descriptor.
     Descriptor(Obstacle),
     Memory,
+    Thread,
 }
 
 impl From<io::Error> for Wanting {

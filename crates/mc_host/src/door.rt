@@ -4,17 +4,17 @@ ghost use Rattle.mc_host.specs.Ends.{EndsWithoutDoor};
 
 use crate::end::End;
 use mc_options::Endpoint;
-use mio::net::TcpListener;
+use mio::net::{TcpListener, TcpStream};
 use mio::{Events, Interest, Poll, Token};
 use std::alloc::{AllocError, Global};
-use std::net::{Net, SocketAddr, TcpStream};
+use std::net::{Net, SocketAddr};
 use std::time::{Clock, Duration};
 use std::{io, thread};
 
 /// How long it waits if the system can't tell of connections, in milliseconds.
 const PAUSE: u64 = 10;
 
-/// A listener for scrapes, and what tells of connections there.
+/// A listener for scrapes, and a poll of it and of its connections.
 #[derive(Drop)]
 pub struct Door {
     listener: TcpListener,
@@ -59,18 +59,20 @@ impl Door {
         })
     }
 
-    /// Waits until a connection comes, or it has rested so long.
+    /// Waits until a connection comes or one that was accepted goes on, or it has rested so long.
     pub fn wait<R: Clock>(&mut self, rt: &R, rest: Duration) {
         if self.poll.poll(&mut self.events, Some(rest)).is_err() {
             let _ = thread::sleep(rt, Duration::from_millis(PAUSE));
         }
     }
 
-    /// Gives a connection that waits, whose calls wait, and its peer.
+    /// Accepts a connection, and returns it with its peer. Its calls don't block, and what becomes of
+    /// it ends a wait.
     pub fn accept(&self) -> io::Result<(TcpStream, SocketAddr)> {
         let (stream, peer) = self.listener.accept()?;
-        let stream = TcpStream::from(stream);
-        stream.set_nonblocking(false)?;
+        let mut stream = stream;
+        let all = Interest::READABLE | Interest::WRITABLE;
+        self.poll.registry().register(&mut stream, Token(1), all)?;
         Ok((stream, peer))
     }
 }

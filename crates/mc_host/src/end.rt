@@ -34,6 +34,8 @@ pub enum End {
     NotShown,
     /// Memory was refused while the command line was read, or before the first connection.
     NoMemory,
+    /// The system refused a thread.
+    NoThread,
 }
 
 /// The endpoint at which it can't listen, and why.
@@ -204,6 +206,7 @@ impl End {
             ),
             End::NotShown => ending(&Err(ServeFault::Write)),
             End::NoMemory => ending(&Err(ServeFault::NoMemory)),
+            End::NoThread => (1, "mcserver: cannot start a thread (ulimit -u)"),
         }
     }
 }

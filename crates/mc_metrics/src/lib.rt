@@ -8,9 +8,8 @@
 //!
 //! [`Counts`] are what one worker counts, each thing a [`Counted`]: it alone writes there, so that
 //! counting is one addition. A [`Reading`] is what was read for one page, and a [`Family`] a name
-//! with the figures that are told under it; [`page_of`] makes the page of both. [`request_of`]
-//! reads a request of a connection within a limit of time and of bytes, [`asked`] says how it is
-//! answered ([`Answer`]), [`response`] makes the text, and [`send`] sends it. A peer of the same
+//! with the figures that are told under it; [`page_of`] makes the page of both. [`read_request`]
+//! says how a request is answered ([`Answer`]), and [`response`] makes the text. A peer of the same
 //! machine may be let end the server by `POST /quit` ([`QuitAccess`]).
 //!
 //! Contracts say that an answer is a function of the method and the target of the request's head,
@@ -26,7 +25,6 @@
 
 mod answer;
 mod counts;
-mod exchange;
 mod family;
 mod page;
 mod reading;
@@ -34,7 +32,6 @@ mod request;
 
 pub use answer::{Answer, NO_MEMORY, response};
 pub use counts::{COUNTED, Counted, Counts};
-pub use exchange::{LONGEST, pass_rest, request_of, send};
 pub use family::{Family, Kind, Samples};
 pub use page::page_of;
 pub use reading::{Figure, Reading, SlabFigure, SlabReading, TablesReading, bytes_of, number_at};

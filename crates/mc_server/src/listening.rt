@@ -50,6 +50,7 @@ where
         Ok(_) => End::Served(Err(ServeFault::Read)),
         Err(Wanting::Descriptor(why)) => End::CannotListen(Refusal { endpoint, why }),
         Err(Wanting::Memory) => End::NoMemory,
+        Err(Wanting::Thread) => End::NoThread,
     }
 }
 

@@ -7,7 +7,7 @@ use mc_host::{Door, Listeners, Wanting, look_for_descriptors, most_descriptors, 
 use mc_metrics::Counts;
 use mc_options::Options;
 use mc_sockets::{Arrivals, Crowd, EVENTS, Inbox, Log, Share, WAKER};
-use mc_telemetry::{MetricsServer, Notice, Observer};
+use mc_telemetry::{MetricsServer, Notice, Observer, Outlet};
 use mio::{Events, Poll, Waker};
 use std::alloc::{AllocError, AllocGlobal, Global};
 use std::fs::Files;
@@ -42,6 +42,8 @@ pub struct ThreadPlan<'a> {
     pub crowd: Arc<Crowd>,
     pub metrics: Option<MetricsServer>,
     pub notice: Notice<'a>,
+    /// Where the logger writes.
+    pub outlet: Outlet,
 }
 
 /// What the thread of a worker is to own.
@@ -90,13 +92,15 @@ pub fn make_plan<'a, R: Net + Files + AllocGlobal + Clock>(
         options,
         descriptors: most_descriptors(rt),
     };
-    plan_with(rt, notice, bound, workers)
+    let outlet = Outlet::new(rt, rt.alloc(), stderr)?;
+    plan_with(rt, notice, outlet, bound, workers)
 }
 
 /// Returns the plan of a server with these workers, and what its threads borrow.
 fn plan_with<'a, R: AllocGlobal + Clock>(
     rt: &R,
     notice: Notice<'a>,
+    outlet: Outlet,
     bound: Bound,
     workers: Workers,
 ) -> Result<(ServerPlan<'a>, Common), Wanting> {
@@ -105,7 +109,7 @@ fn plan_with<'a, R: AllocGlobal + Clock>(
         inboxes,
         counts,
     } = workers;
-    let common = make_common(rt.alloc(), notice.options, &bound.listeners, inboxes)?;
+    let common = make_common(rt, notice.options, &bound.listeners, inboxes)?;
     let crowd = make_crowd(rt.alloc(), notice.options, &common.log)?;
     let metrics = make_metrics(rt, notice.options, bound.door, &crowd, counts)?;
     let Listeners { first, others } = bound.listeners;
@@ -115,6 +119,7 @@ fn plan_with<'a, R: AllocGlobal + Clock>(
         crowd: crowd.clone().map_err(|_| AllocError)?,
         metrics,
         notice,
+        outlet,
     };
     let plan = ServerPlan {
         listener: first,
@@ -125,27 +130,23 @@ fn plan_with<'a, R: AllocGlobal + Clock>(
 }
 
 /// Returns what all threads borrow. It fails if memory is refused, or a descriptor.
-fn make_common(
-    alloc: Global,
+fn make_common<R: AllocGlobal + Clock>(
+    rt: &R,
     options: &Options,
     listeners: &Listeners,
     inboxes: Vec<Inbox>,
 ) -> Result<Common, Wanting> {
+    let alloc = rt.alloc();
     let arrivals = Arrivals::new(inboxes, sockets_of(alloc, listeners)?);
     look_for_descriptors(alloc, listeners)?;
-    let log = Log::new(alloc, options.verbose)?;
+    let log = Log::new(rt, alloc, options.verbose)?;
     Ok(Common { arrivals, log })
 }
 
-/// Returns a counter of connections. They are logged if `verbose` is set. The one error is a refused
-/// allocation.
+/// Returns a counter of connections. The one error is a refused allocation.
 fn make_crowd(alloc: Global, options: &Options, log: &Arc<Log>) -> Result<Arc<Crowd>, AllocError> {
-    let told = if options.verbose {
-        Some(log.clone().map_err(|_| AllocError)?)
-    } else {
-        None
-    };
-    Crowd::new(alloc, options.connections, told)
+    let log = log.clone().map_err(|_| AllocError)?;
+    Crowd::new(alloc, options.connections, Some(log))
 }
 
 /// Returns the metrics server, if there is a listener for scrapes. The one error is a refused
@@ -166,7 +167,7 @@ fn make_metrics<R: AllocGlobal + Clock>(
         pages: options.settings.pages,
         since: Instant::now(rt).ok(),
     };
-    let server = MetricsServer::new(rt.alloc(), door, observer, options.may_quit)?;
+    let server = MetricsServer::new(rt.alloc(), door, observer, options.may_quit);
     Ok(Some(server))
 }
 

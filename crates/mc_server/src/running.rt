@@ -8,7 +8,7 @@ use crate::listening::listen;
 use crate::serving::serve;
 use mc_host::{AskedClock, End};
 use mc_options::Options;
-use mc_time::SystemClock;
+use mc_time::SteadyClock;
 use std::alloc::AllocGlobal;
 use std::fs::Files;
 use std::io::{Read, Stderr, Write};
@@ -37,7 +37,7 @@ where
 {
     let clock = AskedClock {
         asked: options.now,
-        system: SystemClock::new(rt),
+        system: SteadyClock::new(rt),
     };
     if options.stdin {
         serve(rt.alloc(), options.settings, reader, writer, &clock)

@@ -9,7 +9,7 @@ use crate::client::StoreClient;
 use crate::plan::{Common, ServerPlan, ThreadPlan, WorkerPlan};
 use mc_host::Wanting;
 use mc_sockets::{ClosingLinks, Crowd, Refusals, SocketLinks, accept_all, accept_beside};
-use mc_telemetry::{MetricsServer, Notice, WorkerTally, write_lines};
+use mc_telemetry::{MetricsServer, Notice, Outlet, WorkerTally, write_lines};
 use mc_time::Clock;
 use mc_workers::{NoGate, Worker};
 use std::alloc::{AllocError, AllocGlobal};
@@ -74,12 +74,13 @@ where
         crowd,
         metrics,
         notice,
+        outlet,
     } = plan;
     let mut client = client;
     start_workers(scope, rt, workers, &mut client, common, clock)?;
     start_acceptors(scope, rt, listeners, &crowd, common)?;
     start_metrics(scope, rt, metrics, &mut client, common)?;
-    start_logger(scope, rt, notice, client, common)
+    start_logger(scope, rt, notice, outlet, client, common)
 }
 
 /// Starts a thread for each worker.
@@ -156,6 +157,7 @@ fn start_logger<'s, 'a: 's, 'b: 's, 'c: 's, 'd: 's, E, R>(
     scope: &Scope<'s, E>,
     rt: &'a R,
     notice: Notice<'b>,
+    outlet: Outlet,
     client: StoreClient<'c>,
     common: &'d Common,
 ) -> Result<(), Wanting>
@@ -163,7 +165,7 @@ where
     R: AllocGlobal + Wait + Threads + time::Clock + Sync,
 {
     let named = Builder::new().name(LOGGER.to_string(rt.alloc())?);
-    let writing = move || write_log(rt, notice, client, common);
+    let writing = move || write_log(rt, notice, outlet, client, common);
     start(scope, named, writing)
 }
 
@@ -177,7 +179,7 @@ fn start<'s, E, F: FnOnce() + Send + Drop + 's>(
 {
     match builder.spawn_scoped(scope, task) {
         Ok(_thread) => Ok(()),
-        Err(_) => Err(Wanting::Memory),
+        Err(_) => Err(Wanting::Thread),
     }
 }
 
@@ -234,9 +236,10 @@ fn answer_scrapes<R: AllocGlobal + Wait + time::Clock>(
 fn write_log<R: Wait + time::Clock>(
     rt: &R,
     notice: Notice<'_>,
+    outlet: Outlet,
     client: StoreClient<'_>,
     common: &Common,
 ) {
-    let mut client = client;
-    write_lines(rt, &common.log, notice, &mut client);
+    let (mut outlet, mut client) = (outlet, client);
+    write_lines(rt, &common.log, notice, &mut outlet, &mut client);
 }

@@ -85,7 +85,7 @@ fn a_scrape_has_the_classes_with_a_page(rt: HostRuntime) -> Result<(), Fail> {
 #[test]
 fn a_step_raises_one_counter(rt: HostRuntime) -> Result<(), Fail> {
     let counts = Counts::new();
-    let log = Log::new(rt.alloc(), false)?;
+    let log = Log::new(&rt, rt.alloc(), false)?;
     let tally = WorkerTally {
         counts: &counts,
         refusals: Refusals::new(&log),

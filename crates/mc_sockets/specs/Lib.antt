@@ -1,1 +1,2 @@
 pub mod Partings
+pub mod Remedies

@@ -2,6 +2,8 @@
 
 use crate::arrivals::Arrivals;
 use crate::connection::{Connection, Crowd, Parting};
+use crate::remedy::{Remedy, remedy_for};
+use crate::warning::Warning;
 use mio::net::TcpStream;
 use std::net::{SocketAddr, TcpListener};
 use std::sync::{Arc, Wait};
@@ -16,13 +18,6 @@ const CLOSING: u64 = 5;
 
 /// How often it looks, at such pauses, whether they are; pauses may be longer than was asked for.
 const LOOKS: u64 = CLOSING * 1000 / PAUSE;
-
-/// The errors by which the system says that a descriptor is no listener: `EBADF`, `EINVAL`,
-/// `ENOTSOCK` and `EOPNOTSUPP` of accept(2). All others are of one connection, or of the moment.
-const LASTING: [i32; 4] = [9, 22, 88, 95];
-
-/// The errors by which the system says that there is no descriptor: `ENFILE` and `EMFILE`.
-const NO_DESCRIPTOR: [i32; 2] = [23, 24];
 
 /// Why no more connections are accepted.
 #[derive(Clone, Copy, Debug, Drop)]
@@ -51,6 +46,8 @@ struct Door {
     listener: TcpListener,
     spare: Option<TcpListener>,
     crowd: Arc<Crowd>,
+    /// Whether the accept before this one failed too.
+    has_failed: bool,
 }
 
 /// Accepts connections until the listener fails or the program is asked to end, and deals them to
@@ -92,6 +89,7 @@ impl Door {
             listener,
             spare,
             crowd,
+            has_failed: false,
         }
     }
 
@@ -118,29 +116,56 @@ impl Door {
             return Came::Stop(Stop::Asked);
         }
         match accepted {
-            Ok((stream, peer)) => self.let_in(stream, peer),
-            Err(error) if is_one_of(&error, &LASTING) => Came::Stop(Stop::Failed),
-            Err(error) if is_one_of(&error, &NO_DESCRIPTOR) && self.spare.is_some() => {
-                self.accept_by_spare()
+            Ok((stream, peer)) => {
+                self.keep_spare();
+                self.let_in(rt, stream, peer)
             }
-            Err(_) => {
-                let _ = thread::sleep(rt, Duration::from_millis(PAUSE));
-                Came::Nothing
-            }
+            Err(error) => self.remedy(rt, &error),
         }
     }
 
-    /// Lets the spare descriptor go for the next connection, which is closed if there is still no
-    /// other.
-    fn accept_by_spare(&mut self) -> Came {
+    /// Does what is done about an error of accept.
+    fn remedy<R: Clock>(&mut self, rt: &R, error: &io::Error) -> Came {
+        match remedy_for(error) {
+            Remedy::End => return Came::Stop(Stop::Failed),
+            Remedy::FreeSpare => return self.accept_by_spare(rt),
+            Remedy::AwaitMemory => {
+                self.crowd.warn(rt, Warning::NoMemory);
+                pause(rt);
+            }
+            // the first is tried again at once, and those that follow it after a pause
+            Remedy::Retry if self.has_failed => pause(rt),
+            Remedy::Retry => self.has_failed = true,
+        }
+        Came::Nothing
+    }
+
+    /// Notes that a connection was accepted, and makes the spare descriptor if there is none.
+    fn keep_spare(&mut self) {
+        self.has_failed = false;
+        if self.spare.is_none() {
+            self.spare = self.listener.try_clone().ok();
+        }
+    }
+
+    /// Frees the spare descriptor for the next connection, which is closed if there is still no
+    /// other. Waits a little if there is no spare one, or it doesn't help.
+    fn accept_by_spare<R: Clock>(&mut self, rt: &R) -> Came {
+        self.crowd.warn(rt, Warning::NoDescriptor);
+        if self.spare.is_none() {
+            pause(rt);
+            self.spare = self.listener.try_clone().ok();
+            return Came::Nothing;
+        }
         self.spare = None;
         let accepted = self.listener.accept();
         self.spare = self.listener.try_clone().ok();
         let Ok((stream, peer)) = accepted else {
+            pause(rt);
             return Came::Nothing;
         };
         if self.spare.is_some() {
-            return self.let_in(stream, peer);
+            return self.let_in(rt, stream, peer);
         }
         if let Some(mut connection) = self.count_connection(stream, peer) {
             connection.note(Parting::NoDescriptor);
@@ -150,12 +175,13 @@ impl Door {
     }
 
     /// Lets a connection in, unless there are as many as there may be: it is then told so, and closed.
-    fn let_in(&mut self, stream: std::net::TcpStream, peer: SocketAddr) -> Came {
+    fn let_in<R: Clock>(&mut self, rt: &R, stream: std::net::TcpStream, peer: SocketAddr) -> Came {
         let Some(mut connection) = self.count_connection(stream, peer) else {
             return Came::Nothing;
         };
         if connection.is_one_too_many() {
             connection.refuse();
+            self.crowd.warn(rt, Warning::TooManyConnections);
             return Came::Nothing;
         }
         Came::Connection(connection)
@@ -167,6 +193,7 @@ impl Door {
             listener,
             spare,
             crowd,
+            ..
         } = self;
         drop(listener);
         drop(spare);
@@ -175,7 +202,7 @@ impl Door {
             if crowd.open() == 0 || is_past(rt, began) {
                 return;
             }
-            let _ = thread::sleep(rt, Duration::from_millis(PAUSE));
+            pause(rt);
         }
     }
 
@@ -203,10 +230,7 @@ fn is_past<R: Clock>(rt: &R, began: Option<Instant>) -> bool {
     }
 }
 
-/// Returns whether the system's error has one of these numbers.
-fn is_one_of(error: &io::Error, numbers: &[i32]) -> bool {
-    match error.raw_os_error() {
-        Some(number) => numbers.contains(&number),
-        None => false,
-    }
+/// Waits a little, before the system is asked again.
+fn pause<R: Clock>(rt: &R) {
+    let _ = thread::sleep(rt, Duration::from_millis(PAUSE));
 }

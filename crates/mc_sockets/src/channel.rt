@@ -33,6 +33,9 @@ pub struct Readiness {
     pub is_marked: bool,
 }
 
+/// How often a call that a signal interrupts is made again at once.
+const INTERRUPTIONS: u32 = 1000;
+
 impl Readiness {
     /// A new connection, of which nothing is known.
     pub const NEW: Readiness = Readiness {
@@ -133,7 +136,7 @@ impl Wire {
         ensures { ReadsAtMost result piece.new }
     {
         let wanted = piece.len();
-        match self.connection.stream.read(piece) {
+        match self.read_again(piece) {
             Ok(0) => {
                 self.connection.note(Parting::Ended);
                 Ok(0)
@@ -163,6 +166,19 @@ impl Wire {
         }
     }
 
+    /// Asks the system for bytes, and again if a signal interrupts the call.
+    fn read_again(&mut self, piece: &mut [u8]) -> io::Result<usize>
+        ensures { ReadsAtMost result piece.new }
+    {
+        for _interruption in 0..INTERRUPTIONS {
+            match self.connection.stream.read(piece) {
+                Err(error) if error.kind() == ErrorKind::Interrupted => {}
+                result => return result,
+            }
+        }
+        self.connection.stream.read(piece)
+    }
+
     /// Sends two texts, one behind the other, in one call, and says how many bytes were taken. `WouldBlock`
     /// is that none is taken now.
     fn write(&mut self, first: &[u8], second: &[u8]) -> io::Result<usize>
@@ -171,7 +187,7 @@ impl Wire {
         if !self.goes_on().writes {
             return Err(self.later());
         }
-        match self.send(first, second) {
+        match self.send_again(first, second) {
             Ok(count) => {
                 let all = first.len().saturating_add(second.len());
                 self.count(Counted::Sent, count);
@@ -189,6 +205,17 @@ impl Wire {
                 Err(error)
             }
         }
+    }
+
+    /// Asks the system to send two texts, and again if a signal interrupts the call.
+    fn send_again(&mut self, first: &[u8], second: &[u8]) -> io::Result<usize> {
+        for _interruption in 0..INTERRUPTIONS {
+            match self.send(first, second) {
+                Err(error) if error.kind() == ErrorKind::Interrupted => {}
+                result => return result,
+            }
+        }
+        self.send(first, second)
     }
 
     /// Asks the system to send two texts.

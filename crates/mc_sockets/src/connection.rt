@@ -2,6 +2,7 @@
 
 use crate::lines::Line;
 use crate::log::Log;
+use crate::warning::Warning;
 use mio::net::TcpStream;
 use std::alloc::{AllocError, Global};
 use std::array;
@@ -9,6 +10,7 @@ use std::io::Write;
 use std::net::SocketAddr;
 use std::sync::Arc;
 use std::sync::atomic::{AtomicU32, AtomicU64, Ordering};
+use std::time::Clock;
 
 /// What is said to a connection if there are as many as there may be.
 const TOO_MANY: &[u8] = b"ERROR Too many open connections\r\n";
@@ -77,19 +79,19 @@ pub struct Crowd {
     accepted: AtomicU64,
     /// How many were closed for each reason.
     closed: [AtomicU64; PARTINGS],
-    /// Where each is told of; none if that isn't asked for.
-    told: Option<Arc<Log>>,
+    /// Where connections and warnings are logged; none in tests.
+    log: Option<Arc<Log>>,
 }
 
 impl Crowd {
-    /// Has no connections yet. The one error is a refused allocation.
-    pub fn new(alloc: Global, most: u32, told: Option<Arc<Log>>) -> Result<Arc<Crowd>, AllocError> {
+    /// Makes a crowd of no connections. The one error is a refused allocation.
+    pub fn new(alloc: Global, most: u32, log: Option<Arc<Log>>) -> Result<Arc<Crowd>, AllocError> {
         let crowd = Crowd {
             most,
             open: AtomicU32::new(0),
             accepted: AtomicU64::new(0),
             closed: array::from_fn(|_at| AtomicU64::new(0)),
-            told,
+            log,
         };
         Arc::new(alloc, crowd).map_err(|_| AllocError)
     }
@@ -117,10 +119,17 @@ impl Crowd {
         }
     }
 
+    /// Logs a warning, unless it was logged within a minute.
+    pub fn warn<R: Clock>(&self, rt: &R, warning: Warning) {
+        if let Some(log) = &self.log {
+            log.warn(rt, warning);
+        }
+    }
+
     /// Counts a connection, and gives its number among all that were accepted, from 1 on.
     fn enter(&self, peer: SocketAddr) -> u64 {
         let number = self.accepted.fetch_add(1, Ordering::SeqCst).wrapping_add(1);
-        if let Some(log) = &self.told {
+        if let Some(log) = &self.log {
             log.say(Line::Opened { number, peer });
         }
         number
@@ -137,7 +146,7 @@ impl Crowd {
         if let Some(count) = self.closed.get(parting.place()) {
             count.fetch_add(1, Ordering::SeqCst);
         }
-        if let Some(log) = &self.told {
+        if let Some(log) = &self.log {
             log.say(Line::Closed { number, parting });
         }
     }

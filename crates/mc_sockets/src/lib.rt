@@ -5,8 +5,8 @@
 //! (`channel.rt`), whose events wake its guest (`place.rt`, `idle.rt`); what isn't sent when its
 //! session ends is sent later (`yard.rt`). `closing.rt` is how all of it ends when it is asked to.
 //! What is to be said of connections, and that the store is full, waits in a [`Log`] (`log.rt`,
-//! `lines.rt`, `shortage.rt`) for the one thread that says it, so that none of the others waits for
-//! that.
+//! `lines.rt`, `shortage.rt`, `warning.rt`) for the one thread that says it, so that none of the
+//! others waits for that. What is done about each error of accept is a table (`remedy.rt`).
 //!
 //! Nobody can know a socket's bytes, nor when a thread runs, so contracts say here that a socket is a
 //! link as `mc_guests` asks for one, and little else. The rest is tested over sockets
@@ -28,7 +28,9 @@ mod link;
 mod links;
 mod log;
 mod place;
+mod remedy;
 mod shortage;
+mod warning;
 mod yard;
 
 pub use accepting::{accept_all, accept_beside};
@@ -41,3 +43,4 @@ pub use link::SocketLink;
 pub use links::{EVENTS, SocketLinks, WAKER};
 pub use log::Log;
 pub use shortage::{Refusals, Wanted};
+pub use warning::Warning;

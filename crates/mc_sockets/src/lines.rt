@@ -1,16 +1,18 @@
 //! Lines for standard error, on their way to the thread that writes them.
 
 use crate::connection::Parting;
+use crate::warning::Warning;
 use std::alloc::{AllocError, Global};
 use std::net::SocketAddr;
 use std::sync::Mutex;
 use std::sync::atomic::{AtomicBool, AtomicU64, Ordering};
 
-/// What is said of a connection.
+/// What a line is about.
 #[derive(Clone, Copy)]
 pub enum Line {
     Opened { number: u64, peer: SocketAddr },
     Closed { number: u64, parting: Parting },
+    Warned(Warning),
 }
 
 /// A line that waits, and how many were dropped before it, of which no other line tells.

@@ -37,6 +37,9 @@ const TICK: u64 = 250;
 /// How many connections that can't be served are passed over at most in the search for one that can.
 const PASSED: usize = 1024;
 
+/// After how many seconds without an event a link that waits is asked again.
+const UNHEARD: u32 = 10;
+
 /// What the links of one worker share.
 #[derive(Drop)]
 struct Common {
@@ -98,6 +101,8 @@ pub struct SocketLinks<'a, R: Wait + Clock> {
     ticks: u64,
     /// When a tick was last counted.
     ticked: Option<Instant>,
+    /// Looks for connections that are to be asked again.
+    unheard: Option<Watch>,
     counts: Arc<Counts>,
 }
 
@@ -128,6 +133,7 @@ impl<'a, R: Wait + Clock> SocketLinks<'a, R> {
             watch: None,
             ticks: 0,
             ticked: None,
+            unheard: Watch::new(UNHEARD),
             counts,
         }
     }
@@ -144,10 +150,7 @@ impl<'a, R: Wait + Clock> SocketLinks<'a, R> {
             common.moved.set(0);
         }
         // what came before this moment is told of by the poll
-        let before = match &self.watch {
-            Some(_) => Instant::now(self.rt).ok(),
-            None => None,
-        };
+        let before = Instant::now(self.rt).ok();
         if self.poll.poll(&mut self.events, Some(timeout)).is_err() {
             return;
         }
@@ -157,6 +160,7 @@ impl<'a, R: Wait + Clock> SocketLinks<'a, R> {
             && told < self.events.capacity()
         {
             self.end_idle(before);
+            self.ask_unheard(before);
         }
     }
 
@@ -209,6 +213,27 @@ impl<'a, R: Wait + Clock> SocketLinks<'a, R> {
             if let Some(place) = self.places.get_mut(at)
                 && place.has_waited(watch.limit(), before, now)
                 && place.end(Parting::Idle, &mut self.named)
+                && let Some(common) = &self.common
+            {
+                common.send_rest(at);
+            }
+        }
+    }
+
+    /// Asks links again of which no event came for long before the moment before all events were told, of
+    /// those whose turn it is.
+    fn ask_unheard(&mut self, before: Instant) {
+        let Some(watch) = &mut self.unheard else {
+            return;
+        };
+        let Ok(now) = Instant::now(self.rt) else {
+            return;
+        };
+        let places = self.places.len();
+        for _one in 0..watch.due(places, now) {
+            let at = watch.turn(places);
+            if let Some(place) = self.places.get_mut(at)
+                && place.ask_if_unheard(watch.limit(), before, now, &mut self.named)
                 && let Some(common) = &self.common
             {
                 common.send_rest(at);

@@ -2,34 +2,47 @@
 
 use crate::lines::{Line, Lines, Waiting};
 use crate::shortage::{Shortage, Wanted};
+use crate::warning::{Warning, Warnings};
 use mc_protocol::KeyStep;
 use std::alloc::{AllocError, Global};
 use std::sync::atomic::{AtomicU32, Ordering};
 use std::sync::{Arc, Wait};
 use std::thread::Parker;
-use std::time::{Clock, Duration};
+use std::time::{Clock, Duration, Instant};
 
 /// How many lines may wait while standard error takes none.
 const MOST: usize = 1024;
+
+/// The same if connections aren't logged: there are warnings alone.
+const FEW: usize = 16;
 
 /// What the threads that serve have to say, and what calls the one that writes it. That one alone
 /// waits if standard error takes nothing.
 #[derive(Drop)]
 pub struct Log {
     lines: Lines,
+    /// Whether the connections that open and close are logged.
+    tells_connections: bool,
     shortage: Shortage,
+    warnings: Warnings,
     /// How many threads may still have something to say.
     speakers: AtomicU32,
     logger: Parker,
 }
 
 impl Log {
-    /// Has nothing to say yet, for one thread; nor ever of connections, unless they are told of. The one
-    /// error is a refused allocation.
-    pub fn new(alloc: Global, tells_connections: bool) -> Result<Arc<Log>, AllocError> {
+    /// Makes a log with one writer, which logs connections only if `tells_connections`. The one error is
+    /// a refused allocation.
+    pub fn new<R: Clock>(
+        rt: &R,
+        alloc: Global,
+        tells_connections: bool,
+    ) -> Result<Arc<Log>, AllocError> {
         let log = Log {
-            lines: Lines::new(alloc, if tells_connections { MOST } else { 0 })?,
+            lines: Lines::new(alloc, if tells_connections { MOST } else { FEW })?,
+            tells_connections,
             shortage: Shortage::new(),
+            warnings: Warnings::new(Instant::now(rt).ok()),
             speakers: AtomicU32::new(1),
             logger: Parker::new(),
         };
@@ -52,8 +65,23 @@ impl Log {
         self.speakers.load(Ordering::SeqCst) == 0
     }
 
-    /// Has a line written, or dropped if too many wait. It doesn't wait.
+    /// Logs what became of a connection, if connections are logged. The line is dropped if too many
+    /// wait. It doesn't wait.
     pub fn say(&self, line: Line) {
+        if self.tells_connections {
+            self.push(line);
+        }
+    }
+
+    /// Logs a warning, unless it was logged within a minute.
+    pub fn warn<R: Clock>(&self, rt: &R, warning: Warning) {
+        if self.warnings.is_due(rt, warning) {
+            self.push(Line::Warned(warning));
+        }
+    }
+
+    /// Has a line written, or dropped if too many wait, and wakes the thread that writes.
+    fn push(&self, line: Line) {
         self.lines.push(line);
         self.logger.unpark();
     }

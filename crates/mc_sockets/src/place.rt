@@ -16,6 +16,8 @@ pub struct Place {
     readiness: Rc<Cell<Readiness>>,
     /// When it was first seen to wait, since the last event; nothing if nobody looked.
     waits_since: Option<Instant>,
+    /// The same, since its link was asked again or the last event.
+    asked_since: Option<Instant>,
 }
 
 impl Place {
@@ -25,6 +27,7 @@ impl Place {
             number,
             readiness,
             waits_since: None,
+            asked_since: None,
         }
     }
 
@@ -37,6 +40,7 @@ impl Place {
     /// gone.
     pub fn note(&mut self, event: &Event, named: &mut VecDeque<u64>) -> bool {
         self.waits_since = None;
+        self.asked_since = None;
         let known = self.readiness.get();
         let is_final = event.is_read_closed() || event.is_error();
         self.readiness.set(Readiness {
@@ -79,6 +83,41 @@ impl Place {
             ..known
         });
         let _ = named.push_back(self.number);
+        known.leaves
+    }
+
+    /// Names the link if no event came of it for so long before the one moment while it waits, or is
+    /// gone: its next call asks the system again, which may have reported nothing. Returns whether
+    /// the link is gone, and what it left may be sent.
+    pub fn ask_if_unheard(
+        &mut self,
+        limit: Duration,
+        before: Instant,
+        now: Instant,
+        named: &mut VecDeque<u64>,
+    ) -> bool {
+        let known = self.readiness.get();
+        if !known.waits && !known.leaves {
+            return false;
+        }
+        let Some(since) = self.asked_since else {
+            self.asked_since = Some(now);
+            return false;
+        };
+        if before.duration_since(since) < limit {
+            return false;
+        }
+        self.asked_since = Some(now);
+        self.readiness.set(Readiness {
+            reads: true,
+            writes: true,
+            waits: false,
+            ..known
+        });
+        if known.waits {
+            // there is room, as a link that waits isn't named
+            let _ = named.push_back(self.number);
+        }
         known.leaves
     }
 

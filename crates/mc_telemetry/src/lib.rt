@@ -7,8 +7,8 @@
 //! A worker counts its steps by a [`WorkerTally`] (`tally.rt`), each step as [`counted_as`] says
 //! (`counting.rt`). For a scrape an [`Observer`] reads the counters, the connections and the store
 //! (`observer.rt`), the table of families says what is printed (`families.rt`), and a [`MetricsServer`]
-//! answers over HTTP (`scrape.rt`). [`write_lines`] writes to standard error in a thread of its own
-//! (`logger.rt`): where the server listens, which connections open and close, and, once a minute, that
+//! answers over HTTP (`scrape.rt`), several clients at once (`exchange.rt`). [`write_lines`] writes to standard error in a thread of its own
+//! (`logger.rt`, `outlet.rt`): where the server listens, which connections open and close, and, once a minute, that
 //! the store is full (`full.rt`).
 //!
 //! Contracts say of each step and its outcome as what it counts. How an answer and a page look is proved
@@ -21,10 +21,12 @@
 #![tactic(auto)]
 
 mod counting;
+mod exchange;
 mod families;
 mod full;
 mod logger;
 mod observer;
+mod outlet;
 mod scrape;
 mod stats;
 mod tally;
@@ -32,6 +34,7 @@ mod tally;
 pub use counting::counted_as;
 pub use logger::{Notice, write_lines};
 pub use observer::Observer;
+pub use outlet::Outlet;
 pub use scrape::MetricsServer;
 pub use stats::StoreStats;
 pub use tally::WorkerTally;

@@ -4,6 +4,7 @@
 //! the store is full, and reads the class's counts by a caller of its own.
 
 use crate::full::{Full, Stock};
+use crate::outlet::Outlet;
 use crate::stats::StoreStats;
 use mc_options::{Endpoints, Options};
 use mc_slab::need_of;
@@ -25,13 +26,14 @@ pub struct Notice<'a> {
     pub descriptors: Option<u64>,
 }
 
-/// Writes where the server listens, and then the lines of the log, until no thread has more of them.
-/// It sleeps while there is nothing to write. A minute after a report that the store is full it wakes
+/// Writes where the server listens, and then the lines of the log, until no thread has more of them. If
+/// nobody reads what was written then, the rest isn't written, and the server ends all the same. It sleeps while there is nothing to write. A minute after a report that the store is full it wakes
 /// once, so that the next refusal is reported again.
 pub fn write_lines<R: Wait + Clock, S: StoreStats>(
     rt: &R,
     log: &Log,
     notice: Notice<'_>,
+    outlet: &mut Outlet,
     stats: &mut S,
 ) {
     let settings = notice.options.settings;
@@ -43,10 +45,20 @@ pub fn write_lines<R: Wait + Clock, S: StoreStats>(
         turn: 0,
         told_full: None,
     };
-    say(notice);
+    let mut has_begun = false;
     for _ in rt.forever() {
         // a line that came before the last thread left is found below
         let is_over = log.is_over();
+        if !outlet.is_ready() {
+            if is_over {
+                return;
+            }
+            continue;
+        }
+        if !has_begun {
+            say(notice);
+            has_begun = true;
+        }
         logger.tell_full(rt, stats);
         if logger.write_next() {
             continue;
@@ -162,6 +174,10 @@ fn write_line(stderr: Stderr, line: Line) -> io::Result<()> {
         Line::Closed { number, parting } => {
             let why = parting.text();
             eprintln!(stderr; "mcserver: connection {number} closed: {why}")
+        }
+        Line::Warned(warning) => {
+            let text = warning.text();
+            eprintln!(stderr; "mcserver: warning: {text} (reported once a minute)")
         }
     }
 }

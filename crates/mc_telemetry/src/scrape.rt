@@ -1,20 +1,23 @@
-//! Answers requests over HTTP, one after another.
-//!
-//! One thread serves scrapes, each for at most 2 seconds. More at once would need a poll and a state
-//! each, and what they hold of the store is held one after another anyway.
+//! Answers requests over HTTP, of several clients at once.
 
+use crate::exchange::{Due, Exchange};
 use crate::families::FAMILIES;
 use crate::observer::Observer;
 use crate::stats::StoreStats;
 use mc_host::Door;
-use mc_metrics::{
-    Answer, LONGEST, NO_MEMORY, QuitAccess, page_of, pass_rest, request_of, response, send,
-};
+use mc_metrics::{Answer, QuitAccess, page_of, response};
 use mc_sockets::Arrivals;
+use mio::net::TcpStream;
 use std::alloc::{AllocError, AllocGlobal, Global};
-use std::net::{Shutdown, TcpStream};
+use std::net::SocketAddr;
 use std::sync::Wait;
-use std::time::Clock;
+use std::time::{Clock, Duration};
+
+/// How many connections may be open at once. One more closes the oldest.
+const MOST: usize = 64;
+
+/// How long it rests at most while a connection is open, in milliseconds.
+const REST: u64 = 100;
 
 /// Answers requests over HTTP at one listener.
 #[derive(Drop)]
@@ -23,29 +26,24 @@ pub struct MetricsServer {
     observer: Observer,
     /// Whether peers of this machine may ask the program to end.
     may_quit: bool,
-    /// Where a request is read.
-    buffer: Vec<u8>,
+    /// The open connections, the oldest first.
+    exchanges: Vec<Exchange>,
 }
 
 impl MetricsServer {
-    /// Takes a listener and what reads the values of a page. The one error is a refused allocation.
-    pub fn new(
-        alloc: Global,
-        door: Door,
-        observer: Observer,
-        may_quit: bool,
-    ) -> Result<MetricsServer, AllocError> {
-        Ok(MetricsServer {
+    /// Takes a listener and what reads the values of a page. It takes no memory.
+    pub fn new(alloc: Global, door: Door, observer: Observer, may_quit: bool) -> MetricsServer {
+        MetricsServer {
             door,
             observer,
             may_quit,
-            buffer: vec![in alloc; 0u8; LONGEST]?,
-        })
+            exchanges: Vec::new(alloc),
+        }
     }
 
-    /// Answers requests, one connection after another and one request each, until the workers are
-    /// sent no more connections. No connection takes longer than its request and its answer may, so
-    /// nobody keeps others out for good.
+    /// Answers one request on each connection, until the workers are sent no more connections. A client
+    /// that sends nothing, or reads nothing, keeps no other one waiting: its connection is closed
+    /// after 2 seconds for its request and 2 for its answer, or sooner if 64 newer ones are open.
     pub fn answer_all<R: AllocGlobal + Wait + Clock, S: StoreStats>(
         &mut self,
         rt: &R,
@@ -56,81 +54,109 @@ impl MetricsServer {
             if arrivals.is_over() {
                 return;
             }
-            if !self.answer_next(rt, arrivals, stats) {
-                self.door.wait(rt, arrivals.longest_rest());
+            let may_come = self.accept_some(rt);
+            let may_go_on = self.go_on_all(rt, arrivals, stats);
+            if !may_come && !may_go_on {
+                self.door.wait(rt, self.rest(arrivals));
             }
         }
     }
 
-    /// Answers the connection that waits longest. Returns whether one waited.
-    fn answer_next<R: AllocGlobal + Wait + Clock, S: StoreStats>(
+    /// Returns how long it may rest.
+    fn rest(&self, arrivals: &Arrivals) -> Duration {
+        let longest = arrivals.longest_rest();
+        if self.exchanges.is_empty() {
+            longest
+        } else {
+            longest.min(Duration::from_millis(REST))
+        }
+    }
+
+    /// Accepts connections that wait. Returns whether more may wait.
+    fn accept_some<R: AllocGlobal + Clock>(&mut self, rt: &R) -> bool {
+        for _one in 0..MOST {
+            match self.door.accept() {
+                Ok((stream, peer)) => self.open(rt, stream, peer),
+                Err(_) => return false,
+            }
+        }
+        true
+    }
+
+    /// Opens an exchange with a peer, in place of the oldest if there are too many. Without memory the
+    /// connection is closed.
+    fn open<R: AllocGlobal + Clock>(&mut self, rt: &R, stream: TcpStream, peer: SocketAddr) {
+        let access = QuitAccess::of(self.may_quit, peer.ip().to_canonical());
+        if let Ok(exchange) = Exchange::new(rt, rt.alloc(), stream, access) {
+            if self.exchanges.len() >= MOST {
+                drop(self.exchanges.remove(0));
+            }
+            let _ = self.exchanges.push(exchange);
+        }
+    }
+
+    /// Lets each exchange go on, and closes those that are over. Returns whether one may go on at once.
+    fn go_on_all<R: AllocGlobal + Wait + Clock, S: StoreStats>(
         &mut self,
         rt: &R,
         arrivals: &Arrivals,
         stats: &mut S,
     ) -> bool {
-        match self.door.accept() {
-            Ok((mut stream, peer)) => {
-                let access = QuitAccess::of(self.may_quit, peer.ip().to_canonical());
-                self.answer_one(rt, arrivals, access, &mut stream, stats);
-                true
+        let mut may_go_on = false;
+        let mut at = 0usize;
+        for _one in 0..MOST {
+            let Some(exchange) = self.exchanges.get_mut(at) else {
+                return may_go_on;
+            };
+            match go_on(rt, exchange, &self.observer, arrivals, stats) {
+                Due::Close if at < self.exchanges.len() => drop(self.exchanges.remove(at)),
+                Due::More => {
+                    may_go_on = true;
+                    at = at.saturating_add(1);
+                }
+                _ => at = at.saturating_add(1),
             }
-            Err(_) => false,
         }
+        may_go_on
     }
+}
 
-    /// Answers the request of a connection. A connection that sends nothing gets no answer.
-    fn answer_one<R: AllocGlobal + Wait + Clock, S: StoreStats>(
-        &mut self,
-        rt: &R,
-        arrivals: &Arrivals,
-        access: QuitAccess,
-        stream: &mut TcpStream,
-        stats: &mut S,
-    ) {
-        let asked = request_of(rt, stream, self.buffer.as_mut_slice(), access);
-        let answer = match asked {
-            None => return,
-            Some(Answer::Stopping) if !arrivals.ask_to_close() => Answer::CannotStop,
-            Some(answer) => answer,
-        };
-        match self.text_of(rt, answer, stats) {
-            Ok(text) => send(rt, stream, text.as_slice()),
-            Err(AllocError) => send(rt, stream, NO_MEMORY),
-        }
-        let _ = stream.shutdown(Shutdown::Write);
-        if answer.may_leave_input() {
-            // if input is left the system would drop the answer with it
-            pass_rest(rt, stream, self.buffer.as_mut_slice());
-        }
+/// Lets an exchange go on, and answers its request if that is due. Returns what is due then.
+fn go_on<R: AllocGlobal + Wait + Clock, S: StoreStats>(
+    rt: &R,
+    exchange: &mut Exchange,
+    observer: &Observer,
+    arrivals: &Arrivals,
+    stats: &mut S,
+) -> Due {
+    let answer = match exchange.go_on(rt) {
+        Due::Answer(Answer::Stopping) if !arrivals.ask_to_close() => Answer::CannotStop,
+        Due::Answer(answer) => answer,
+        due => return due,
+    };
+    match text_of(rt, answer, observer, stats) {
+        Ok(text) => exchange.answer(rt, text, answer.may_leave_input()),
+        Err(AllocError) => exchange.answer_without_memory(rt),
     }
+    exchange.go_on(rt)
+}
 
-    /// Returns the text of an answer. The one error is a refused allocation.
-    fn text_of<R: AllocGlobal + Wait + Clock, S: StoreStats>(
-        &self,
-        rt: &R,
-        answer: Answer,
-        stats: &mut S,
-    ) -> Result<Vec<u8>, AllocError> {
-        let alloc = rt.alloc();
-        match answer {
-            Answer::Metrics => {
-                let page = self.page(rt, stats)?;
-                response(alloc, answer, page.as_slice())
-            }
-            Answer::Healthy => response(alloc, answer, b"ok\n"),
-            Answer::Stopping => response(alloc, answer, b"stopping\n"),
-            _ => response(alloc, answer, b""),
+/// Returns the text of an answer. The one error is a refused allocation.
+fn text_of<R: AllocGlobal + Wait + Clock, S: StoreStats>(
+    rt: &R,
+    answer: Answer,
+    observer: &Observer,
+    stats: &mut S,
+) -> Result<Vec<u8>, AllocError> {
+    let alloc = rt.alloc();
+    match answer {
+        Answer::Metrics => {
+            let reading = observer.read(rt, alloc, stats)?;
+            let page = page_of(alloc, &FAMILIES, &reading)?;
+            response(alloc, answer, page.as_slice())
         }
-    }
-
-    /// Returns the page of metrics. The one error is a refused allocation.
-    fn page<R: AllocGlobal + Wait + Clock, S: StoreStats>(
-        &self,
-        rt: &R,
-        stats: &mut S,
-    ) -> Result<Vec<u8>, AllocError> {
-        let reading = self.observer.read(rt, rt.alloc(), stats)?;
-        page_of(rt.alloc(), &FAMILIES, &reading)
+        Answer::Healthy => response(alloc, answer, b"ok\n"),
+        Answer::Stopping => response(alloc, answer, b"stopping\n"),
+        _ => response(alloc, answer, b""),
     }
 }

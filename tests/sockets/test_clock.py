@@ -1,0 +1,69 @@
+"""The system's clock set back or forward: what was flushed or has expired stays dead, and what lives isn't shortened."""
+import time
+
+from tests.lib.case import ProgramCase
+from tests.lib.faults import Faults
+from tests.lib.peer import Peer, clients
+from tests.lib.server import Server
+from tests.lib.wait import until
+
+HOUR = 3600
+ITEMS = 200
+# An item expires within so many seconds of its expiry, on a machine that is busy.
+SOON = 10
+
+
+def setting(name, at, exptime):
+    return b"set %s%d 0 %d 1\r\nx\r\n" % (name, at, exptime)
+
+
+class Clock(ProgramCase):
+    def store(self, peer, name, exptime):
+        peer.send(b"".join(setting(name, at, exptime) for at in range(ITEMS)))
+        peer.is_told(b"STORED\r\n" * ITEMS)
+
+    def alive(self, peer, name):
+        """How many of the items are hits."""
+        peer.send(b"get " + b" ".join(b"%s%d" % (name, at) for at in range(ITEMS)) + b"\r\n")
+        return peer.upto(b"END\r\n").count(b"VALUE ")
+
+    def test_set_back(self):
+        """By an hour, and at once by a day more: nothing that was dead is alive for any worker, and what lives stays so."""
+        with Faults() as faults, Server(workers=4, faults=faults) as server, clients(server.port, 8) as peers:
+            first = peers[0]
+            self.store(first, b"flushed", 0)
+            time.sleep(2)  # (a flush of this second kills what was stored before it)
+            first.asks(b"flush_all\r\n", b"OK\r\n")
+            self.store(first, b"short", 1)
+            self.store(first, b"long", 2 * HOUR)
+            first.asks(b"set unix 0 %d 1\r\nx\r\n" % (int(time.time()) + HOUR), b"STORED\r\n")
+            self.assertTrue(until(lambda: self.alive(first, b"short") == 0, SOON), "items of one second are alive")
+            for back in (HOUR, 25 * HOUR):
+                faults.set_clock_back(back)
+                time.sleep(1.2)  # (each worker has looked at the clock since)
+                for peer in peers:
+                    self.assertEqual(0, self.alive(peer, b"flushed"), f"flushed items that are hits, {back} s back")
+                    self.assertEqual(0, self.alive(peer, b"short"), f"expired items that are hits, {back} s back")
+                    self.assertEqual(ITEMS, self.alive(peer, b"long"), f"items that live, {back} s back")
+
+    def test_goes_on(self):
+        """While the system's clock is behind, what is stored expires after as long as it was given."""
+        with Faults() as faults, Server(faults=faults) as server, Peer(server.port) as peer:
+            peer.asks(b"version\r\n", b"VERSION ")
+            peer.upto(b"\r\n")
+            faults.set_clock_back(HOUR)
+            self.store(peer, b"brief", 3)
+            stored = time.monotonic()
+            self.assertEqual(ITEMS, self.alive(peer, b"brief"), "items that were just stored")
+            self.assertTrue(until(lambda: self.alive(peer, b"brief") == 0, SOON), "items of 3 seconds don't expire")
+            self.assertGreater(time.monotonic() - stored, 1.5, "seconds that items of 3 seconds lived")
+
+    def test_set_forward(self):
+        """A step forward is taken as it is, and a step back from there is none."""
+        with Faults() as faults, Server(faults=faults) as server, Peer(server.port) as peer:
+            self.store(peer, b"hour", HOUR)
+            faults.set_clock_back(-HOUR - 10)
+            self.assertTrue(until(lambda: self.alive(peer, b"hour") == 0, SOON), "items of an hour are alive, an hour later")
+            faults.set_clock_back(0)
+            time.sleep(1.2)
+            self.assertEqual(0, self.alive(peer, b"hour"), "items that were dead are hits")
