@@ -1,4 +1,7 @@
-//! How guests are let in.
+//! Admits new guests between rounds.
+//!
+//! Up to 32 links are admitted between two rounds, so a burst doesn't wait for as many rounds, and
+//! guests wait for at most 32 newcomers.
 ghost use Rattle.std.specs.Prelude.{◌≡◌, IsTrue, IsFalse};
 ghost use Rattle.mc_guests.specs.Books.{one_more};
 ghost use Rattle.mc_guests.specs.Doors.{shut, counted_in, LetsIn, Opens, OpensForAll};
@@ -9,23 +12,22 @@ use crate::links::{Links, Next};
 use crate::talk::Talk;
 use std::alloc::Global;
 
-/// How many links are let in at most between two rounds.
+/// The most links that are admitted between two rounds.
 const LINKS: usize = 32;
 
-/// How guests are let in.
+/// The door through which guests come.
 #[derive(Clone, Copy, Debug, PartialEq, Eq)]
 pub struct Door {
-    /// What storage commands may charge at most.
+    /// The greatest charge of a storage command, in bytes.
     pub greatest: u64,
-    /// How many links were handed out, modulo 2^64.
+    /// The number of links that were returned, modulo 2^64.
     pub opened: u64,
-    /// What links were asked since the last round.
+    /// The calls of the links since the last round.
     pub talk: Talk,
 }
 
 impl Door {
-    /// Makes a door at which no guest was let in yet, whose storage commands may charge at most `greatest`
-    /// bytes.
+    /// Makes a door without guests; storage commands may charge at most `greatest` bytes.
     pub fn new(greatest: u64) -> Door
         ensures { result ≡ shut greatest }
     {
@@ -36,10 +38,11 @@ impl Door {
         }
     }
 
-    /// Opens for each link that waits, one opening after another until none comes, or 32 came. So
-    /// many newcomers wait few rounds, and guests wait for 32 newcomers at most. It rests in none
-    /// but the last opening, if nobody was let in before it and there is nothing to do. Each opening
-    /// wakes the guests whose links are named, 1024 at most. Returns whether more can come.
+    /// Admits waiting links, one opening for each, until none is left or 32 came.
+    ///
+    /// So newcomers wait for few rounds, and guests wait for at most 32 newcomers. Only the last
+    /// opening rests, if nobody was admitted before it and there is nothing to do. Each opening
+    /// wakes the guests whose links are named, at most 1024. Returns whether more can come.
     pub fn open_for_all<L: Link + Drop, Q: Links<L>>(
         &mut self,
         alloc: Global,
@@ -59,9 +62,10 @@ impl Door {
         true
     }
 
-    /// Asks for the next link once, and wakes the guests whose links are named; rests if there is
-    /// nothing to do. Returns whether more can come: not if no link comes any more and there is no
-    /// guest.
+    /// Gets the next link once, and wakes the guests whose links are named.
+    ///
+    /// It rests if there is nothing to do. Returns whether more can come: not if no more links come
+    /// and there is no guest.
     fn open<L: Link + Drop, Q: Links<L>>(
         &mut self,
         alloc: Global,
@@ -109,7 +113,7 @@ impl Door {
     }
 }
 
-/// Counts a link as refused that is no guest.
+/// Counts a link that didn't become a guest as refused.
 fn count_refused(end: &mut WorkEnd, came: bool)
     ensures came { IsTrue came → end.new ≡ end.old }
     ensures refused { IsFalse came →

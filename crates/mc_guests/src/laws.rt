@@ -13,14 +13,15 @@ use crate::guest::Visit;
 use mc_parse::no_spelling_begins_another;
 use mc_protocol::Steps;
 
-/// States that links take the texts of turns, in their order, and nothing else. What a link took
-/// and the output that waits for it, one behind the other, grow with each visit by the text of the
-/// turn that it took, and by nothing if it took none; so with visits one after another they grow by
-/// the texts of their turns. The text of a turn is the one that answers it, by the reply of its
-/// step if it takes one.
+/// States that links take the texts of turns, in order, and nothing else.
+///
+/// What a link took, followed by the output that is left, grows with each visit by the text of the
+/// turn that the visit took, and by nothing if it took none. So with visits in order it grows by
+/// the texts of their turns.
 ///
 /// So what a link took since its guest was made is a front of the texts of all turns, and all of
-/// them once a visit has answered Served. Of a link whose bytes nobody can know nothing is said.
+/// them once a visit has answered `Served`. The law doesn't cover links whose bytes are
+/// unspecified.
 pub fn links_take_texts_of_turns<S: Steps>()
     ensures visit { (now : ℕ) (answer : Visit) (old new : GuestState) (before after : S)
         (visited : Visited S.Steps now answer old new before after) →
@@ -38,13 +39,15 @@ pub fn links_take_texts_of_turns<S: Steps>()
         new.link.taken ≡ Some (texts S.Steps turns) }
 {}
 
-/// States that a link is answered what it gave. The turns that the visits of a guest took are the
-/// first turns of the units of the bytes that its link gave, in their order; and what the link took,
-/// and behind it the output that waits, are the texts of these turns. Once a visit has answered
-/// Served they are all the turns of that stream, and the link took all their texts.
+/// States that the output of a link is the answer to its input.
 ///
-/// The bytes are those that the visits brought to the session and those that left its output, so that
-/// this is said of every link, also of one whose bytes nobody can know. Of any other they are the bytes
+/// The turns of a guest's visits are the first turns of the units of the bytes that its link gave,
+/// in order. What the link took, followed by the output that is left, is the texts of these turns.
+/// Once a visit has answered `Served` they are all turns of that stream, and the link took all
+/// their texts.
+///
+/// The bytes are those that the visits brought to the session and that left its output, so the law
+/// holds for every link, also if its bytes are unspecified. For any other link they are the bytes
 /// that it shows.
 pub fn links_are_answered_what_they_gave<S: Steps>()
     ensures first { (turns : List (TakenTurn S.Steps)) (greatest : ℕ) (link : LinkState)
@@ -67,8 +70,9 @@ pub fn links_are_answered_what_they_gave<S: Steps>()
     no_spelling_begins_another();
 }
 
-/// States that a round is a visit of each of its guests, and that visits go on from one round to the
-/// next: their turns stand one behind the other.
+/// States that a round visits each of its guests, and that visits continue from round to round.
+///
+/// The turns of a round follow those of the round before.
 pub fn rounds_are_visits<S: Steps>()
     ensures round { (now at : ℕ) (olds news : List GuestState) (before after : S)
         (old new : GuestState) → GoesRound S.Steps now olds news before after →

@@ -1,4 +1,7 @@
-//! The numbers of links in a row, each of which is found at its place.
+//! The numbers of links in a row, with a map from number to place.
+//!
+//! Waking a guest costs the same at any number of guests. The map's memory is reserved when the
+//! guest is admitted.
 ghost use Rattle.std.specs.Prelude.{◌≡◌, ◌<◌, ◌-◌, ◌++◌, ◌∷◌, ℕ, [], take, swap, length, nat_eq, cond, slice_get, Some, None, IfSome, IsSome, IsTrue, IsFalse};
 ghost use Rattle.std.specs.HashMap.{get};
 
@@ -27,7 +30,7 @@ impl Model for Numbers {
 }
 
 impl Numbers {
-    /// Has no numbers. It takes no memory.
+    /// Makes an empty row. It takes no memory.
     pub fn new(alloc: Global) -> Numbers
         ensures { result ≡ [] }
     {
@@ -37,8 +40,9 @@ impl Numbers {
         }
     }
 
-    /// Puts a number behind the others. Returns whether it did: not if it stands there already, or
-    /// if memory is refused, and then all stay as they were.
+    /// Appends a number, and returns whether it did.
+    ///
+    /// It doesn't if the number is there already, or if memory is refused; then nothing changes.
     pub fn push(&mut self, number: u64) -> bool
         ensures pushed { IsTrue result → self.new ≡ self.old ++ number ∷ [] }
         ensures refused { IsFalse result → self.new ≡ self.old }
@@ -67,7 +71,7 @@ impl Numbers {
         drop_place(&mut self.places, number);
     }
 
-    /// Says which number stands at a place.
+    /// Returns the number at a place.
     pub fn at(&self, at: usize) -> u64
         requires { at < length self.now }
         ensures { slice_get self.now at ≡ Some result }
@@ -75,7 +79,7 @@ impl Numbers {
         self.row[at]
     }
 
-    /// Says where a number stands.
+    /// Returns the place of a number.
     pub fn place_of(&self, number: u64) -> Option<usize>
         ensures some { IfSome result (λ at. slice_get self.now at ≡ Some number) }
         ensures none { (at : ℕ) → slice_get self.now at ≡ Some number → result ≡ Some at }
@@ -98,7 +102,7 @@ impl Numbers {
     }
 }
 
-/// Notes a place for a number, and returns whether there was memory for it.
+/// Adds the place of a number, and returns whether memory was there.
 fn add_place(places: &mut HashMap<u64, usize>, number: u64, at: usize) -> bool
     ensures noted { IsTrue result → (other : ℕ) → get nat_eq places.new other
         ≡ cond (nat_eq number other) (Some at) (get nat_eq places.old other) }
@@ -108,7 +112,7 @@ fn add_place(places: &mut HashMap<u64, usize>, number: u64, at: usize) -> bool
     places.insert(number, at).is_ok()
 }
 
-/// Notes another place for a number that has one.
+/// Changes the place of a number.
 fn set_place(places: &mut HashMap<u64, usize>, number: u64, at: usize)
     requires { IsSome (get nat_eq places.old number) }
     ensures { (other : ℕ) → get nat_eq places.new other
@@ -119,7 +123,7 @@ fn set_place(places: &mut HashMap<u64, usize>, number: u64, at: usize)
     }
 }
 
-/// Notes no place for a number any more.
+/// Removes the place of a number.
 fn drop_place(places: &mut HashMap<u64, usize>, number: u64)
     ensures { (other : ℕ) → get nat_eq places.new other
         ≡ cond (nat_eq number other) None (get nat_eq places.old other) }

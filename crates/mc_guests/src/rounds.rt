@@ -11,8 +11,9 @@ use mc_protocol::Steps;
 use mc_time::Moment;
 use std::alloc::Global;
 
-/// Visits each guest once, first to last, with the store as the one before left it. Those that have
-/// ended stay as they are. What a visit answered is the guest's `last`.
+/// Visits each guest once, first to last, with the store as the one before left it.
+///
+/// Guests that have ended are unchanged. The answer of a visit is the guest's `last`.
 pub fn round<L: Link + Drop, S: Steps>(
     alloc: Global,
     guests: &mut [Guest<L>],
@@ -26,8 +27,9 @@ pub fn round<L: Link + Drop, S: Steps>(
     }
 }
 
-/// Visits each guest once, first to last, but for those that are kept waiting as they want much and the budget
-/// has no room.
+/// Visits each guest once, first to last, within the budget.
+///
+/// A guest that wants much waits if the budget has no room for it.
 pub(crate) fn round_within<L: Link + Drop, S: Steps>(
     alloc: Global,
     guests: &mut [Weighed<L>],

@@ -1,4 +1,7 @@
-//! What a worker asks of its links between two rounds.
+//! A worker's calls of its links between two rounds.
+//!
+//! Links show nothing to contracts, so the calls are noted in `Talk`: the next link, the names, the
+//! rest. That the notes are true is read in three short functions.
 ghost use Rattle.std.specs.Prelude.{◌≡◌, ◌↔◌, ◌<◌, ◌&&◌, ◌==◌, Some, IsTrue};
 ghost use Rattle.mc_guests.specs.Doors.{unasked, came, came_of, heard, WakesAllNamed, ComesNothing};
 ghost use Rattle.mc_guests.specs.declared.talk.Came.TheVariants.{Link as ALink};
@@ -7,7 +10,7 @@ use crate::guests::Guests;
 use crate::link::Link;
 use crate::links::{Links, Next};
 
-/// What links answered when they were asked for the next one.
+/// The answer to the call for the next link.
 #[derive(Clone, Copy, Debug, PartialEq, Eq)]
 pub enum Came {
     Link,
@@ -17,24 +20,24 @@ pub enum Came {
     Closed,
 }
 
-/// What links were asked since the last round, and what they answered.
+/// The calls of links since the last round, and their answers.
 #[derive(Clone, Copy, Debug, PartialEq, Eq)]
 pub struct Talk {
-    /// What came next, if that was asked.
+    /// The next link, if it was called for.
     pub came: Option<Came>,
-    /// How many were named.
+    /// The number of names.
     pub names: usize,
-    /// Which one was named last, and none if there was no further one.
+    /// The last name, or `None` if there was no further one.
     pub named: Option<u64>,
-    /// Whether they were told to rest, as there was nothing to do.
+    /// Whether they rested, as there was nothing to do.
     pub has_rested: bool,
 }
 
-/// How many names are asked for at most between two rounds.
+/// The most names between two rounds.
 const NAMES: usize = 1024;
 
 impl Talk {
-    /// Has asked nothing yet.
+    /// Returns a talk without calls.
     pub(crate) fn new() -> Talk
         ensures { result ≡ unasked }
     {
@@ -46,7 +49,7 @@ impl Talk {
         }
     }
 
-    /// Asks for the next link.
+    /// Gets the next link.
     pub(crate) fn next<L: Link + Drop, Q: Links<L>>(&mut self, links: &mut Q) -> Next<L>
         ensures { self.new ≡ came (came_of result) self.old }
     {
@@ -73,7 +76,7 @@ impl Talk {
         self.came == Some(Came::Link)
     }
 
-    /// Asks for the name of a link that may give or take more.
+    /// Gets the name of a link that may give or take more.
     fn ready<L: Link + Drop, Q: Links<L>>(&mut self, links: &mut Q) -> Option<u64>
         requires { self.old.names < 1024 }
         ensures { self.new ≡ heard result self.old }
@@ -91,7 +94,7 @@ impl Talk {
         }
     }
 
-    /// Wakes the guests whose links are named, 1024 at most.
+    /// Wakes the guests whose links are named, at most 1024.
     pub(crate) fn wake_named<L: Link + Drop, Q: Links<L>>(
         &mut self,
         links: &mut Q,

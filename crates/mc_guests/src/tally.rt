@@ -1,11 +1,11 @@
-//! What hears of the steps that are taken.
+//! Receivers of the steps that are taken.
 
 ghost use Rattle.std.specs.Prelude.{◌≡◌};
 ghost use Rattle.mc_guests.specs.Outcomes.{outcome_of};
 
 use mc_protocol::{KeyStep, Reply};
 
-/// How a step came out: which reply it was answered, without what the reply carries.
+/// The outcome of a step: the kind of its reply, without what the reply carries.
 #[derive(Clone, Copy, Debug, PartialEq, Eq)]
 pub enum Outcome {
     Stored,
@@ -24,7 +24,7 @@ pub enum Outcome {
 }
 
 impl Outcome {
-    /// Tells how a step came out that was answered so.
+    /// Returns the outcome of a step with this reply.
     pub fn of(reply: &Reply) -> Outcome
         ensures { result ≡ outcome_of reply.now }
     {
@@ -46,9 +46,9 @@ impl Outcome {
     }
 }
 
-/// What hears of the steps that are taken.
+/// A receiver of the steps that are taken.
 pub trait Tally {
-    /// Hears of a step that was taken, and of how it came out.
+    /// Gets a step that was taken, with its outcome.
     fn took(&self, step: &KeyStep<'_>, outcome: Outcome);
 }
 

@@ -1,4 +1,4 @@
-//! Taps: links from which sessions are fed.
+//! Links as sources of sessions.
 
 use crate::link::{Got, Link, LinkFault};
 use mc_parse::Source;

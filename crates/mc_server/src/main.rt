@@ -1,19 +1,20 @@
 //! `mcserver`: a cache server that speaks memcached's text protocol.
 //!
-//! What a client is answered is decided and proved in the crates below: the grammar in `mc_parse`, the
-//! protocol's table in `mc_protocol`, the store for many threads in `mc_shared`, the loop of a
+//! The replies to clients are decided and proved in the crates below: the grammar in `mc_parse`,
+//! the protocol's table in `mc_protocol`, the store for many threads in `mc_shared`, the loop of a
 //! worker in `mc_workers`. This crate joins them to a process with sockets and threads. With
-//! `--stdin` it serves one session over standard input and output (`serving.rt`); else it listens
-//! (`listening.rt`).
+//! `--stdin` it serves one session over standard input and output (`serving.rt`); otherwise it
+//! listens (`listening.rt`).
 //!
-//! Connections are accepted, dealt to workers and made links by `mc_sockets`. Metrics and the lines on
-//! standard error are `mc_telemetry`'s. Here is what is made before the first thread starts
-//! (`plan.rt`), the threads (`threads.rt`), and a thread's caller of the store (`client.rt`).
+//! Connections are accepted, dealt to workers and made links by `mc_sockets`. Metrics and the lines
+//! on standard error are in `mc_telemetry`. This crate has what is made before the first thread
+//! starts (`plan.rt`), the threads (`threads.rt`), and a thread's caller of the store
+//! (`client.rt`).
 //!
-//! A socket's bytes and the scheduling of threads are unspecified, so contracts cover the rest: that
-//! `run` does what the options say, and with `--stdin` serves a session of a new world; and that the
-//! status is that of the end. The rest is tested over sockets (tests/sockets), and docs/GAPS.md
-//! says which is which.
+//! A socket's bytes and the scheduling of threads are unspecified, so contracts cover the rest:
+//! that `run` does what the options require, and with `--stdin` serves a session of a new world;
+//! and that the status is that of the end. The rest is tested over sockets (tests/sockets);
+//! docs/GAPS.md lists what isn't proved.
 //!
 //! Begin with `running.rt`, `serving.rt` and `listening.rt`.
 //!
@@ -56,15 +57,17 @@ fn read_options(rt: &HostRuntime) -> Result<Options, End> {
     }
 }
 
-/// Returns the words of the command line, the program's name first, or how the program ends without
-/// them.
+/// Returns the words of the command line, which begin with the program's name.
+///
+/// The error is how the program ends without them.
 fn words(rt: &HostRuntime) -> Result<Vec<String>, End> {
     let words = env::args(rt).map_err(End::of_words)?;
     Ok(words.collect(rt.alloc())?)
 }
 
-/// Prints the text of `clap`: help to standard output, a mistake to standard error. It prints nothing
-/// if memory is refused.
+/// Prints the text of `clap`: help to standard output, a mistake to standard error.
+///
+/// It prints nothing if memory is refused.
 fn print_fault(rt: &HostRuntime, error: &clap::Error) -> io::Result<()> {
     if error.kind() == ErrorKind::OutOfMemory {
         return Ok(());

@@ -1,7 +1,8 @@
-//! Tests of the program's parts: `mc_sockets`, `mc_telemetry`, `mc_host`, and a session over a socket.
+//! Tests of the program's parts: `mc_sockets`, `mc_telemetry`, `mc_host`, and a session over a
+//! socket.
 //!
-//! They ask for what no contract says: which output a client reads, how a session ends that a fault
-//! breaks off, which values a scrape reads, which lines are dropped, and which connections are looked
+//! They check what no contract promises: which output a client reads, how a session ends after a
+//! fault, which values a scrape reads, which lines are dropped, and which connections are looked
 //! at. The program itself is tested by tests/protocol and tests/sockets.
 //!
 //! They are a crate of their own, so that the libraries aren't proved a second time with them, and

@@ -72,7 +72,7 @@ impl Observer {
         Ok(closed)
     }
 
-    /// Returns for how many seconds the server has run, 0 if no clock tells.
+    /// Returns for how many seconds the server has run, or 0 if there is no clock.
     fn uptime<R: Clock>(&self, rt: &R) -> u64 {
         match self.since {
             Some(since) => match since.elapsed(rt) {
