@@ -4,23 +4,23 @@ ghost use Rattle.std.specs.Prelude.{◌≡◌, ◌≤◌, ◌<◌, ◌-◌, IsTr
 ghost use Rattle.mc_guests.specs.Asks.{little};
 ghost use Rattle.mc_guests.specs.Budgets.{may_try};
 
-/// How many bytes a guest may hold, however much others do.
+/// The bytes that a guest may always hold, whatever others hold.
 pub const LITTLE: usize = 131_072;
 
-/// What the guests of a worker hold, and how much they are meant to.
+/// The memory that a worker's guests hold, and its limit.
 #[derive(Drop)]
 pub struct Budget {
-    /// How many bytes they are meant to hold at most.
+    /// The most bytes that they may hold together.
     pub share: usize,
-    /// From how many bytes on it is asked what a turn needs.
+    /// The bytes held from which on a turn's need is checked first.
     pub tight: usize,
-    /// For how many bytes they are counted.
+    /// The bytes for which they are counted.
     pub held: usize,
-    /// How many of those that go on are counted for more than a little.
+    /// The guests that go on and are counted for more than `LITTLE`.
     pub large: usize,
-    /// How many are kept waiting.
+    /// The guests that wait.
     pub waiting: usize,
-    /// Whether memory came back since the last retry.
+    /// Whether memory came back since a guest began to wait in vain.
     pub is_eased: bool,
     /// Whether others wait for the oldest waiting guest.
     pub is_kept: bool,
@@ -35,8 +35,7 @@ pub struct Budget {
 }
 
 impl Budget {
-    /// Makes a budget of guests that are to hold `share` bytes together at most, of which one may want up to
-    /// `greatest` at once. None holds any yet.
+    /// Makes a budget of `share` bytes without guests; a guest may want up to `greatest` at once.
     pub fn new(share: usize, greatest: u64) -> Budget
         ensures { (result.share ≡ share) × (result.held ≡ 0) × (result.large ≡ 0) }
     {
@@ -56,8 +55,9 @@ impl Budget {
         }
     }
 
-    /// Returns whether there is room for one more who wants so many bytes. There is for a little,
-    /// and for one who is alone in wanting more.
+    /// Returns whether there is room for one more guest that wants `wanted` bytes.
+    ///
+    /// There is always room up to `LITTLE`, and always if no other guest holds more than `LITTLE`.
     pub(crate) fn fits(&self, wanted: usize) -> bool
         ensures no { IsFalse result → (little < wanted) × (self.now.share - self.now.held < wanted) }
         ensures over { little < wanted → self.now.share - self.now.held < wanted →
@@ -72,7 +72,7 @@ impl Budget {
         more <= self.share.saturating_sub(taken) || (self.large == 0 && self.promised == 0)
     }
 
-    /// Returns whether it may soon be over.
+    /// Returns whether the budget may soon be used up.
     pub(crate) fn is_tight(&self) -> bool {
         self.waiting > 0 || self.held > self.tight
     }
@@ -82,14 +82,15 @@ impl Budget {
         self.is_kept && self.waiting > 0
     }
 
-    /// Returns whether one that is kept waiting may be tried again.
+    /// Returns whether a waiting guest may be tried again.
     pub(crate) fn may_try(&self) -> bool
         ensures { result ≡ may_try self.now }
     {
         self.is_eased && self.waiting > 0
     }
 
-    /// Returns whether a retry is due, because memory came back or a tick has passed, and begins it.
+    /// Returns whether a retry is due, because memory came back or a tick has passed, and begins
+    /// it.
     pub(crate) fn tries_again(&mut self) -> bool {
         if self.waiting == 0 || (!self.is_eased && self.ticks == self.tried) {
             return false;
@@ -112,7 +113,7 @@ impl Budget {
         self.waiting.min(JUDGED)
     }
 
-    /// Counts a guest no more.
+    /// Uncounts a guest.
     pub(crate) fn take_out(&mut self, counted: usize, goes_on: bool) {
         self.held = self.held.saturating_sub(counted);
         if !goes_on {

@@ -1,4 +1,8 @@
-//! Few large writes in the place of many small ones.
+//! A link that makes few large writes of many small ones.
+//!
+//! Output is gathered up to 64 KiB and sent before the next read, so a batch costs one receive and
+//! one send. A piece of 32 KiB or more is sent from where it lies, in one call with what was
+//! gathered. A connection with unsent output isn't read.
 ghost use Rattle.mc_parse.specs.Queues.{first_piece};
 ghost use Rattle.std.specs.Prelude.{◌≡◌, ◌≤◌, ◌↔◌, ◌-◌, ◌^◌, ◌++◌, [], Ok, IsTrue, IsFalse, true, false};
 ghost use Rattle.mc_guests.specs.Links.{Gives, IsWrite};
@@ -10,19 +14,22 @@ use mc_parse::Queue;
 use std::alloc::Global;
 use std::marker::Model;
 
-/// How many bytes are gathered at most.
+/// The most bytes that are gathered.
 const GATHERED: usize = 65_536;
 
-/// From how many bytes on they aren't gathered, but handed on at once from where they lie, with what was
-/// gathered before. To copy fewer costs less than a call of the system for each answer of a batch.
+/// A text of at least this many bytes isn't gathered, but written at once with what was gathered.
+///
+/// Copying a shorter one costs less than a system call for each answer of a batch.
 const HANDED_ON: usize = 32_768;
 
-/// How many bytes are handed on at once at most beside those, so that others needn't wait for long.
+/// The most bytes of such a text in one write, so that others needn't wait for long.
 const LONGEST: usize = 131_072;
 
-/// A link over a link, for which what is written is gathered: it is handed on before the next read, or
-/// when there is much of it. Contracts see the link below and what is gathered. A fault of the link below
-/// is told, and leaves gathered what that link didn't take.
+/// A link over another, which gathers output.
+///
+/// Output is written before the next read, or when there is much of it. Contracts see the link
+/// below and the gathered bytes. After a fault of the link below, which is returned, the bytes that
+/// it didn't take stay gathered.
 #[derive(Drop)]
 pub struct Gathering<L: Link + Drop> {
     link: L,
@@ -47,7 +54,7 @@ impl<L: Link + Drop> Model for Gathering<L> {
 }
 
 impl<L: Link + Drop> Gathering<L> {
-    /// Gathers for this link, and has nothing yet. It takes no memory.
+    /// Returns a link that gathers for this one. It takes no memory.
     pub fn new(alloc: Global, link: L) -> Gathering<L>
         ensures { result ≡ over (L.shown link) }
     {
@@ -72,8 +79,9 @@ impl<L: Link + Drop> Gathering<L> {
         self.gathered.is_empty()
     }
 
-    /// Hands on what is gathered, as far as the link below takes it. If it took a part it is asked
-    /// once more, and says by its answer that it takes no more.
+    /// Writes the gathered bytes, as far as the link below takes them.
+    ///
+    /// If it took a part it is called once more, and its answer is then that it takes no more.
     pub fn flush(&mut self) -> Result<(), LinkFault>
         ensures flushes { Flushes self.old result self.new }
         ensures asks { (self.new.gathered ≡ [] → ⊥) → self.new.link.was_read ≡ false }
@@ -84,7 +92,7 @@ impl<L: Link + Drop> Gathering<L> {
         }
     }
 
-    /// Asks the link below once to take what is gathered.
+    /// Writes the gathered bytes to the link below once.
     fn hand_on(&mut self) -> Result<(), LinkFault>
         ensures flushes { Flushes self.old result self.new }
         ensures asks { (self.new.gathered ≡ [] → ⊥) → self.new.link.was_read ≡ false }
@@ -102,8 +110,7 @@ impl<L: Link + Drop> Gathering<L> {
         }
     }
 
-    /// Gathers bytes if they are few, and there is room and memory for them. Returns whether it
-    /// did.
+    /// Gathers bytes if they are few, and there is room and memory. Returns whether it did.
     fn gather(&mut self, bytes: &[u8]) -> bool
         ensures yes { IsTrue result →
             self.new ≡ record self.old { gathered = self.old.gathered ++ bytes.now } }
@@ -114,7 +121,7 @@ impl<L: Link + Drop> Gathering<L> {
             && self.gathered.push(bytes).is_ok()
     }
 
-    /// Asks the link below once to take what is gathered and then these bytes.
+    /// Writes the gathered bytes and then these to the link below once.
     fn send(&mut self, bytes: &[u8]) -> Result<Took, LinkFault>
         ensures gathers { Gathers self.old bytes.now result self.new }
         ensures asks { self.new.link.was_read ≡ false }
@@ -137,7 +144,7 @@ impl<L: Link + Drop> Gathering<L> {
         }
     }
 
-    /// Reads from the link below, for which nothing is gathered.
+    /// Reads from the link below, with nothing gathered.
     fn read_below(&mut self, piece: &mut [u8]) -> Result<Got, LinkFault>
         ensures gives { Gives self.old.link piece.new result self.new.link }
         ensures same { self.new.gathered ≡ self.old.gathered }
@@ -151,8 +158,9 @@ impl<L: Link + Drop> Gathering<L> {
         got
     }
 
-    /// Gives back the memory that is kept beyond that of a first piece, if nothing is gathered, and
-    /// counts the bytes that are reserved then.
+    /// Frees memory beyond that of a first piece if nothing is gathered.
+    ///
+    /// Returns the number of reserved bytes afterwards.
     fn rest(&mut self) -> usize
         ensures same { self.new ≡ self.old }
         ensures empty { self.new.gathered ≡ [] → result ≤ first_piece }
@@ -164,7 +172,7 @@ impl<L: Link + Drop> Gathering<L> {
 impl<L: Link + Drop> Link for Gathering<L> {
     ghost shown = { λ g. whole g };
 
-    /// Hands on what is gathered, and then reads.
+    /// Writes the gathered bytes, and then reads.
     fn try_read(&mut self, piece: &mut [u8]) -> Result<Got, LinkFault>
         ensures gives { Gives (whole self.old) piece.new result (whole self.new) }
         ensures full { self.old.link.faults ≡ 2 ^ 64 - 1 → result ≡ Ok Got.Later }
@@ -183,8 +191,9 @@ impl<L: Link + Drop> Link for Gathering<L> {
         }
     }
 
-    /// Gathers the bytes, or hands on what is gathered and then takes a front of them, if the link
-    /// below took all before it.
+    /// Gathers the bytes, or writes the gathered bytes and then a front of these.
+    ///
+    /// The front is written if the link below took all gathered bytes.
     fn try_write(&mut self, bytes: &[u8]) -> Result<Took, LinkFault>
         ensures takes { IsWrite (whole self.old) bytes.now result (whole self.new) }
         ensures full { self.old.link.faults ≡ 2 ^ 64 - 1 → result ≡ Ok Took.Later }
@@ -200,7 +209,7 @@ impl<L: Link + Drop> Link for Gathering<L> {
             return Ok(Took::Bytes(bytes.len()));
         }
         match self.send(bytes) {
-            // if a part was taken, it says by its next answer that it takes no more
+            // if a part was taken, its next answer is that it takes no more
             Ok(Took::Later) => self.send(bytes),
             answer => answer,
         }
@@ -225,7 +234,7 @@ impl<L: Link + Drop> Link for Gathering<L> {
     }
 }
 
-/// Gives the bytes that are handed on at once.
+/// Returns the bytes that are written at once.
 fn front_of(bytes: &[u8]) -> &[u8]
     ensures { IsFront result.now bytes.now }
 {

@@ -1,4 +1,8 @@
 //! Guests: sessions with their links.
+//!
+//! A visit that reads the end of the stream answers `Served` in that visit; a visit of an ended
+//! guest changes nothing, so `visit` has no premise. A guest reads 2048 bytes at first and 16384
+//! once a read filled that, so an idle connection holds little.
 ghost use Rattle.std.specs.Prelude.{◌≡◌, ◌⊎◌, ◌<◌, ◌≤◌, length, IfOk, IfSome, Some, None, [], IsTrue, IsFalse};
 ghost use Rattle.mc_protocol.specs.Commands.{longest_key};
 ghost use Rattle.mc_session.specs.Resting.{resting};
@@ -30,11 +34,11 @@ pub enum Visit {
     Served,
     /// The link failed. The guest has ended.
     Broken,
-    /// Memory ran out. The guest has ended.
+    /// Memory was refused. The guest has ended.
     Refused,
 }
 
-/// How many bytes are read at once at most, once a read filled the first piece.
+/// The most bytes of a read, once a read filled the first piece.
 const LONGEST_PIECE: usize = 16384;
 
 /// A session with its link. Contracts see both, and the answer of the last visit.
@@ -42,7 +46,7 @@ const LONGEST_PIECE: usize = 16384;
 pub struct Guest<L: Link + Drop> {
     session: Session,
     tap: Tap<L>,
-    /// How many bytes are read at once.
+    /// The most bytes of the next read.
     longest: usize,
     /// The bytes that the last read or write moved.
     moved: usize,
@@ -58,8 +62,9 @@ impl<L: Link + Drop> Model for Guest<L> {
 }
 
 impl<L: Link + Drop> Guest<L> {
-    /// Makes a session that was fed nothing, with its link, whose storage commands may charge at most
-    /// `greatest` bytes. It takes no memory, so it isn't refused: the first read asks for some.
+    /// Makes a session with its link, whose storage commands may charge at most `greatest` bytes.
+    ///
+    /// It takes no memory, so it never fails: the first read allocates.
     pub fn new(alloc: Global, link: L, greatest: u64) -> Result<Guest<L>, AllocError>
         ensures { IfOk result (λ guest. guest ≡ welcomed greatest (L.shown link)) }
     {
@@ -72,16 +77,17 @@ impl<L: Link + Drop> Guest<L> {
         })
     }
 
-    /// Says what its last visit answered, and nothing before the first.
+    /// Returns the answer of its last visit, and `None` before the first.
     pub fn last(&self) -> Option<Visit>
         ensures { result ≡ self.now.last }
     {
         self.last
     }
 
-    /// Does the one thing that is due: writes output if there is some, else takes a turn if
-    /// one is due, else reads a piece of at most 16384 bytes, or ends. Of a guest that has ended it
-    /// says what ended it, and does nothing.
+    /// Does the one thing that is due: writes output, else takes a turn, else reads, or ends.
+    ///
+    /// It reads at most 16384 bytes. A guest that has ended does nothing, and answers what ended
+    /// it.
     pub fn visit<S: Steps>(&mut self, alloc: Global, store: &mut S, now: Moment) -> Visit
         ensures { Visited S.Steps now result self.old self.new store.old store.new }
     {
@@ -97,7 +103,7 @@ impl<L: Link + Drop> Guest<L> {
         answer
     }
 
-    /// Counts the bytes of memory that are reserved for its session, and for what its link has still to hand on.
+    /// Returns the bytes reserved for its session, and for output that its link still has.
     pub(crate) fn capacity(&self) -> usize
         ensures unread { length self.now.session.unread.bytes ≤ result }
         ensures out { length self.now.session.out ≤ result }
@@ -106,8 +112,9 @@ impl<L: Link + Drop> Guest<L> {
         self.session.capacity().saturating_add(link)
     }
 
-    /// Gives back the memory that is kept for its session beyond that of two first pieces, if
-    /// nothing is unread and no output waits, and counts the bytes that are reserved for it then.
+    /// Frees memory beyond two first pieces, if there are no unread bytes and no output.
+    ///
+    /// Returns the number of bytes reserved for it afterwards.
     pub fn rest(&mut self) -> usize
         ensures same { self.new ≡ self.old }
         ensures empty { self.new.session.unread.bytes ≡ [] → self.new.session.out ≡ [] →
@@ -116,7 +123,7 @@ impl<L: Link + Drop> Guest<L> {
         self.session.rest()
     }
 
-    /// Drops what is unread and the output, and gives their memory back.
+    /// Drops the unread bytes and the output, and frees their memory.
     pub(crate) fn give_up(&mut self) {
         self.session.close();
         let waiting = self.session.out().len();
@@ -142,16 +149,18 @@ impl<L: Link + Drop> Guest<L> {
         }
     }
 
-    /// Counts the bytes of the unit that is read now, if its line announces a block, whether or not
-    /// they came.
+    /// Returns the length of the first unit in bytes if its line announces a block, else 0.
+    ///
+    /// It counts bytes that haven't arrived too.
     pub(crate) fn unit(&self) -> usize
         ensures { self.now.session.unread.bytes ≡ [] → result ≡ 0 }
     {
         self.session.announced_bytes()
     }
 
-    /// Counts the bytes of the unit whose block is to be read next, whether or not they came; none
-    /// if output is to be written first.
+    /// Returns the length of the unit whose block is read next, or 0 if output is written first.
+    ///
+    /// It counts bytes that haven't arrived too.
     pub(crate) fn announced_bytes(&self) -> usize
         ensures unread { self.now.session.unread.bytes ≡ [] → result ≡ 0 }
         ensures out { (self.now.session.out ≡ [] → ⊥) → result ≡ 0 }
@@ -163,8 +172,9 @@ impl<L: Link + Drop> Guest<L> {
         }
     }
 
-    /// Lends the key of the turn that is next, if that is one of a retrieval; none if output is to
-    /// be written first.
+    /// Lends the key of the next turn, if that is one of a retrieval.
+    ///
+    /// It is `None` if output is written first.
     pub(crate) fn key(&self) -> Option<&[u8]>
         ensures out { (self.now.session.out ≡ [] → ⊥) → result ≡ None }
         ensures short { IfSome result (λ key. length key.now ≤ longest_key) }
@@ -176,7 +186,7 @@ impl<L: Link + Drop> Guest<L> {
         }
     }
 
-    /// Says what ended it.
+    /// Returns what ended it.
     fn ending(&self) -> Option<Visit>
         ensures some { (answer : Visit) → result ≡ Some answer →
             (self.now.last ≡ Some answer) × IsTrue (ends answer) }
@@ -259,7 +269,7 @@ impl<L: Link + Drop> Guest<L> {
         }
     }
 
-    /// Has more bytes read at once if a read gave as many as it might.
+    /// Enlarges the next read if a read was filled.
     fn widen(&mut self, given: usize)
         ensures { self.new ≡ self.old }
     {

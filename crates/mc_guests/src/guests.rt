@@ -1,4 +1,8 @@
 //! The guests of one worker.
+//!
+//! A guest that answered `Later` sleeps; a round visits only awake guests. `Links::ready` names the
+//! link that wakes it, at most 1024 names between two rounds. A skipped visit would have changed
+//! nothing.
 ghost use Rattle.std.specs.Prelude.{◌≡◌, ◌↔◌, ◌<◌, ◌≤◌, length, IsTrue, IsFalse};
 ghost use Rattle.mc_guests.specs.Asks.{MakesRound};
 ghost use Rattle.mc_guests.specs.Guests.{welcomed, has_ended};
@@ -19,27 +23,29 @@ use std::alloc::Global;
 use std::collections::VecDeque;
 use std::marker::Model;
 
-/// How many sessions ended, and how. A count that is full stays there.
+/// How many sessions ended, by reason. A counter stops at its greatest number.
 #[derive(Clone, Copy, Debug, Drop, PartialEq, Eq)]
 pub struct WorkEnd {
     /// At the end of their stream, or closed, with all output written.
     pub served: u64,
-    /// By a fault of their link.
+    /// By a fault of their links.
     pub broken: u64,
     /// By want of memory.
     pub refused: u64,
 }
 
-/// Those that are awake, and behind them those whose last answer was `Later`: they sleep until their
-/// links are named. Contracts see them all, the numbers of their links, and how many are awake.
+/// The awake guests, and behind them the sleeping ones, whose last answer was `Later`.
+///
+/// A sleeping guest wakes when its link is named. Contracts see all guests, the numbers of their
+/// links, and how many are awake.
 #[derive(Drop)]
 pub struct Guests<L: Link + Drop> {
     row: Row<L>,
     awake: usize,
     budget: Budget,
-    /// The numbers of the links whose guests are kept waiting, the oldest first.
+    /// The numbers of the waiting guests' links, oldest first.
     queue: VecDeque<u64>,
-    /// Whether it is the turn of the one that came last.
+    /// Whether the newest one is next.
     is_last: bool,
 }
 
@@ -58,18 +64,18 @@ impl<L: Link + Drop> Model for Guests<L> {
 /// The most waiting guests that one retry looks at.
 const LOOKS: usize = 256;
 
-/// How a guest that is awake goes on.
+/// What an awake guest does next.
 #[derive(Clone, Copy, Debug, PartialEq, Eq)]
 enum Fate {
     GoesOn,
-    /// It is kept waiting from now on.
+    /// It waits from now on.
     Waits,
     Sleeps,
     Ended,
 }
 
 impl<L: Link + Drop> Guests<L> {
-    /// Makes books of no guests, who are to keep within this budget. It takes no memory.
+    /// Makes an empty collection of guests with this budget. It takes no memory.
     pub fn new(alloc: Global, budget: Budget) -> Guests<L>
         ensures { result ≡ no_books (may_try budget) }
     {
@@ -89,16 +95,17 @@ impl<L: Link + Drop> Guests<L> {
         self.row.len() == 0
     }
 
-    /// Returns whether none is awake, and none that is kept waiting may be tried again.
+    /// Returns whether none is awake, and no waiting guest may be tried again.
     pub fn is_quiet(&self) -> bool
         ensures { result ≡ quiet self.now }
     {
         self.awake == 0 && !self.budget.may_try()
     }
 
-    /// Makes a guest of the link with this number, which is awake, and returns whether there was
-    /// memory for it. Without, or if a guest's link has that number already, the link is dropped, and
-    /// all stay as they were.
+    /// Makes an awake guest of the link with this number, and returns whether it did.
+    ///
+    /// If memory is refused, or if a guest's link already has that number, the link is dropped, and
+    /// all guests are unchanged.
     pub fn welcome(&mut self, alloc: Global, link: L, greatest: u64, number: u64) -> bool
         ensures came { IsTrue result →
             self.new ≡ let_in (welcomed greatest (L.shown link)) number self.old }
@@ -125,7 +132,7 @@ impl<L: Link + Drop> Guests<L> {
         self.visit_awake(alloc, store, now);
     }
 
-    /// Visits each that is awake once.
+    /// Visits each awake guest once.
     fn visit_awake<S: Steps>(&mut self, alloc: Global, store: &mut S, now: Moment)
         ensures round { MakesRound S.Steps now store.old store.new }
         ensures visits { VisitsAwake S.Steps now self.old self.new store.old store.new }
@@ -268,7 +275,7 @@ impl<L: Link + Drop> Guests<L> {
         at < self.row.len() && self.row.waits_long(at, self.budget.ticks)
     }
 
-    /// Passes the turn from the oldest to the newest, and back.
+    /// Passes the turn between the oldest and the newest if the guest in turn went on.
     fn pass_turn(&mut self)
         ensures { self.new ≡ self.old }
     {
@@ -300,7 +307,7 @@ impl<L: Link + Drop> Guests<L> {
         at < self.row.len() && self.row.waits(at) == Waits::Queued
     }
 
-    /// Counts those that are kept waiting.
+    /// Returns the number of waiting guests.
     pub fn waiting_guests(&self) -> usize {
         self.budget.waiting
     }
@@ -312,16 +319,17 @@ impl<L: Link + Drop> Guests<L> {
         self.budget.takes_turn_to_judge()
     }
 
-    /// Judges the slowest of the guests that hold more than 128 KiB, if it is slow: it moved nothing
-    /// for 5 s, or less than 64 KiB/s for at least 5 s. All guests are looked at.
+    /// Judges the slowest of the guests that hold more than 128 KiB, if it is slow: it moved
+    /// nothing for 5 s, or less than 64 KiB/s for at least 5 s. All guests are looked at.
     pub fn judge_slowest(&mut self) -> Option<Judged>
         ensures { self.new ≡ self.old }
     {
         self.row.judge_slowest(self.budget.ticks)
     }
 
-    /// Lets go of those that have ended, which are counted, and lets those sleep that answered
-    /// `Later`. The last comes first: if all behind a guest fall asleep too, none is moved.
+    /// Drops and counts the guests that have ended, and puts those that answered `Later` to sleep.
+    ///
+    /// The last comes first: if all behind a guest fall asleep too, none is moved.
     pub fn settle(&mut self, end: &mut WorkEnd)
         ensures { SettlesFrom 0 self.old self.new end.old end.new }
     {
@@ -330,7 +338,7 @@ impl<L: Link + Drop> Guests<L> {
         }
     }
 
-    /// Settles one that is awake.
+    /// Settles an awake guest.
     fn settle_at(&mut self, at: usize, end: &mut WorkEnd)
         requires { at < self.old.awake }
         ensures { Settles at self.old self.new end.old end.new }
@@ -343,7 +351,7 @@ impl<L: Link + Drop> Guests<L> {
         }
     }
 
-    /// Says how one that is awake goes on. An ending is counted.
+    /// Returns what an awake guest does next. An end is counted.
     fn fate_at(&self, at: usize, end: &mut WorkEnd) -> Fate
         requires { at < self.now.awake }
         ensures { IsFateOf at self.now.row result end.old end.new }
@@ -354,7 +362,7 @@ impl<L: Link + Drop> Guests<L> {
         }
     }
 
-    /// Lets one sleep that is kept waiting, behind the others. Without memory it stays awake.
+    /// Puts a waiting guest to sleep behind the others. If memory is refused it stays awake.
     fn line_up(&mut self, at: usize)
         requires { at < self.old.awake }
         ensures { StaysOrSleeps at self.old self.new }
@@ -366,7 +374,9 @@ impl<L: Link + Drop> Guests<L> {
         }
     }
 
-    /// Wakes the guest whose link has this number, if it sleeps. That costs the same however many sleep.
+    /// Wakes the guest whose link has this number, if it sleeps.
+    ///
+    /// The cost doesn't grow with the number of sleeping guests.
     pub fn wake(&mut self, number: u64)
         ensures { Wakes number self.old self.new }
     {
@@ -398,7 +408,7 @@ impl<L: Link + Drop> Guests<L> {
         self.awake = last;
     }
 
-    /// Lets go of a guest.
+    /// Drops a guest.
     fn let_go(&mut self, at: usize)
         requires { at < self.old.awake }
         ensures { LetsGo at self.old self.new }
@@ -412,7 +422,7 @@ impl<L: Link + Drop> Guests<L> {
     }
 }
 
-/// Says how a guest goes on by its last answer. An ending is counted.
+/// Returns what a guest does next after its last answer. An end is counted.
 fn fate_of(last: Option<Visit>, end: &mut WorkEnd) -> Fate
     ensures over { is_over result ≡ has_ended last }
     ensures counts { end.new ≡ counted last end.old }
@@ -435,8 +445,9 @@ fn fate_of(last: Option<Visit>, end: &mut WorkEnd) -> Fate
     }
 }
 
-/// Says how a guest goes on that hasn't ended: it lines up if it is kept waiting from now on, and
-/// sleeps if it stands in the queue.
+/// Returns what a guest that hasn't ended does next.
+///
+/// It is put into the queue if it waits from now on, and sleeps if it is in the queue.
 fn fate_in_line(waits: Waits, fate: Fate) -> Fate
     requires { IsFalse (is_over fate) }
     ensures { IsFalse (is_over result) }

@@ -1,24 +1,26 @@
 //! Guests: sessions with their links, and rounds over them.
 //!
-//! A server has thousands of connections and a few threads. Each thread goes round its connections
-//! and does for each the one thing that is due, so that none waits for another's whole request, and
-//! no call on a connection waits. Sockets stay outside: connections are known as links, so that
-//! tests give links in memory, whose bytes can be compared. Stores stay outside, too: a guest takes
-//! its steps of whatever has `Steps`, so that this crate stands on no store.
+//! A server has thousands of connections and a few threads. Each thread visits its connections in
+//! rounds, and does what is due for each, so that none waits for another's whole request, and no
+//! call on a connection blocks. Sockets are outside: connections are links, so that tests use links
+//! in memory, whose bytes can be compared. Stores are outside too: a guest takes its steps on any
+//! `Steps`, so this crate needs no store.
 //!
-//! A [`Link`] gives and takes bytes, or says `Later`; [`Links`] are where they come from, and say
-//! which of those that had nothing are ready. A [`Guest`] is a session with its link. A visit of it
-//! writes output if there is some, else takes a turn if one is due, else reads; [`round`] visits
-//! each once. [`Guests`] are those of one thread: who answered `Later` sleeps until the link is
-//! named, and who wants much memory waits when others hold what their [`Budget`] has. They come
-//! through a [`Door`], which asks for links between two rounds. A [`Tally`] may hear of each step.
-//! [`Gathering`] is a link that makes one large write of many small ones.
+//! A [`Link`] gives and takes bytes, or answers `Later`. [`Links`] return new links, and name those
+//! that are ready again. A [`Guest`] is a session with its link. A visit writes output, else takes
+//! a turn, else reads; [`round`] visits each guest once. [`Guests`] are those of one thread: a
+//! guest that answered `Later` sleeps until its link is named, and a guest that wants much memory
+//! waits while others use up their [`Budget`]. Guests come through a [`Door`], which gets links
+//! between two rounds. A [`Tally`] gets each step. [`Gathering`] is a link that makes one large
+//! write of many small ones.
 //!
-//! Contracts see the bytes that a link gave and took, if anybody can know them, and tell a round
-//! visit by visit: who was visited, who went, who came. The laws join visits to streams: what a link
-//! took is the texts of the turns of what it gave.
+//! Contracts see the bytes that a link gave and took, unless they are unspecified, and describe a
+//! round visit by visit: which guests were visited, ended and came. By the laws, what a link took
+//! is the texts of the turns of what it gave.
 //!
 //! Begin with `specs/Visits.antt`, `src/guest.rt` and `src/guests.rt`.
+//!
+//! Tests: mc_session_tests, src/visit_tests.rt.
 #![tactic(auto)]
 
 mod budget;

@@ -1,6 +1,6 @@
-//! Where links come from.
+//! The source of links.
 
-/// What came next of links.
+/// The next link.
 #[derive(Drop)]
 pub enum Next<L> {
     Link(L),
@@ -10,20 +10,24 @@ pub enum Next<L> {
     Closed,
 }
 
-/// Where links come from. The links that `next` gave are numbered in their order, from 0.
+/// The source of links. The links that `next` returns are numbered in order, from 0.
 pub trait Links<L> {
-    /// Gives the next link, if one came. It doesn't wait. It is asked once between two rounds, and
-    /// once more behind each link that it gives, until 32 came.
+    /// Returns the next link, if there is one. It never waits.
+    ///
+    /// It is called once between two rounds, and once more after each link that it returns, until
+    /// 32 came.
     fn next(&mut self) -> Next<L>;
 
-    /// Names a link that may give or take more, and none when there is no further one. It doesn't
-    /// wait. A link that answered `Later` isn't asked again until it is named.
+    /// Names a link that may give or take more, or returns `None`. It never waits.
+    ///
+    /// A link that answered `Later` isn't called again until it is named.
     fn ready(&mut self) -> Option<u64>;
 
-    /// Passes some time if there is nothing to do.
+    /// Waits for some time if there is nothing to do.
     fn rest(&mut self);
 
-    /// Closes the link of a slow guest to make room for others, and names it. Does nothing by default.
+    /// Closes the link of a slow guest to make room for others, and names it. Does nothing by
+    /// default.
     fn end(&mut self, _number: u64) {}
 
     /// Returns the time in ticks of 0.25 s, by a clock that never goes back. A pause of the process

@@ -1,4 +1,4 @@
-//! How long a block is, before it is told.
+//! The length of a block before it is delivered.
 ghost use Rattle.std.specs.Prelude.{◌≤◌, length};
 ghost use Rattle.mc_protocol.specs.Commands.{longest_key};
 ghost use Rattle.mc_guests.specs.Asks.{MayAsk};
@@ -8,7 +8,7 @@ use mc_time::Moment;
 use std::alloc::{AllocError, Global};
 use std::cell::Cell;
 
-/// Notes how long a block is that is to be told, and takes no reply.
+/// Notes the length of a block that would be delivered, and accepts no reply.
 #[derive(Drop)]
 struct Measure<'a> {
     length: &'a Cell<usize>,
@@ -30,7 +30,7 @@ impl<'a> Answer for Measure<'a> {
     }
 }
 
-/// Counts the bytes of parts together.
+/// Returns the number of bytes of parts.
 fn length_of(parts: &[Bytes<'_>]) -> usize {
     let mut counted = 0usize;
     for part in parts {
@@ -39,8 +39,9 @@ fn length_of(parts: &[Bytes<'_>]) -> usize {
     counted
 }
 
-/// Asks how long the block is that a get of this key would tell at this moment. A hit that could be told where
-/// it lies isn't taken for that.
+/// Returns the length of the block that a get of this key would deliver at this moment.
+///
+/// A hit whose block could be delivered in place isn't taken for that.
 pub fn block_length<S: Steps>(alloc: Global, store: &mut S, key: &[u8], now: Moment) -> usize
     requires { length key.now ≤ longest_key }
     ensures { MayAsk S.Steps now store.old store.new }

@@ -1,4 +1,7 @@
-//! Guests in a row, each of which is found by the number of its link.
+//! Guests in a row, found by the numbers of their links.
+//!
+//! Contracts show guests as lists (`BooksState`): guests in a row, the number of each one's link,
+//! and how many are awake, the first ones. So a contract names which guest wakes, sleeps and ends.
 ghost use Rattle.std.specs.Prelude.{◌≡◌, ◌<◌, ◌≤◌, ◌-◌, ◌++◌, ◌∷◌, ℕ, [], take, drop, length, Some, IfSome, IsTrue, IsFalse, false};
 ghost use Rattle.mc_guests.specs.Asks.{MakesRound};
 ghost use Rattle.mc_guests.specs.Turns.{HaveTurns};
@@ -15,7 +18,7 @@ use mc_time::Moment;
 use std::alloc::Global;
 use std::marker::Model;
 
-/// Guests in a row. Contracts see them, and beside each the number of its link.
+/// Guests in a row. Contracts see them, and the number of each one's link.
 #[derive(Drop)]
 pub struct Row<L: Link + Drop> {
     guests: Vec<Weighed<L>>,
@@ -35,7 +38,7 @@ impl<L: Link + Drop> Model for Row<L> {
 }
 
 impl<L: Link + Drop> Row<L> {
-    /// Has no guests. It takes no memory.
+    /// Makes an empty row. It takes no memory.
     pub fn new(alloc: Global) -> Row<L>
         ensures { result ≡ nobody }
     {
@@ -45,15 +48,16 @@ impl<L: Link + Drop> Row<L> {
         }
     }
 
-    /// Counts the guests.
+    /// Returns the number of guests.
     pub fn len(&self) -> usize
         ensures { result ≡ length self.now.guests }
     {
         self.guests.len()
     }
 
-    /// Puts a guest behind the others, whose link has this number, and returns whether there was
-    /// memory for it. Without, or if a guest's link has that number already, the guest is dropped.
+    /// Appends a guest whose link has this number, and returns whether it did.
+    ///
+    /// If memory is refused, or if a guest's link already has that number, the guest is dropped.
     pub fn push(&mut self, guest: Guest<L>, number: u64) -> bool
         ensures pushed { IsTrue result → self.new ≡ joined guest number self.old }
         ensures refused { IsFalse result → self.new ≡ self.old }
@@ -68,7 +72,7 @@ impl<L: Link + Drop> Row<L> {
         false
     }
 
-    /// Drops the last guest, which is counted no more.
+    /// Drops the last guest, which is no longer counted.
     pub fn pop(&mut self, budget: &mut Budget)
         requires { 0 < length self.old.guests }
         ensures { self.new ≡ cut (length self.old.guests - 1) self.old }
@@ -80,7 +84,7 @@ impl<L: Link + Drop> Row<L> {
         self.numbers.pop();
     }
 
-    /// Says what a guest's last visit answered.
+    /// Returns the answer of a guest's last visit.
     pub fn last(&self, at: usize) -> Option<Visit>
         requires { at < length self.now.guests }
         ensures { IsLastAt at self.now result }
@@ -88,14 +92,14 @@ impl<L: Link + Drop> Row<L> {
         self.guests[at].last()
     }
 
-    /// Returns whether a guest is kept waiting until there is room, and how it waits.
+    /// Returns whether and how a guest waits for room.
     pub fn waits(&self, at: usize) -> Waits
         requires { at < length self.now.guests }
     {
         self.guests[at].waits()
     }
 
-    /// Notes that a guest stands in the queue of those that are kept waiting, or that it is its turn there.
+    /// Notes that a guest is in the queue of waiting guests, or that it is tried again.
     pub fn set_waits(&mut self, at: usize, waits: Waits)
         ensures { self.new ≡ self.old }
     {
@@ -104,7 +108,7 @@ impl<L: Link + Drop> Row<L> {
         }
     }
 
-    /// Says which number the link of a guest has.
+    /// Returns the number of a guest's link.
     pub fn number_of(&self, at: usize) -> u64
         requires { at < length self.now.guests }
         ensures { HasNumber self.now at result }
@@ -152,7 +156,7 @@ impl<L: Link + Drop> Row<L> {
         found
     }
 
-    /// Says where the guest stands whose link has this number.
+    /// Returns the place of the guest whose link has this number.
     pub fn place_of(&self, number: u64) -> Option<usize>
         ensures some { IfSome result (λ at. HasNumber self.now at number) }
         ensures within { IfSome result (λ at. at < length self.now.guests) }
@@ -161,7 +165,7 @@ impl<L: Link + Drop> Row<L> {
         self.numbers.place_of(number)
     }
 
-    /// Visits each of the first `count` once, within the budget.
+    /// Visits each of the first `count` guests once, within the budget.
     pub fn visit_front<S: Steps>(
         &mut self,
         alloc: Global,
@@ -182,7 +186,7 @@ impl<L: Link + Drop> Row<L> {
         round_within(alloc, front, store, now, budget);
     }
 
-    /// Swaps two guests. It does nothing if they are one.
+    /// Swaps two guests, and does nothing if they are the same.
     pub fn swap(&mut self, one: usize, other: usize)
         requires one { one < length self.old.guests }
         requires other { other < length self.old.guests }
@@ -196,7 +200,7 @@ impl<L: Link + Drop> Row<L> {
     }
 }
 
-/// Puts a guest that holds nothing behind others, and returns whether there was memory for it.
+/// Appends a guest that holds nothing, and returns whether memory was there.
 fn push_behind<L: Link + Drop>(guests: &mut Vec<Weighed<L>>, guest: Guest<L>) -> bool
     ensures pushed { IsTrue result → guests.new.items ≡ guests.old.items ++ guest ∷ [] }
     ensures refused { IsFalse result → guests.new.items ≡ guests.old.items }
@@ -204,7 +208,7 @@ fn push_behind<L: Link + Drop>(guests: &mut Vec<Weighed<L>>, guest: Guest<L>) ->
     guests.push(Weighed::new(guest)).is_ok()
 }
 
-/// Lets go of a guest who doesn't come to stand in the row, and returns false.
+/// Drops a guest that isn't put into the row, and returns false.
 fn turned_away<L: Link + Drop>(_guest: Guest<L>) -> bool
     ensures { result ≡ false }
 {

@@ -1,4 +1,10 @@
-//! Guests with what they hold, which are kept waiting if they want much and there is no room.
+//! Guests with the memory that they hold.
+//!
+//! A guest that needs more than 128 KiB waits if its worker's share of `--buffer-limit` is used up;
+//! its state doesn't change. A block is counted whole when it is admitted, so an admitted guest
+//! never stops half way. Waiting guests are retried after memory came back, the oldest and the
+//! newest in turn: with the oldest only, a thousand half-sent blocks delayed everyone else for
+//! minutes.
 ghost use Rattle.std.specs.Prelude.{◌≡◌, ◌≤◌, length, IfSome, None};
 ghost use Rattle.mc_protocol.specs.Commands.{longest_key};
 ghost use Rattle.mc_guests.specs.Asks.{AsksAndVisits, IsKeptWaiting, MayAsk};
@@ -22,24 +28,24 @@ const BEGUN: usize = 32_768;
 /// The ticks after which others wait for a waiting guest.
 const LONG: u64 = 8;
 
-/// A guest, and what is known of the memory that it holds. Contracts see what they see of the guest.
+/// A guest, and the memory that it holds. Contracts see what they see of the guest.
 #[derive(Drop)]
 pub struct Weighed<L: Link + Drop> {
     guest: Guest<L>,
-    /// For how many bytes it is counted.
+    /// The bytes for which it is counted.
     counted: usize,
-    /// How many bytes the unit has that it reads, if its line announces a block.
+    /// The length of the unit that it reads, if its line announces a block.
     unit: usize,
-    /// Whether it is let have all of the block that it reads.
+    /// Whether it was admitted for the whole block that it reads.
     has_leave: bool,
     waits: Waits,
-    /// The bytes that it wanted when it was kept waiting.
+    /// The bytes that it wanted when it began to wait.
     wanted: usize,
     /// The pace of its link since it holds more than a little, or waits.
     pace: Pace,
 }
 
-/// Whether a guest is kept waiting until there is room.
+/// Whether and how a guest waits for room.
 #[derive(Clone, Copy, Debug, PartialEq, Eq)]
 pub enum Waits {
     No,
@@ -69,7 +75,7 @@ impl<L: Link + Drop> Model for Weighed<L> {
 }
 
 impl<L: Link + Drop> Weighed<L> {
-    /// Takes a guest that holds nothing.
+    /// Returns a guest that holds nothing.
     pub fn new(guest: Guest<L>) -> Weighed<L>
         ensures { result ≡ guest }
     {
@@ -84,19 +90,19 @@ impl<L: Link + Drop> Weighed<L> {
         }
     }
 
-    /// Returns what its last visit answered, and nothing before the first.
+    /// Returns the answer of its last visit, and `None` before the first.
     pub fn last(&self) -> Option<Visit>
         ensures { result ≡ self.now.last }
     {
         self.guest.last()
     }
 
-    /// Returns whether it is kept waiting until there is room, and how it waits.
+    /// Returns whether and how it waits for room.
     pub fn waits(&self) -> Waits {
         self.waits
     }
 
-    /// Notes that it stands in the queue of those that are kept waiting, or that it is tried again.
+    /// Notes that it is in the queue of waiting guests, or that it is tried again.
     pub fn set_waits(&mut self, waits: Waits)
         ensures { self.new ≡ self.old }
     {
@@ -135,15 +141,16 @@ impl<L: Link + Drop> Weighed<L> {
         }
     }
 
-    /// Gives back what it holds, and counts it no more.
+    /// Frees what it holds, and uncounts it.
     pub fn leave(&mut self, budget: &mut Budget) {
         self.guest.give_up();
         budget.take_out(self.counted, self.waits == Waits::No);
         budget.is_eased = true;
     }
 
-    /// Visits the guest. Returns nothing if it wants more than a little and there is no room: it is
-    /// kept waiting and stays as it was, or has ended if its link failed or is to end.
+    /// Visits the guest. Returns `None` if it wants more than `LITTLE` and there is no room.
+    ///
+    /// Then it waits and is unchanged, or has ended if its link failed or is to end.
     pub fn visit<S: Steps>(
         &mut self,
         alloc: Global,
@@ -166,7 +173,7 @@ impl<L: Link + Drop> Weighed<L> {
         Some(answer)
     }
 
-    /// Returns whether it may go on, wanting so many bytes; else it is kept waiting.
+    /// Returns whether it may go on with `wanted` bytes; otherwise it waits.
     #[inline]
     fn may_go_on(&mut self, wanted: usize, budget: &mut Budget) -> bool
         ensures { self.new ≡ self.old }
@@ -178,8 +185,7 @@ impl<L: Link + Drop> Weighed<L> {
         self.finds_room(wanted, budget)
     }
 
-    /// Returns whether there is room for it to go on, wanting so many bytes; else it is kept
-    /// waiting.
+    /// Returns whether there is room for it to go on with `wanted` bytes; otherwise it waits.
     #[inline(never)]
     fn finds_room(&mut self, wanted: usize, budget: &mut Budget) -> bool
         ensures { self.new ≡ self.old }
@@ -224,8 +230,10 @@ impl<L: Link + Drop> Weighed<L> {
         }
     }
 
-    /// Returns whether it may go on, wanting so many bytes: a little, or what it had leave for, or
-    /// what fits, if nobody waits for long.
+    /// Returns whether it may go on with `wanted` bytes.
+    ///
+    /// It may with at most `LITTLE`, with what it was admitted for, or with what fits, unless it
+    /// has to wait for others.
     fn has_room(&self, wanted: usize, budget: &Budget) -> bool {
         let is_open = self.waits == Waits::Next || !budget.is_kept_for_one();
         wanted <= LITTLE
@@ -233,7 +241,7 @@ impl<L: Link + Drop> Weighed<L> {
             || (is_open && budget.fits(wanted))
     }
 
-    /// Keeps it waiting, as it wants so many bytes.
+    /// Makes it wait for `wanted` bytes.
     fn keep(&mut self, wanted: usize, budget: &mut Budget)
         ensures { self.new ≡ self.old }
     {
@@ -252,15 +260,14 @@ impl<L: Link + Drop> Weighed<L> {
         budget.put_in(self.counted, false);
     }
 
-    /// Counts it for what it holds after a visit that answered so, and for all of a block that it has leave to
-    /// read.
+    /// Counts it for what it holds after a visit with this answer, and for an admitted block.
     fn weigh(&mut self, answer: Visit, budget: &mut Budget)
         ensures { self.new ≡ self.old }
     {
         match answer {
             Visit::Wrote => {
                 self.pace.moves(self.guest.moved_bytes(), budget.ticks);
-                // of one who holds little it is seen behind a later visit that it holds less
+                // a guest that holds little is counted for less only after a later visit
                 if self.counted <= LITTLE {
                     return;
                 }
@@ -289,7 +296,7 @@ impl<L: Link + Drop> Weighed<L> {
         }
     }
 
-    /// Counts it for so many bytes from now on.
+    /// Counts it for this many bytes from now on.
     #[inline(never)]
     fn recount(&mut self, counted: usize, budget: &mut Budget)
         ensures { self.new ≡ self.old }

@@ -1,4 +1,4 @@
-//! Where scrapes come in.
+//! The listener for scrapes.
 ghost use Rattle.std.specs.Prelude.{◌≡◌, IfErr};
 ghost use Rattle.mc_host.specs.Ends.{EndsWithoutDoor};
 
@@ -11,7 +11,7 @@ use std::net::{Net, SocketAddr};
 use std::time::{Clock, Duration};
 use std::{io, thread};
 
-/// How long it waits if the system can't tell of connections, in milliseconds.
+/// The pause if the system can't report connections, in milliseconds.
 const PAUSE: u64 = 10;
 
 /// A listener for scrapes, and a poll of it and of its connections.
@@ -22,8 +22,9 @@ pub struct Door {
     events: Events,
 }
 
-/// Listens at the place that is asked for; nowhere if none is. The program ends if it can't, or
-/// memory runs out.
+/// Listens for scrapes at an endpoint, if one is given.
+///
+/// The error ends the program: it can't listen there, or memory is refused.
 pub fn open_door<R: Net>(
     rt: &R,
     alloc: Global,
@@ -66,8 +67,8 @@ impl Door {
         }
     }
 
-    /// Accepts a connection, and returns it with its peer. Its calls don't block, and what becomes of
-    /// it ends a wait.
+    /// Accepts a connection, and returns it with its peer. Its calls don't block, and what becomes
+    /// of it ends a wait.
     pub fn accept(&self) -> io::Result<(TcpStream, SocketAddr)> {
         let (stream, peer) = self.listener.accept()?;
         let mut stream = stream;

@@ -1,21 +1,21 @@
-//! What is counted, and how whoever asks over HTTP is told of it.
+//! The metrics page, its counters, and the requests for it over HTTP.
 //!
-//! Who runs a server wants to see what it does, and Prometheus is how that is mostly asked: a
-//! request `GET /metrics` over HTTP/1.1, and a page of numbers in its text format 0.0.4
-//! (prometheus.io/docs/instrumenting/exposition_formats). This crate has the numbers, the page and
-//! the requests, and knows no store and no worker, so it is proved beside them, and stands on
-//! little.
+//! An operator watches a server mostly by Prometheus: a request `GET /metrics` over HTTP/1.1, and a
+//! page of numbers in its text format 0.0.4 (prometheus.io/docs/instrumenting/exposition_formats).
+//! This crate has the numbers, the page and the requests, and knows no store and no worker, so it
+//! is proved beside them, and needs few crates.
 //!
-//! [`Counts`] are what one worker counts, each thing a [`Counted`]: it alone writes there, so that
-//! counting is one addition. A [`Reading`] is what was read for one page, and a [`Family`] a name
-//! with the figures that are told under it; [`page_of`] makes the page of both. [`read_request`]
-//! says how a request is answered ([`Answer`]), and [`response`] makes the text. A peer of the same
-//! machine may be let end the server by `POST /quit` ([`QuitAccess`]).
+//! [`Counts`] are the counters of one worker, each a [`Counted`]: only the worker writes them, so
+//! counting is one addition. A [`Reading`] has the values for one page, and a [`Family`] is a name
+//! with its samples; [`page_of`] makes the page of both. [`request_of`] reads a request of a
+//! connection within a limit of time and of bytes, [`read_request`] returns its answer
+//! ([`Answer`]), [`response`] makes the text, and [`send`] sends it. A peer on the same machine may
+//! be allowed to end the server by `POST /quit` ([`QuitAccess`]).
 //!
-//! Contracts say that an answer is a function of the method and the target of the request's head,
+//! Contracts state that an answer is a function of the method and the target of the request's head,
 //! as the grammar of HTTP/1.1 (`httparse`) reads it; that the page is a function of the families
-//! and of what was read; and that sums stop at 2^64 - 1. That counters have counted what happened
-//! no contract can say, since threads share them: tests over sockets do.
+//! and of the reading; and that sums stop at 2^64 - 1. No contract states that counters have
+//! counted what happened, since threads share them: tests over sockets check that.
 //!
 //! Begin with `specs/Pages.antt`, `src/page.rt` and `src/reading.rt`; then `specs/Scrapes.antt` and
 //! `src/request.rt`.

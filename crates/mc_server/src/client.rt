@@ -1,7 +1,7 @@
 //! A caller with its store.
 //!
-//! A thread's caller and its store are one value whose invariant ties them, so closures and loops that
-//! pass callers on need no clauses.
+//! A thread's caller and its store are one value whose invariant ties them, so closures and loops
+//! that pass callers on need no clauses.
 ghost use Rattle.std.specs.Prelude.{◌≡◌};
 
 use mc_guests::Tally;

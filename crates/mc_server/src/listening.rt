@@ -1,8 +1,8 @@
 //! Listens, and serves connections until the server ends.
 //!
 //! Each listener has a thread that accepts. Shutting a listener's socket down ends its wait, so no
-//! thread polls. One descriptor is kept spare: it is freed to accept and close a connection when the
-//! system has none left.
+//! thread polls. One descriptor is kept spare: it is freed to accept and close a connection when
+//! the system has none left.
 ghost use Rattle.std.specs.Prelude.{◌≡◌};
 ghost use Rattle.mc_host.specs.Ends.{EndsListening};
 
@@ -26,9 +26,10 @@ use std::time;
 /// The size of an allocation that the C library requests from the system by itself, in bytes.
 const LARGE: usize = 5_242_880;
 
-/// Listens at the endpoints of the options and serves connections by the clock that is asked for,
-/// until a listener fails or the server is asked to end. It answers scrapes if they are asked for. It
-/// ends at once if it can't listen at an endpoint, or memory is refused.
+/// Listens at the options' endpoints, and serves until a listener fails or it is asked to end.
+///
+/// It uses the clock of the options, and answers scrapes if that is an option. It ends at once if
+/// it can't listen at an endpoint, or memory is refused.
 pub fn listen<R, S>(rt: &R, stderr: Stderr, options: Options, clock: &AskedClock<S>) -> End
 where
     R: Net + Files + AllocGlobal + Wait + Threads + time::Clock + Sync,

@@ -78,8 +78,8 @@ struct Workers {
     counts: Vec<Arc<Counts>>,
 }
 
-/// Returns the plan of a server at these sockets, and what its threads borrow. It fails if memory is
-/// refused, or a descriptor.
+/// Returns the plan of a server at these sockets, and what its threads borrow. It fails if memory
+/// is refused, or a descriptor.
 pub fn make_plan<'a, R: Net + Files + AllocGlobal + Clock>(
     rt: &R,
     stderr: Stderr,

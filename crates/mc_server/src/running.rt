@@ -17,10 +17,11 @@ use std::sync::Wait;
 use std::thread::Threads;
 use std::time;
 
-/// Does what the command line asks for: with `--stdin` it serves one session over the reader and
-/// the writer, by the clock that is asked for; without, it listens at the endpoints by that clock,
-/// answers scrapes if that is asked for, and ends if it may be asked to and is, and neither reads
-/// nor writes here.
+/// Runs the program by its options.
+///
+/// With `--stdin` it serves one session over the reader and the writer, by the options' clock.
+/// Without, it listens at the endpoints by that clock, answers scrapes if that is an option, and
+/// ends if it is asked to and may be; it neither reads nor writes here.
 pub fn run<H, R, W>(rt: &H, stderr: Stderr, options: Options, reader: &mut R, writer: &mut W) -> End
 where
     H: Net + Files + AllocGlobal + Wait + Threads + time::Clock + Sync,

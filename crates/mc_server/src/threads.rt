@@ -1,9 +1,9 @@
 //! The threads of the server.
 //!
-//! Each listener has a thread that accepts: the first listener the program's own thread. Each worker
-//! has one, one writes to standard error, and one answers scrapes if that is asked for. The metrics
-//! server and the logger read the store by clients of their own. If one thread can't be started, the
-//! server ends, and those that run end with it.
+//! Each listener has a thread that accepts: the first listener the program's own thread. Each
+//! worker has one, one writes to standard error, and one answers scrapes if that is asked for. The
+//! metrics server and the logger read the store by clients of their own. If one thread can't be
+//! started, the server ends, and those that run end with it.
 
 use crate::client::StoreClient;
 use crate::plan::{Common, ServerPlan, ThreadPlan, WorkerPlan};

@@ -1,5 +1,6 @@
-//! Guests that want much, within a budget and over it. What a budget counts is seen by who is kept
-//! waiting.
+//! Guests that want much memory, within a budget and over it.
+//!
+//! The tests see what a budget counts by the guests that wait.
 
 use crate::counting::Counting;
 use mc_guests::{Budget, Got, Guests, Link, LinkFault, Took, WorkEnd};
@@ -13,13 +14,14 @@ use std::test::*;
 /// The greatest charge that a line may announce.
 const GREATEST: u64 = 16_777_216;
 
-/// More rounds than guests are awake in.
+/// More rounds than any guest is awake in.
 const ROUNDS: u64 = 1000;
 
-/// How many bytes come of a block: so many that all of its room is asked for.
+/// The bytes of a block that arrive: enough that room for all of it is wanted.
 const BEGUN: usize = 40_000;
 
-// Lines that announce a block: each is so many bytes with its block, of which at most the first bytes come.
+// Lines that announce a block, named by their length with the block. At most its first bytes
+// arrive.
 
 const OF_131072: &[u8] = b"set b 0 0 131052\r\n";
 
@@ -37,12 +39,13 @@ const OF_1200000: &[u8] = b"set b 0 0 1199979\r\n";
 
 const OF_9000000: &[u8] = b"set b 0 0 8999979\r\n";
 
-/// A link that gives its input as fast as it is read, and takes all output. When it is over it gives its end.
-/// Nobody knows which bytes.
+/// A link that gives its input as fast as it is read, and takes all output.
+///
+/// When it is over it gives its end. Contracts don't see its bytes.
 #[derive(Drop)]
 struct Quick<'a> {
     input: &'a [u8],
-    /// How many bytes it gives behind these.
+    /// The bytes that it gives after these.
     more: usize,
     is_over: &'a Cell<bool>,
     is_ended: bool,
@@ -86,7 +89,7 @@ impl<'a> Link for Quick<'a> {
     }
 }
 
-/// Makes a store with an item `a` of so many bytes.
+/// Returns a store with an item `a` of this length.
 fn store_with(alloc: Global, length: usize) -> Result<Counting, Fail> {
     let mut store = Counting::new(alloc, false)?;
     let block = filled_block(alloc, length)?;
@@ -96,14 +99,14 @@ fn store_with(alloc: Global, length: usize) -> Result<Counting, Fail> {
     Ok(store)
 }
 
-/// Guests, and the store that they ask.
+/// Guests, and their store.
 #[derive(Drop)]
 struct Hall<'a> {
     guests: Guests<Quick<'a>>,
     store: Counting,
 }
 
-/// Makes a hall of no guests, who are to hold so many bytes together at most.
+/// Makes a hall without guests, and with a budget of `share` bytes.
 fn hall_of<'a>(alloc: Global, store: Counting, share: usize) -> Hall<'a> {
     Hall {
         guests: Guests::new(alloc, Budget::new(share, GREATEST)),
@@ -111,7 +114,7 @@ fn hall_of<'a>(alloc: Global, store: Counting, share: usize) -> Hall<'a> {
     }
 }
 
-/// Goes round until nobody is awake.
+/// Makes rounds until no guest is awake.
 fn go_round(alloc: Global, hall: &mut Hall<'_>) {
     let mut end = WorkEnd {
         served: 0,
@@ -128,8 +131,9 @@ fn go_round(alloc: Global, hall: &mut Hall<'_>) {
     }
 }
 
-/// Lets a guest in whose link has this number, goes round until nobody is awake, and returns how many
-/// are kept waiting then. Behind a line that announces a block its first bytes come.
+/// Admits a guest whose link has this number, makes rounds, and returns how many guests wait.
+///
+/// After a line that announces a block, its first bytes arrive.
 fn let_in<'a>(
     alloc: Global,
     hall: &mut Hall<'a>,
@@ -152,8 +156,7 @@ fn let_in<'a>(
     Ok(hall.guests.waiting_guests())
 }
 
-/// Has the guest go whose link has this number, as that is over, and says how many are kept waiting
-/// then.
+/// Ends the guest whose link has this number, and returns how many guests wait.
 fn let_go(alloc: Global, hall: &mut Hall<'_>, number: u64, is_over: &Cell<bool>) -> usize {
     is_over.set(true);
     hall.guests.wake(number);
@@ -161,18 +164,18 @@ fn let_go(alloc: Global, hall: &mut Hall<'_>, number: u64, is_over: &Cell<bool>)
     hall.guests.waiting_guests()
 }
 
-/// Who has room in a budget of 1000000 bytes.
+/// A guest that comes beside others, in a budget of 1000000 bytes.
 #[derive(Clone, Copy, Drop)]
 struct Room {
-    /// What others announced before, one after another.
+    /// What others announced before, in order.
     others: &'static [&'static [u8]],
     /// What is announced then.
     wanted: &'static [u8],
-    /// How many are kept waiting then.
+    /// The number of waiting guests afterwards.
     waiting: usize,
 }
 
-/// There is room for a little and for one who is alone in wanting more, however much it is.
+/// There is room up to `LITTLE`, and always for the only guest that wants more.
 const ROOMS: [Room; 10] = [
     Room {
         others: &[],
@@ -226,14 +229,14 @@ const ROOMS: [Room; 10] = [
     },
 ];
 
-/// Says how many are kept waiting where a guest came beside others.
+/// Returns how many guests wait after one came beside others.
 fn waiting_in(alloc: Global, room: &Room) -> Result<usize, AllocError> {
     let goes_on = Cell::new(false);
     let mut hall = hall_of(alloc, Counting::new(alloc, false)?, 1_000_000);
     let_all_in(alloc, &mut hall, room, &goes_on)
 }
 
-/// Lets the guests of a room in, and says how many are kept waiting then.
+/// Admits the guests of a room, and returns how many wait.
 fn let_all_in<'a>(
     alloc: Global,
     hall: &mut Hall<'a>,
@@ -246,8 +249,10 @@ fn let_all_in<'a>(
     let_in(alloc, hall, u64::MAX, room.wanted, goes_on)
 }
 
-/// Two hold all there is. Says how many steps the store is asked for a get of one key then, or when they
-/// have left, and how many are kept waiting of one that wants much.
+/// Returns the steps of a get and the waiting guests, if two guests hold the whole budget.
+///
+/// The steps are those of the store for one key, and a further guest wants much. With `have_left`
+/// the two guests have left.
 fn asked_beside(alloc: Global, have_left: bool) -> Result<(u64, usize), AllocError> {
     let goes_on = Cell::new(false);
     let is_over = Cell::new(false);
@@ -260,7 +265,7 @@ fn asked_beside(alloc: Global, have_left: bool) -> Result<(u64, usize), AllocErr
     asked_in(alloc, &mut hall, &goes_on)
 }
 
-/// Lets two in that want 600000 and 400000 bytes, and says how many are kept waiting then.
+/// Admits two guests that want 600000 and 400000 bytes, and returns how many wait.
 fn let_two_in<'a>(
     alloc: Global,
     hall: &mut Hall<'a>,
@@ -270,8 +275,8 @@ fn let_two_in<'a>(
     let_in(alloc, hall, 2, OF_400000, is_over)
 }
 
-/// Lets one in that gets a key, and one that wants much. Says how many steps the store was asked for, and
-/// how many are kept waiting.
+/// Admits a guest that gets a key and one that wants much; returns the steps and the waiting
+/// guests.
 fn asked_in<'a>(
     alloc: Global,
     hall: &mut Hall<'a>,
@@ -282,7 +287,7 @@ fn asked_in<'a>(
     Ok((hall.store.asked, waiting))
 }
 
-/// Where little is left it is asked first how long a block is that is to be told.
+/// If little is left, the length of a block is checked before a get delivers it.
 #[test]
 fn there_is_room_for_a_little_and_for_one_alone(rt: HostRuntime) -> Result<(), Fail> {
     for room in &ROOMS {
@@ -293,8 +298,9 @@ fn there_is_room_for_a_little_and_for_one_alone(rt: HostRuntime) -> Result<(), F
     Ok(())
 }
 
-/// Another holds more than there is. Says how many are kept waiting of a guest with this input, and how
-/// many when the other has left.
+/// Returns how many guests wait if another holds more than the budget, and after it has left.
+///
+/// The waiting guest has this input.
 fn waits_for_another(alloc: Global, input: &[u8], length: usize) -> Result<(usize, usize), Fail> {
     let goes_on = Cell::new(false);
     let is_over = Cell::new(false);
@@ -321,8 +327,9 @@ fn who_wants_a_little_goes_on(rt: HostRuntime) -> Result<(), Fail> {
     Ok(())
 }
 
-/// A guest was told a block of so many bytes and rests, or has left then. Of so many bytes one holds
-/// 600000 beside it. Says how many are kept waiting of one that wants 400000.
+/// Returns how many guests wait beside one that got a block and is idle, or has left.
+///
+/// The block has this length. Another holds 600000 bytes, and a further one wants 400000.
 fn waits_for_an_idle_one(
     alloc: Global,
     length: usize,
@@ -357,8 +364,9 @@ fn an_idle_guest_counts_for_nothing(rt: HostRuntime) -> Result<(), Fail> {
     Ok(())
 }
 
-/// So many announce 9,000,000 bytes and send none of them. Returns how many are kept waiting of one that sends some of
-/// 400,000.
+/// Returns how many guests wait if `lines` guests announce 9,000,000 bytes and send none of them.
+///
+/// A further guest sends some of 400,000 bytes.
 fn waits_for_lines(alloc: Global, lines: u64) -> Result<usize, AllocError> {
     let goes_on = Cell::new(false);
     let mut hall = hall_of(alloc, Counting::new(alloc, false)?, 1_000_000);

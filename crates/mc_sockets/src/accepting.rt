@@ -1,4 +1,4 @@
-//! Accepts connections, and hands them to the workers.
+//! Accepts connections, and deals them to the workers.
 
 use crate::arrivals::Arrivals;
 use crate::connection::{Connection, Crowd, Parting};
@@ -10,49 +10,52 @@ use std::sync::{Arc, Wait};
 use std::time::{Clock, Duration, Instant};
 use std::{io, thread};
 
-/// How long it waits if the system has no room for a connection, in milliseconds.
+/// The pause after an error of accept, in milliseconds.
 const PAUSE: u64 = 10;
 
-/// For how long it waits until all connections are closed, in seconds.
+/// The longest wait for all connections to close, in seconds.
 const CLOSING: u64 = 5;
 
-/// How often it looks, at such pauses, whether they are; pauses may be longer than was asked for.
+/// The number of such pauses in that time; a pause may be longer than it was set.
 const LOOKS: u64 = CLOSING * 1000 / PAUSE;
 
 /// Why no more connections are accepted.
 #[derive(Clone, Copy, Debug, Drop)]
 enum Stop {
-    /// The listener has failed.
+    /// The listener failed.
     Failed,
     /// The program was asked to end.
     Asked,
 }
 
-/// What came of an accept.
+/// The result of an accept.
 #[derive(Drop)]
 enum Came {
     Connection(Connection),
-    /// One that was closed, or failed before it was accepted.
+    /// A connection that was closed, or failed before it was accepted.
     Nothing,
     /// No more are to come.
     Stop(Stop),
 }
 
-/// A listener, with a descriptor that is let go if there are none left: the connection that waits
-/// is then accepted in its place and closed, and not left in the listener's queue, where each
-/// further accept would fail at once.
+/// A listener, with a spare descriptor.
+///
+/// The spare one is closed if no other is left: the waiting connection is then accepted with it and
+/// closed. Otherwise it would stay in the listener's queue, and each further accept would fail at
+/// once.
 #[derive(Drop)]
 struct Door {
     listener: TcpListener,
     spare: Option<TcpListener>,
     crowd: Arc<Crowd>,
-    /// Whether the accept before this one failed too.
+    /// Whether the previous accept failed too.
     has_failed: bool,
 }
 
-/// Accepts connections until the listener fails or the program is asked to end, and deals them to
-/// the workers turn about. One more than the crowd may have is told so, and closed. When the
-/// program is asked to end, those that are open have 5 seconds at most to be closed.
+/// Accepts connections until the listener fails or the program is asked to end.
+///
+/// It deals them to the workers in turn. A connection above the limit gets an error and is closed.
+/// When the program is asked to end, open connections have at most 5 seconds to close.
 pub fn accept_all<R: Wait + Clock>(
     rt: &R,
     listener: TcpListener,
@@ -66,8 +69,10 @@ pub fn accept_all<R: Wait + Clock>(
     arrivals.end();
 }
 
-/// Does the same at another listener, beside the one who accepts all there, and deals the first
-/// connection to the worker with this number. When the program is asked to end it waits for nobody.
+/// Accepts connections at another listener, as `accept_all` does.
+///
+/// It deals the first connection to the worker with this number. When the program is asked to end
+/// it waits for no connection.
 pub fn accept_beside<R: Wait + Clock>(
     rt: &R,
     listener: TcpListener,
@@ -82,7 +87,7 @@ pub fn accept_beside<R: Wait + Clock>(
 }
 
 impl Door {
-    /// Takes a listener, at which connections of this crowd come in.
+    /// Returns a listener with a spare descriptor; its connections count in this crowd.
     fn new(listener: TcpListener, crowd: Arc<Crowd>) -> Door {
         let spare = listener.try_clone().ok();
         Door {
@@ -93,7 +98,7 @@ impl Door {
         }
     }
 
-    /// Deals connections to the workers turn about until no more are to come, and says why.
+    /// Deals connections to the workers in turn until no more are to come, and returns why.
     fn deal_all<R: Wait + Clock>(&mut self, rt: &R, arrivals: &Arrivals, turn: usize) -> Stop {
         let mut turn = turn;
         for _ in rt.forever() {
@@ -108,8 +113,7 @@ impl Door {
         Stop::Failed
     }
 
-    /// Waits for the next connection. The one that comes when the program is asked to end is
-    /// closed.
+    /// Waits for the next connection. One that comes after the program is asked to end is closed.
     fn accept<R: Clock>(&mut self, rt: &R, arrivals: &Arrivals) -> Came {
         let accepted = self.listener.accept();
         if arrivals.begins_to_close() {
@@ -124,7 +128,7 @@ impl Door {
         }
     }
 
-    /// Does what is done about an error of accept.
+    /// Handles an error of accept by its remedy.
     fn remedy<R: Clock>(&mut self, rt: &R, error: &io::Error) -> Came {
         match remedy_for(error) {
             Remedy::End => return Came::Stop(Stop::Failed),
@@ -133,7 +137,7 @@ impl Door {
                 self.crowd.warn(rt, Warning::NoMemory);
                 pause(rt);
             }
-            // the first is tried again at once, and those that follow it after a pause
+            // the first failure is tried again at once, later ones after a pause
             Remedy::Retry if self.has_failed => pause(rt),
             Remedy::Retry => self.has_failed = true,
         }
@@ -148,8 +152,9 @@ impl Door {
         }
     }
 
-    /// Frees the spare descriptor for the next connection, which is closed if there is still no
-    /// other. Waits a little if there is no spare one, or it doesn't help.
+    /// Accepts the next connection with the spare descriptor, and closes it if there is no other.
+    ///
+    /// It pauses if there is no spare one, or if it doesn't help.
     fn accept_by_spare<R: Clock>(&mut self, rt: &R) -> Came {
         self.crowd.warn(rt, Warning::NoDescriptor);
         if self.spare.is_none() {
@@ -174,7 +179,7 @@ impl Door {
         Came::Nothing
     }
 
-    /// Lets a connection in, unless there are as many as there may be: it is then told so, and closed.
+    /// Admits a connection, or refuses it with an error if the limit of connections is reached.
     fn let_in<R: Clock>(&mut self, rt: &R, stream: std::net::TcpStream, peer: SocketAddr) -> Came {
         let Some(mut connection) = self.count_connection(stream, peer) else {
             return Came::Nothing;
@@ -187,7 +192,7 @@ impl Door {
         Came::Connection(connection)
     }
 
-    /// Listens no more, and waits until no connection is open, for 5 seconds at most.
+    /// Closes the listener, and waits until no connection is open, for at most 5 seconds.
     fn close<R: Clock>(self, rt: &R) {
         let Door {
             listener,
@@ -206,7 +211,7 @@ impl Door {
         }
     }
 
-    /// Counts a connection, of which no call waits.
+    /// Counts a connection, and makes it non-blocking.
     fn count_connection(
         &mut self,
         stream: std::net::TcpStream,
@@ -219,7 +224,7 @@ impl Door {
     }
 }
 
-/// Returns whether it has waited for as long as it waits from this moment on, if that is known.
+/// Returns whether the longest wait has passed since `began`, if that is known.
 fn is_past<R: Clock>(rt: &R, began: Option<Instant>) -> bool {
     match began {
         Some(began) => match began.elapsed(rt) {
@@ -230,7 +235,7 @@ fn is_past<R: Clock>(rt: &R, began: Option<Instant>) -> bool {
     }
 }
 
-/// Waits a little, before the system is asked again.
+/// Pauses before the next system call.
 fn pause<R: Clock>(rt: &R) {
     let _ = thread::sleep(rt, Duration::from_millis(PAUSE));
 }

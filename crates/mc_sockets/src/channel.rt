@@ -1,4 +1,8 @@
-//! A connection, and what the system last said of it.
+//! A connection, and its last known readiness.
+//!
+//! A link answers `Later` only after the system reported it, by an error or a short count. The
+//! program frees one block of 5 MiB at its start, so that glibc keeps up to about 10 MiB per
+//! worker: without it a get of 1 MB met 100 to 220 page faults.
 ghost use Rattle.std.specs.Prelude.{◌≡◌, ◌≤◌, ◌+◌, length, IfOk};
 ghost use Rattle.std.specs.Io.{ReadsAtMost};
 
@@ -10,7 +14,7 @@ use std::io::{self, ErrorKind, IoSlice, Read, Write};
 use std::rc::Rc;
 use std::sync::Arc;
 
-/// What the system said of a connection, since it was last asked.
+/// The readiness of a connection, as the system last reported it.
 #[derive(Clone, Copy)]
 pub struct Readiness {
     /// There may be something to read.
@@ -25,11 +29,11 @@ pub struct Readiness {
     pub waits: bool,
     /// It began to wait since the last look at idle connections.
     pub is_fresh: bool,
-    /// Its link is gone, and some output is still to be sent.
+    /// Its link was dropped, and some output isn't sent yet.
     pub leaves: bool,
-    /// It is to end, for this.
+    /// The reason for which it is to be closed.
     pub ends: Option<Parting>,
-    /// Urgent data came, at which a read stops short of what is behind it.
+    /// Urgent data arrived; a read stops short there.
     pub is_marked: bool,
 }
 
@@ -37,7 +41,7 @@ pub struct Readiness {
 const INTERRUPTIONS: u32 = 1000;
 
 impl Readiness {
-    /// A new connection, of which nothing is known.
+    /// A new connection without any report.
     pub const NEW: Readiness = Readiness {
         reads: true,
         writes: true,
@@ -51,14 +55,16 @@ impl Readiness {
     };
 }
 
-/// A connection of which no call waits. Nobody can know which bytes reach a socket or leave it, so contracts
-/// see how often it failed, whether it is at its end, and whether it was last asked to give.
+/// A non-blocking connection.
 ///
-/// A call says that it would block only after the system itself said so, by an error or by a count
-/// that was short, and then lowers the flag: from there on the system reports the next change, and the
-/// event raises the flag again. A read is short at urgent data too; from the event that tells of such data
-/// on, which the system reports where a read has stopped there, only an error lowers the flag. Flags are lowered by calls and raised by events of one thread alone,
-/// and an event that comes between a call and the next poll waits in the system, so none is lost.
+/// A socket's bytes are unspecified, so contracts see how often it failed, whether it is at its
+/// end, and whether it was last asked to give.
+///
+/// A call returns `WouldBlock` only after the system reported it, by an error or a short count, and
+/// then lowers the flag. From then on the system reports the next change, and that event raises the
+/// flag again. A read is short at urgent data too; after the event of such data, only an error
+/// lowers the flag. Flags are lowered by calls and raised by events of the same thread, and an
+/// event between a call and the next poll waits in the system, so none is lost.
 #[derive(Drop)]
 pub struct Channel {
     wire: Wire,
@@ -67,20 +73,21 @@ pub struct Channel {
     was_read: bool,
 }
 
-/// A connection, with what is known and counted of it.
+/// A connection, with its readiness and its counters.
 #[derive(Drop)]
 struct Wire {
     connection: Connection,
     readiness: Rc<Cell<Readiness>>,
-    /// How many bytes all channels of the worker moved.
+    /// The bytes that all channels of the worker moved.
     moved: Rc<Cell<usize>>,
-    /// What the worker counts.
+    /// The worker's counters.
     counts: Arc<Counts>,
 }
 
 impl Channel {
-    /// Makes a channel of a connection that doesn't block, which adds what it moves to `moved`, and to
-    /// what is counted. It takes no memory.
+    /// Returns the channel of a non-blocking connection.
+    ///
+    /// It adds the bytes that it moves to `moved` and to the counters. It takes no memory.
     pub fn new(
         connection: Connection,
         readiness: Rc<Cell<Readiness>>,
@@ -101,12 +108,12 @@ impl Channel {
         }
     }
 
-    /// Returns whether nothing more is to be sent: it failed, or is to end.
+    /// Returns whether nothing more is to be sent: it failed, or is to be closed.
     pub fn is_over(&self) -> bool {
         self.faults > 0 || self.wire.readiness.get().ends.is_some()
     }
 
-    /// Tells that the link is gone.
+    /// Notes that the link was dropped.
     pub fn leave(&self) {
         self.wire.readiness.set(Readiness {
             leaves: true,
@@ -116,7 +123,8 @@ impl Channel {
 }
 
 impl Wire {
-    /// Reads into the piece. `Ok(0)` is the end of the stream, and `WouldBlock` that there is nothing now.
+    /// Reads into the piece. `Ok(0)` is the end of the stream; `WouldBlock` is that nothing is
+    /// there now.
     fn read(&mut self, piece: &mut [u8]) -> io::Result<usize>
         ensures { ReadsAtMost result piece.new }
     {
@@ -131,7 +139,7 @@ impl Wire {
         self.receive(piece, known)
     }
 
-    /// Reads into the piece, of a connection that may have something to read.
+    /// Reads into the piece from a connection that may have something to read.
     fn receive(&mut self, piece: &mut [u8], known: Readiness) -> io::Result<usize>
         ensures { ReadsAtMost result piece.new }
     {
@@ -179,8 +187,9 @@ impl Wire {
         self.connection.stream.read(piece)
     }
 
-    /// Sends two texts, one behind the other, in one call, and says how many bytes were taken. `WouldBlock`
-    /// is that none is taken now.
+    /// Sends two texts in one call, and returns how many bytes were taken.
+    ///
+    /// `WouldBlock` is that none is taken now.
     fn write(&mut self, first: &[u8], second: &[u8]) -> io::Result<usize>
         ensures { IfOk result (λ count. count ≤ length first.now + length second.now) }
     {
@@ -207,7 +216,7 @@ impl Wire {
         }
     }
 
-    /// Asks the system to send two texts, and again if a signal interrupts the call.
+    /// Sends two texts by one system call, and again if a signal interrupts it.
     fn send_again(&mut self, first: &[u8], second: &[u8]) -> io::Result<usize> {
         for _interruption in 0..INTERRUPTIONS {
             match self.send(first, second) {
@@ -218,7 +227,7 @@ impl Wire {
         self.send(first, second)
     }
 
-    /// Asks the system to send two texts.
+    /// Sends two texts by one system call.
     fn send(&mut self, first: &[u8], second: &[u8]) -> io::Result<usize> {
         if first.is_empty() {
             return self.connection.stream.write(second);
@@ -230,7 +239,7 @@ impl Wire {
         self.connection.stream.write_vectored(&parts)
     }
 
-    /// Notes that the system takes no more now.
+    /// Notes that the system takes no more output now.
     fn takes_no_more(&self) {
         self.readiness.set(Readiness {
             writes: false,
@@ -277,8 +286,9 @@ impl Wire {
         self.readiness.get()
     }
 
-    /// Returns `WouldBlock`, and has the link named at the next event; or `ConnectionAborted` if
-    /// the connection is to end.
+    /// Returns `WouldBlock`, and has the link named at the next event.
+    ///
+    /// If the connection is to be closed it returns `ConnectionAborted`.
     fn later(&mut self) -> io::Error {
         let known = self.readiness.get();
         if let Some(parting) = known.ends {
@@ -356,7 +366,7 @@ impl Link for Channel {
     }
 }
 
-/// Returns whether a call would have had to wait.
+/// Returns whether a call would have blocked.
 fn is_later(error: &io::Error) -> bool {
     error.kind() == ErrorKind::WouldBlock
 }

@@ -1,4 +1,7 @@
 //! How a worker's connections end when the program is asked to.
+//!
+//! While the program ends, idle connections end by the way of `--idle-timeout`, after 1 second.
+//! Workers and links know nothing else of the shutdown.
 
 use crate::arrivals::Arrivals;
 use crate::link::SocketLink;
@@ -7,11 +10,12 @@ use mc_guests::{Links, Next};
 use std::sync::Wait;
 use std::time::Clock;
 
-/// After how many seconds a connection ends of which nothing is heard, once the program is to end.
+/// Idle timeout during shutdown, in seconds.
 const QUIET: u32 = 1;
 
-/// The links of a worker. Once the program is to end, one ends after a second in which its client sent
-/// nothing and read nothing of what waits for it.
+/// The links of a worker. During shutdown a link ends once it was idle for a second.
+///
+/// It is idle if its client sends nothing and reads nothing of its output.
 #[derive(Drop)]
 pub struct ClosingLinks<'a, R: Wait + Clock> {
     links: SocketLinks<'a, R>,
@@ -20,7 +24,7 @@ pub struct ClosingLinks<'a, R: Wait + Clock> {
 }
 
 impl<'a, R: Wait + Clock> ClosingLinks<'a, R> {
-    /// Lets no link end yet.
+    /// Returns links that don't end yet.
     pub fn new(links: SocketLinks<'a, R>, arrivals: &'a Arrivals) -> ClosingLinks<'a, R> {
         ClosingLinks {
             links,

@@ -1,4 +1,8 @@
-//! Connections, which are counted while they are open, and told of if that is asked for.
+//! Connections, which are counted while they are open, and logged if `verbose` is set.
+//!
+//! A connection is counted from its accept until it is dropped, after the system closed it, so
+//! never more than `-c` are open. One more is accepted, answered with an error and closed. The
+//! reason for its close is kept in it.
 
 use crate::lines::Line;
 use crate::log::Log;
@@ -12,47 +16,47 @@ use std::sync::Arc;
 use std::sync::atomic::{AtomicU32, AtomicU64, Ordering};
 use std::time::Clock;
 
-/// What is said to a connection if there are as many as there may be.
+/// The error for a connection above the limit.
 const TOO_MANY: &[u8] = b"ERROR Too many open connections\r\n";
 
 /// Why a connection is closed.
 #[derive(Clone, Copy, Debug)]
 pub enum Parting {
-    /// There are as many as there may be.
+    /// The connection limit is reached.
     OneTooMany,
     /// The system has no descriptor for it.
     NoDescriptor,
-    /// There is no memory for it, or the system can't watch it.
+    /// Memory for it was refused, or the system can't watch it.
     NoRoom,
-    /// The other end sends no more.
+    /// The client sends no more.
     Ended,
     ReadFault,
     WriteFault,
     /// Its session closed it, or had no memory.
     SessionOver,
-    /// Nothing was heard of it for as long as is allowed.
+    /// It was idle for the idle timeout.
     Idle,
-    /// The listener has failed, and the program ends.
+    /// The listener failed, and the program ends.
     ListenerFailed,
-    /// It held much and was slow while others were kept waiting for memory.
+    /// It held much memory and was slow while others waited for memory.
     Hoarding,
 }
 
-/// How many reasons there are for which a connection is closed.
+/// The number of reasons.
 pub const PARTINGS: usize = 10;
 
 impl Parting {
     ghost use Rattle.std.specs.Prelude.{◌≡◌};
     ghost use Rattle.mc_sockets.specs.Partings.{parting_place};
 
-    /// Gives its place among all.
+    /// Returns its index.
     pub fn place(self) -> usize
         ensures { result ≡ parting_place self }
     {
         self as usize
     }
 
-    /// Gives the words for it.
+    /// Returns its text.
     pub fn text(self) -> &'static str {
         match self {
             Parting::OneTooMany => "one more than -c allows",
@@ -72,19 +76,19 @@ impl Parting {
 /// The connections that are open.
 #[derive(Drop)]
 pub struct Crowd {
-    /// How many may be open at once.
+    /// The limit of open connections.
     most: u32,
     open: AtomicU32,
-    /// How many were accepted.
+    /// The number of accepted connections.
     accepted: AtomicU64,
-    /// How many were closed for each reason.
+    /// The number of closed connections by reason.
     closed: [AtomicU64; PARTINGS],
-    /// Where connections and warnings are logged; none in tests.
+    /// The log of connections and warnings; `None` in tests.
     log: Option<Arc<Log>>,
 }
 
 impl Crowd {
-    /// Makes a crowd of no connections. The one error is a refused allocation.
+    /// Creates the connection counter. The only error is a refused allocation.
     pub fn new(alloc: Global, most: u32, log: Option<Arc<Log>>) -> Result<Arc<Crowd>, AllocError> {
         let crowd = Crowd {
             most,
@@ -96,22 +100,22 @@ impl Crowd {
         Arc::new(alloc, crowd).map_err(|_| AllocError)
     }
 
-    /// Says how many may be open at once.
+    /// Returns the limit of open connections.
     pub fn most(&self) -> u32 {
         self.most
     }
 
-    /// Says how many are open.
+    /// Returns the number of open connections.
     pub fn open(&self) -> u32 {
         self.open.load(Ordering::SeqCst)
     }
 
-    /// Says how many were accepted.
+    /// Returns the number of accepted connections.
     pub fn accepted_count(&self) -> u64 {
         self.accepted.load(Ordering::SeqCst)
     }
 
-    /// Says how many were closed for the reason at this place among all.
+    /// Returns the number of connections closed for the reason at this index.
     pub fn closed_at(&self, place: usize) -> u64 {
         match self.closed.get(place) {
             Some(count) => count.load(Ordering::SeqCst),
@@ -126,7 +130,7 @@ impl Crowd {
         }
     }
 
-    /// Counts a connection, and gives its number among all that were accepted, from 1 on.
+    /// Counts a connection, and returns its number among all accepted ones, from 1.
     fn enter(&self, peer: SocketAddr) -> u64 {
         let number = self.accepted.fetch_add(1, Ordering::SeqCst).wrapping_add(1);
         if let Some(log) = &self.log {
@@ -135,12 +139,12 @@ impl Crowd {
         number
     }
 
-    /// Counts a connection that is open, and returns whether it exceeds the limit of connections.
+    /// Counts an open connection, and returns whether it exceeds the limit.
     fn open_one(&self) -> bool {
         self.open.fetch_add(1, Ordering::SeqCst) >= self.most
     }
 
-    /// Counts a connection no more, which was closed for this.
+    /// Uncounts a connection that was closed for this reason.
     fn leave(&self, number: u64, parting: Parting) {
         self.open.fetch_sub(1, Ordering::SeqCst);
         if let Some(count) = self.closed.get(parting.place()) {
@@ -152,7 +156,7 @@ impl Crowd {
     }
 }
 
-/// A connection that doesn't block. It is counted from its making until it is dropped, which closes it.
+/// A non-blocking connection. It is counted until it is dropped, which closes it.
 pub struct Connection {
     pub stream: TcpStream,
     crowd: Arc<Crowd>,
@@ -161,7 +165,7 @@ pub struct Connection {
 }
 
 impl Connection {
-    /// Counts one more connection. It takes no memory.
+    /// Returns a counted connection. It takes no memory.
     pub fn new(crowd: Arc<Crowd>, stream: TcpStream, peer: SocketAddr) -> Connection {
         let number = crowd.enter(peer);
         let parting = if crowd.open_one() {
@@ -182,13 +186,12 @@ impl Connection {
         matches!(self.parting, Parting::OneTooMany)
     }
 
-    /// Tells the other end that there are as many as there may be. What the system doesn't take at once
-    /// isn't said.
+    /// Sends the error for the connection limit, as far as the system takes it at once.
     pub fn refuse(&mut self) {
         let _ = self.stream.write(TOO_MANY);
     }
 
-    /// Notes why it will be closed, if it is closed next.
+    /// Notes the reason for which it will be closed, if it is closed next.
     pub fn note(&mut self, parting: Parting) {
         self.parting = parting;
     }

@@ -1,16 +1,15 @@
 //! Connections over sockets: accepted and counted, dealt to workers, and made links.
 //!
-//! A connection goes this way: accepted and counted (`accepting.rt`, `connection.rt`), dealt to a
-//! worker (`arrivals.rt`), made a link (`links.rt`, `link.rt`) over a socket that never blocks
-//! (`channel.rt`), whose events wake its guest (`place.rt`, `idle.rt`); what isn't sent when its
-//! session ends is sent later (`yard.rt`). `closing.rt` is how all of it ends when it is asked to.
-//! What is to be said of connections, and that the store is full, waits in a [`Log`] (`log.rt`,
-//! `lines.rt`, `shortage.rt`, `warning.rt`) for the one thread that says it, so that none of the
-//! others waits for that. What is done about each error of accept is a table (`remedy.rt`).
+//! The way of a connection: it is accepted and counted (`accepting.rt`, `connection.rt`), dealt to
+//! a worker (`arrivals.rt`), and made a link (`links.rt`, `link.rt`) over a socket that never
+//! blocks (`channel.rt`). Its events wake its guest (`place.rt`, `idle.rt`). Output that isn't sent
+//! when its session ends is sent later (`yard.rt`). `closing.rt` is how all of it ends when it is
+//! asked to. Lines about connections, and that the store is full, wait in a [`Log`] (`log.rt`,
+//! `lines.rt`, `shortage.rt`) for the one thread that writes them, so that no other thread waits
+//! for standard error.
 //!
-//! Nobody can know a socket's bytes, nor when a thread runs, so contracts say here that a socket is a
-//! link as `mc_guests` asks for one, and little else. The rest is tested over sockets
-//! (tests/sockets).
+//! Socket bytes and scheduling are unspecified, so contracts state that a socket is a link as
+//! `mc_guests` requires one, and little else. The rest is tested over sockets (tests/sockets).
 //!
 //! Begin with `src/arrivals.rt`, `src/links.rt` and `src/channel.rt`.
 //!

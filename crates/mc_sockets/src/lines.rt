@@ -1,4 +1,8 @@
 //! Lines for standard error, on their way to the thread that writes them.
+//!
+//! This is a bounded queue of this program: `crossbeam_queue`'s bounded queue needs the handle
+//! `Wait`, and a connection logs its end in a drop, which has none. A line without a place is
+//! dropped and counted.
 
 use crate::connection::Parting;
 use crate::warning::Warning;
@@ -15,15 +19,16 @@ pub enum Line {
     Warned(Warning),
 }
 
-/// A line that waits, and how many were dropped before it, of which no other line tells.
+/// A waiting line, and how many lines were dropped before it since the last report of that.
 #[derive(Clone, Copy)]
 pub struct Waiting {
     pub line: Line,
     pub dropped: u64,
 }
 
-/// A place for a line. Turns are dealt so that one thread at a time uses it: one fills it, and then the
-/// one that writes empties it. So neither ever finds it locked.
+/// A place for a line. Only one thread at a time uses it: one fills it, then the writer empties it.
+///
+/// So neither ever finds it locked.
 #[derive(Drop)]
 struct Slot {
     waiting: Mutex<Option<Waiting>>,
@@ -31,7 +36,7 @@ struct Slot {
 }
 
 impl Slot {
-    /// Has no line.
+    /// Returns an empty place.
     fn new() -> Slot {
         Slot {
             waiting: Mutex::new(None),
@@ -39,7 +44,7 @@ impl Slot {
         }
     }
 
-    /// Takes a line in.
+    /// Stores a line.
     fn fill(&self, waiting: Waiting) {
         if let Some(mut place) = self.waiting.try_lock() {
             *place = Some(waiting);
@@ -48,7 +53,7 @@ impl Slot {
         }
     }
 
-    /// Gives the line that it has, and has none from then on.
+    /// Takes its line, if it has one.
     fn empty(&self) -> Option<Waiting> {
         if !self.is_filled.load(Ordering::SeqCst) {
             return None;
@@ -62,24 +67,25 @@ impl Slot {
     }
 }
 
-/// Lines that wait to be written, so many at most: if there is no place for one it is dropped, and
-/// counted. No call waits for another thread, so any may be made where a value is dropped.
+/// A bounded queue of lines: a line without a place is dropped, and counted.
 ///
-/// Who finds as many places taken as there are takes none. So at most as many turns are under way as
-/// there are slots, those that follow the last one that was written, and no two of them have one slot.
+/// No call waits for another thread, so any call may be made in a drop.
+///
+/// A thread that finds the queue full drops its line. So there are at most as many turns in
+/// progress as slots, those after the last line written, and no two of them have the same slot.
 #[derive(Drop)]
 pub struct Lines {
     slots: Vec<Slot>,
-    /// How many places are taken, or looked for.
+    /// The places that are taken or being searched.
     taken: AtomicU64,
-    /// How many turns were dealt.
+    /// The number of turns dealt.
     dealt: AtomicU64,
-    /// How many lines were dropped since the last of which that was told.
+    /// The dropped lines that aren't reported yet.
     dropped: AtomicU64,
 }
 
 impl Lines {
-    /// Has so many places. The one error is a refused allocation.
+    /// Makes a queue with `most` places. The only error is a refused allocation.
     pub fn new(alloc: Global, most: usize) -> Result<Lines, AllocError> {
         let mut slots = Vec::with_capacity(alloc, most)?;
         for _place in 0..most {
@@ -95,7 +101,7 @@ impl Lines {
         })
     }
 
-    /// Lets a line wait, or drops it if there is no place.
+    /// Appends a line, or drops it if there is no place.
     pub fn push(&self, line: Line) {
         let most = self.slots.len() as u64;
         if self.taken.fetch_add(1, Ordering::SeqCst) >= most {
@@ -110,19 +116,19 @@ impl Lines {
         }
     }
 
-    /// Gives the line whose turn it is, if it waits. Turns are asked for one after another, from 0 on.
+    /// Takes the line of a turn, if it is there. Turns are taken in order, from 0.
     pub fn take(&self, turn: u64) -> Option<Waiting> {
         let waiting = self.slot(turn)?.empty()?;
         self.taken.fetch_sub(1, Ordering::SeqCst);
         Some(waiting)
     }
 
-    /// Counts a line that was dropped.
+    /// Counts a dropped line.
     pub fn drop_one(&self) {
         self.dropped.fetch_add(1, Ordering::SeqCst);
     }
 
-    /// Gives how many lines were dropped of which nobody has told, and counts anew.
+    /// Returns and resets the number of dropped lines not yet reported.
     pub fn take_dropped(&self) -> u64 {
         if self.dropped.load(Ordering::SeqCst) == 0 {
             return 0;
@@ -130,7 +136,7 @@ impl Lines {
         self.dropped.swap(0, Ordering::SeqCst)
     }
 
-    /// The slot of a turn.
+    /// Returns the slot of a turn.
     fn slot(&self, turn: u64) -> Option<&Slot> {
         let at = turn.checked_rem(self.slots.len() as u64)?;
         self.slots.get(at as usize)

@@ -1,4 +1,7 @@
 //! Links over sockets.
+//!
+//! A socket's link shows no bytes to contracts: the system's calls return counts only. Contracts
+//! see how often it failed and whether it is at its end.
 
 use crate::channel::Channel;
 use crate::yard::Yard;
@@ -7,8 +10,9 @@ use std::alloc::Global;
 use std::cell::RefCell;
 use std::rc::Rc;
 
-/// A link over a socket, for which output is gathered. When it is dropped, what the system doesn't
-/// take at once of its output is left in the yard.
+/// A link over a socket, which gathers output.
+///
+/// When it is dropped, output that the system doesn't take at once stays in the yard.
 pub struct SocketLink {
     gathering: Gathering<Channel>,
     place: usize,
@@ -16,7 +20,7 @@ pub struct SocketLink {
 }
 
 impl SocketLink {
-    /// Makes a link of the channel with this place among those of its worker. It takes no memory.
+    /// Returns the link of a channel with this place among those of its worker. It takes no memory.
     pub fn new(
         alloc: Global,
         channel: Channel,
@@ -60,7 +64,7 @@ impl Link for SocketLink {
 impl Drop for SocketLink {
     fn drop(mut self) {
         if self.gathering.faults() == 0 {
-            // if that fails, nobody reads any more
+            // if that fails, the client no longer reads
             let _ = self.gathering.flush();
         }
         let SocketLink {

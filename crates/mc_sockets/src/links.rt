@@ -1,4 +1,4 @@
-//! Where a worker's links come from.
+//! The links of a worker, and the events that wake them.
 
 use crate::arrivals::{Arrivals, Share};
 use crate::channel::{Channel, Readiness};
@@ -21,36 +21,37 @@ use std::time::{Clock, Duration, Instant};
 /// The token of a worker's waker. That of a link is its place and 1 more.
 pub const WAKER: Token = Token(0);
 
-/// How many events one poll tells at most.
+/// The most events of one poll.
 pub const EVENTS: usize = 1024;
 
-/// After how many questions for a link the system is asked for events, if there is always something to
-/// do. A worker asks once between two rounds, and once more behind each link that comes.
+/// After this many calls for the next link the system is polled, even if there is always work.
+///
+/// A worker calls once between two rounds, and once more after each new link.
 const ASKED: u32 = 16;
 
-/// After how many bytes that were moved it is asked for them too.
+/// After this many moved bytes it is polled too.
 const MOVED: usize = 262_144;
 
 /// How long a tick is, in milliseconds.
 const TICK: u64 = 250;
 
-/// How many connections that can't be served are passed over at most in the search for one that can.
+/// The most connections skipped in the search for one that can be served.
 const PASSED: usize = 1024;
 
-/// After how many seconds without an event a link that waits is asked again.
+/// After this many seconds without an event a waiting link is tried again.
 const UNHEARD: u32 = 10;
 
 /// What the links of one worker share.
 #[derive(Drop)]
 struct Common {
-    /// What they leave behind.
+    /// The output that they leave behind.
     yard: Rc<RefCell<Yard>>,
-    /// How many bytes they moved since the system was asked for events.
+    /// The bytes that they moved since the last poll.
     moved: Rc<Cell<usize>>,
 }
 
 impl Common {
-    /// Makes what the first link shares with those that come. The one error is a refused allocation.
+    /// Makes what the first link shares with later ones. The only error is a refused allocation.
     fn new(alloc: Global) -> Option<Common> {
         Some(Common {
             yard: Rc::new(alloc, RefCell::new(Yard::new(alloc))).ok()?,
@@ -58,7 +59,7 @@ impl Common {
         })
     }
 
-    /// Shares it once more.
+    /// Returns a further reference.
     fn another(&self) -> Option<Common> {
         Some(Common {
             yard: self.yard.clone().ok()?,
@@ -74,7 +75,7 @@ impl Common {
     }
 }
 
-/// The links of one worker, over the connections that it takes from those that arrived.
+/// The links of one worker, over the connections that it takes from the arrivals.
 #[derive(Drop)]
 pub struct SocketLinks<'a, R: Wait + Clock> {
     rt: &'a R,
@@ -84,30 +85,31 @@ pub struct SocketLinks<'a, R: Wait + Clock> {
     poll: Poll,
     events: Events,
     places: Vec<Place>,
-    /// What the links share; there is none before the first link.
+    /// What the links share; `None` before the first link.
     common: Option<Common>,
-    /// The links to be named, the oldest first. A link that waits is named once, so there are at most as
-    /// many as places.
+    /// The links to be named, oldest first.
+    ///
+    /// A waiting link is named once, so there are at most as many as places.
     named: VecDeque<u64>,
-    /// How many links were handed out.
+    /// The number of links handed out.
     given: u64,
-    /// How often a link was asked for since the system was asked for events.
+    /// The number of calls for a link since the last poll.
     asked: u32,
-    /// The last question for a link was answered with one.
+    /// Whether the last call for a link returned one.
     gave: bool,
-    /// Looks for connections that are idle; none if they may be for ever.
+    /// Finds idle connections; `None` without an idle timeout.
     watch: Option<Watch>,
     /// The time in ticks of 0.25 s.
     ticks: u64,
     /// When a tick was last counted.
     ticked: Option<Instant>,
-    /// Looks for connections that are to be asked again.
+    /// Finds connections that are to be tried again.
     unheard: Option<Watch>,
     counts: Arc<Counts>,
 }
 
 impl<'a, R: Wait + Clock> SocketLinks<'a, R> {
-    /// Has no links yet. What they move is counted. It takes no memory.
+    /// Returns links without a connection, which count what they move. It takes no memory.
     pub fn new(
         rt: &'a R,
         alloc: Global,
@@ -138,18 +140,18 @@ impl<'a, R: Wait + Clock> SocketLinks<'a, R> {
         }
     }
 
-    /// Lets connections end of which nothing is heard for so many seconds; with 0 none does.
+    /// Closes connections that were idle for `seconds`. 0 disables it.
     pub fn close_idle(&mut self, seconds: u32) {
         self.watch = Watch::new(seconds);
     }
 
-    /// Asks the system for events, and waits so long for the first.
+    /// Polls the system for events, and waits at most `timeout` for the first.
     fn wait_for_events(&mut self, timeout: Duration) {
         self.asked = 0;
         if let Some(common) = &self.common {
             common.moved.set(0);
         }
-        // what came before this moment is told of by the poll
+        // the poll reports all events before this moment
         let before = Instant::now(self.rt).ok();
         if self.poll.poll(&mut self.events, Some(timeout)).is_err() {
             return;
@@ -181,8 +183,9 @@ impl<'a, R: Wait + Clock> SocketLinks<'a, R> {
         }
     }
 
-    /// Notes what the events say, and counts them. If there are fewer than one poll may tell, there
-    /// were no others.
+    /// Notes the events, and returns their number.
+    ///
+    /// If there are fewer than one poll may return, there were no others.
     fn note_events(&mut self) -> usize {
         let mut told = 0usize;
         for event in &self.events {
@@ -198,8 +201,7 @@ impl<'a, R: Wait + Clock> SocketLinks<'a, R> {
         told
     }
 
-    /// Lets connections end that were idle for too long at the moment before all events were told, of
-    /// those whose turn it is.
+    /// Closes connections in turn that were idle for too long before the last poll.
     fn end_idle(&mut self, before: Instant) {
         let Some(watch) = &mut self.watch else {
             return;
@@ -220,8 +222,7 @@ impl<'a, R: Wait + Clock> SocketLinks<'a, R> {
         }
     }
 
-    /// Asks links again of which no event came for long before the moment before all events were told, of
-    /// those whose turn it is.
+    /// Names links again, in turn, that had no event for long before the last poll.
     fn ask_unheard(&mut self, before: Instant) {
         let Some(watch) = &mut self.unheard else {
             return;
@@ -241,11 +242,11 @@ impl<'a, R: Wait + Clock> SocketLinks<'a, R> {
         }
     }
 
-    /// Makes a link of a connection. One that can't be registered, or for which there is no memory, is
-    /// closed.
+    /// Makes a link of a connection. It is closed if it can't be registered, or if memory is
+    /// refused.
     fn open(&mut self, connection: Connection) -> Option<SocketLink> {
         let mut connection = connection;
-        // an answer is sent at once; if that can't be set it comes later
+        // an answer is sent at once; if that can't be set, it comes later
         let _ = connection.stream.set_nodelay(true);
         let readiness = Rc::new(self.alloc, Cell::new(Readiness::NEW)).ok()?;
         let counts = self.counts.clone().ok()?;
@@ -265,7 +266,7 @@ impl<'a, R: Wait + Clock> SocketLinks<'a, R> {
         Some(link)
     }
 
-    /// Notes a link at a free place, and makes room to name it.
+    /// Notes a link at a free place, and reserves room to name it.
     fn settle(
         &mut self,
         yard: &Rc<RefCell<Yard>>,
@@ -289,7 +290,7 @@ impl<'a, R: Wait + Clock> SocketLinks<'a, R> {
         Some(at)
     }
 
-    /// Gives what the links share, which is made for the first one.
+    /// Returns what the links share, and makes it for the first one.
     fn shared_parts(&mut self) -> Option<Common> {
         if let Some(common) = &self.common {
             return common.another();
@@ -299,7 +300,7 @@ impl<'a, R: Wait + Clock> SocketLinks<'a, R> {
         Some(common)
     }
 
-    /// Returns whether it is time to ask the system for events.
+    /// Returns whether it is time to poll.
     fn is_due(&self) -> bool {
         let moved = match &self.common {
             Some(common) => common.moved.get(),
@@ -308,8 +309,9 @@ impl<'a, R: Wait + Clock> SocketLinks<'a, R> {
         self.asked >= ASKED || moved >= MOVED
     }
 
-    /// Ends all connections, and says that none comes any more. Behind one that has just come it says
-    /// `Later`, so that this one is visited before it ends.
+    /// Ends all connections, and answers that no more links come.
+    ///
+    /// Right after a new link it answers `Later`, so that this link is visited before it ends.
     fn close(&mut self, gave: bool) -> Next<SocketLink> {
         if gave {
             return Next::Later;

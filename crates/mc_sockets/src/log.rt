@@ -1,4 +1,4 @@
-//! What is to be said on standard error, on its way to the thread that says it.
+//! Lines for standard error, on their way to the thread that writes them.
 
 use crate::lines::{Line, Lines, Waiting};
 use crate::shortage::{Shortage, Wanted};
@@ -10,14 +10,15 @@ use std::sync::{Arc, Wait};
 use std::thread::Parker;
 use std::time::{Clock, Duration, Instant};
 
-/// How many lines may wait while standard error takes none.
+/// The most lines that wait while standard error blocks.
 const MOST: usize = 1024;
 
-/// The same if connections aren't logged: there are warnings alone.
+/// The most lines if connections aren't logged: only warnings wait.
 const FEW: usize = 16;
 
-/// What the threads that serve have to say, and what calls the one that writes it. That one alone
-/// waits if standard error takes nothing.
+/// The lines of the serving threads, and the waker of the thread that writes them.
+///
+/// Only that thread waits if standard error blocks.
 #[derive(Drop)]
 pub struct Log {
     lines: Lines,
@@ -25,14 +26,15 @@ pub struct Log {
     tells_connections: bool,
     shortage: Shortage,
     warnings: Warnings,
-    /// How many threads may still have something to say.
+    /// The threads that may still write lines.
     speakers: AtomicU32,
     logger: Parker,
 }
 
 impl Log {
-    /// Makes a log with one writer, which logs connections only if `tells_connections`. The one error is
-    /// a refused allocation.
+    /// Creates an empty log with one writer. It logs connections only if `tells_connections`.
+    ///
+    /// The only error is a refused allocation.
     pub fn new<R: Clock>(
         rt: &R,
         alloc: Global,
@@ -49,24 +51,25 @@ impl Log {
         Arc::new(alloc, log).map_err(|_| AllocError)
     }
 
-    /// Counts a thread more that may have something to say.
+    /// Adds a writer.
     pub fn enter(&self) {
         self.speakers.fetch_add(1, Ordering::SeqCst);
     }
 
-    /// Counts a thread less, and calls the one that writes.
+    /// Removes a writer, and wakes the thread that writes to standard error.
     pub fn leave(&self) {
         self.speakers.fetch_sub(1, Ordering::SeqCst);
         self.logger.unpark();
     }
 
-    /// Returns whether no thread may have anything more to say. What was said before may still wait.
+    /// Returns whether there are no writers left. Lines may still wait.
     pub fn is_over(&self) -> bool {
         self.speakers.load(Ordering::SeqCst) == 0
     }
 
-    /// Logs what became of a connection, if connections are logged. The line is dropped if too many
-    /// wait. It doesn't wait.
+    /// Logs an event of a connection, if connections are logged.
+    ///
+    /// The line is dropped if too many wait. It never waits.
     pub fn say(&self, line: Line) {
         if self.tells_connections {
             self.push(line);
@@ -80,53 +83,53 @@ impl Log {
         }
     }
 
-    /// Has a line written, or dropped if too many wait, and wakes the thread that writes.
+    /// Appends a line, or drops it if too many wait. It never waits.
     fn push(&self, line: Line) {
         self.lines.push(line);
         self.logger.unpark();
     }
 
-    /// Gives the line whose turn it is, if it waits. Turns are asked for one after another, from 0 on,
-    /// by the one thread that writes.
+    /// Takes the line of a turn, if it is there.
+    ///
+    /// Only the thread that writes calls it, with turns in order, from 0.
     pub fn take_line(&self, turn: u64) -> Option<Waiting> {
         self.lines.take(turn)
     }
 
-    /// Counts a line that was dropped.
+    /// Counts a dropped line.
     pub fn drop_line(&self) {
         self.lines.drop_one();
     }
 
-    /// Gives how many lines were dropped of which nobody has told, and counts anew.
+    /// Returns and resets the number of dropped lines not yet reported.
     pub fn take_dropped(&self) -> u64 {
         self.lines.take_dropped()
     }
 
-    /// Notes a step that was refused as no chunk is left, and has that told if it is the first in a
-    /// while.
+    /// Notes a step that was refused for want of a chunk. At the first in a while it wakes the
+    /// logger.
     pub fn note_refused(&self, step: &KeyStep<'_>) {
         if self.shortage.note(step) {
             self.logger.unpark();
         }
     }
 
-    /// Gives what was wanted first since it may be told again that no chunk is left, if a step was
-    /// refused since. It counts as told from then on.
+    /// Takes the unreported refusal, if any.
     pub fn take_wanted(&self) -> Option<Wanted> {
         self.shortage.take()
     }
 
-    /// Lets the next step that is refused be told of.
+    /// Lets the next refused step be reported.
     pub fn reopen(&self) {
         self.shortage.reopen();
     }
 
-    /// Sleeps until there may be something to say.
+    /// Sleeps until there may be a line.
     pub fn sleep<R: Wait>(&self, rt: &R) {
         self.logger.park(rt);
     }
 
-    /// Sleeps until there may be something to say, and no longer than this.
+    /// Sleeps until there may be a line, at most this long.
     pub fn sleep_at_most<R: Wait + Clock>(&self, rt: &R, time: Duration) {
         self.logger.park_timeout(rt, time);
     }

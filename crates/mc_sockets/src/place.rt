@@ -1,4 +1,4 @@
-//! What a worker knows of a link.
+//! A worker's record of a link.
 
 use crate::channel::Readiness;
 use crate::connection::Parting;
@@ -8,20 +8,20 @@ use std::collections::VecDeque;
 use std::rc::Rc;
 use std::time::{Duration, Instant};
 
-/// What is known of a link.
+/// A worker's record of a link.
 #[derive(Drop)]
 pub struct Place {
-    /// The number by which it is named.
+    /// The number by which the link is named.
     number: u64,
     readiness: Rc<Cell<Readiness>>,
-    /// When it was first seen to wait, since the last event; nothing if nobody looked.
+    /// When it was first seen waiting, since the last event; `None` if nobody looked.
     waits_since: Option<Instant>,
     /// The same, since its link was asked again or the last event.
     asked_since: Option<Instant>,
 }
 
 impl Place {
-    /// Knows nothing yet of the link with this number.
+    /// Returns the record of a new link with this number.
     pub fn new(number: u64, readiness: Rc<Cell<Readiness>>) -> Place {
         Place {
             number,
@@ -31,13 +31,12 @@ impl Place {
         }
     }
 
-    /// Returns whether it is the place of the link with this number.
+    /// Returns whether it is the record of the link with this number.
     pub fn is_of(&self, number: u64) -> bool {
         self.number == number
     }
 
-    /// Notes what an event says of the link, and names it if it waits. Returns whether the link is
-    /// gone.
+    /// Notes an event, and names the link if it waits. Returns whether the link was dropped.
     pub fn note(&mut self, event: &Event, named: &mut VecDeque<u64>) -> bool {
         self.waits_since = None;
         self.asked_since = None;
@@ -53,7 +52,7 @@ impl Place {
             ..known
         });
         if known.waits {
-            // there is room, which was made with its place
+            // there is room, which was reserved with its place
             let _ = named.push_back(self.number);
         }
         known.leaves
@@ -73,7 +72,8 @@ impl Place {
         }
     }
 
-    /// Lets the connection end, for this, and names its link. Returns whether the link is gone.
+    /// Ends the connection for this reason, and names its link. Returns whether the link was
+    /// dropped.
     pub fn end(&mut self, parting: Parting, named: &mut VecDeque<u64>) -> bool {
         self.waits_since = None;
         let known = self.readiness.get();
@@ -86,9 +86,10 @@ impl Place {
         known.leaves
     }
 
-    /// Names the link if no event came of it for so long before the one moment while it waits, or is
-    /// gone: its next call asks the system again, which may have reported nothing. Returns whether
-    /// the link is gone, and what it left may be sent.
+    /// Names the link if it had no event for `limit` before `before`, so that it is tried again.
+    ///
+    /// That holds for a link that waits or was dropped: its next call asks the system, which may
+    /// have reported nothing. Returns whether the link was dropped, and its output may be sent.
     pub fn ask_if_unheard(
         &mut self,
         limit: Duration,
@@ -121,8 +122,9 @@ impl Place {
         known.leaves
     }
 
-    /// Returns whether it was first seen to wait so long before the one moment, with no event
-    /// since. If it waits and wasn't seen to before, it is seen now.
+    /// Returns whether it was idle for `limit` before `before`, with no event since.
+    ///
+    /// If it waits and wasn't seen waiting before, it is now.
     pub fn has_waited(&mut self, limit: Duration, before: Instant, now: Instant) -> bool {
         let known = self.readiness.get();
         if !known.waits {

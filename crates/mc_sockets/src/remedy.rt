@@ -1,19 +1,19 @@
-//! What is done about each error of accept(2).
+//! The remedy for each error of accept(2).
 ghost use Rattle.std.specs.Prelude.{◌≡◌};
 ghost use Rattle.mc_sockets.specs.Remedies.{remedy_of};
 
 use std::io;
 
-/// What is done about an error of accept.
+/// The remedy for an error of accept.
 #[derive(Clone, Copy, Debug)]
 pub enum Remedy {
     /// The call is made again. The error is of one connection, of the network or of the moment.
     Retry,
     /// The spare descriptor is freed for the connection that waits.
     FreeSpare,
-    /// The call is made again after a pause, and a line says that memory ran out.
+    /// The call is made again after a pause, and a warning reports that memory was refused.
     AwaitMemory,
-    /// The listener has failed, and no more connections are accepted.
+    /// The listener failed, and no more connections are accepted.
     End,
 }
 

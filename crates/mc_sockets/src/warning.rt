@@ -1,13 +1,13 @@
-//! What an operator is warned of, at most once a minute each.
+//! Warnings for the operator, each at most once a minute.
 
 use std::array;
 use std::sync::atomic::{AtomicU64, Ordering};
 use std::time::{Clock, Instant};
 
-/// What an operator is warned of.
+/// A warning for the operator.
 #[derive(Clone, Copy, Debug)]
 pub enum Warning {
-    /// A connection was refused: as many are open as may be.
+    /// A connection was refused: the connection limit is reached.
     TooManyConnections,
     /// The system has no descriptor for a connection.
     NoDescriptor,
@@ -15,10 +15,10 @@ pub enum Warning {
     NoMemory,
 }
 
-/// How many kinds of warning there are.
+/// The number of kinds of warnings.
 const WARNINGS: usize = 3;
 
-/// Within how many seconds a warning isn't written again.
+/// The seconds for which a warning isn't written again.
 const QUIET: u64 = 60;
 
 impl Warning {
@@ -43,7 +43,7 @@ pub struct Warnings {
 }
 
 impl Warnings {
-    /// Begins where nothing was written. Seconds are counted from `started` on.
+    /// Returns the state without warnings. Seconds are counted from `started` on.
     pub fn new(started: Option<Instant>) -> Warnings {
         Warnings {
             started,
@@ -51,8 +51,9 @@ impl Warnings {
         }
     }
 
-    /// Returns whether a warning is to be written now, which then counts as written. One thread at most
-    /// is answered so within a minute.
+    /// Returns whether a warning is to be written now, and counts it as written.
+    ///
+    /// Within a minute at most one thread gets true.
     pub fn is_due<R: Clock>(&self, rt: &R, warning: Warning) -> bool {
         let Some(written) = self.written.get(warning as usize) else {
             return false;
@@ -66,7 +67,7 @@ impl Warnings {
         raised.is_ok()
     }
 
-    /// Returns the seconds since the start, 0 if the clock can't be read.
+    /// Returns the seconds since the start, or 0 if the clock can't be read.
     fn seconds<R: Clock>(&self, rt: &R) -> u64 {
         let Some(started) = self.started else {
             return 0;

@@ -11,7 +11,8 @@ use std::time::{Clock, Duration, Instant};
 /// The greatest size of a request, in bytes.
 const LONGEST: usize = 8192;
 
-/// How long a request may take until it is whole, and then how long its answer may, in milliseconds.
+/// How long a request may take until it is whole, and then how long its answer may, in
+/// milliseconds.
 const LIMIT: u64 = 2000;
 
 /// How often one call reads or writes at most.
@@ -97,8 +98,8 @@ impl Exchange {
         self.enter(rt, Stage::Sending);
     }
 
-    /// Answers that there is no memory for the answer. It takes no memory: the text lies where the request
-    /// did.
+    /// Answers that there is no memory for the answer. It takes no memory: the text lies where the
+    /// request did.
     pub fn answer_without_memory<R: Clock>(&mut self, rt: &R) {
         mem::swap(&mut self.request, &mut self.answer);
         self.answer.clear();
@@ -169,8 +170,8 @@ impl Exchange {
         Due::More
     }
 
-    /// Ends the stream. If the client may have sent more it is read first: the system would else drop the
-    /// answer with it.
+    /// Ends the stream. If the client may have sent more it is read first: the system would else
+    /// drop the answer with it.
     fn end_stream<R: Clock>(&mut self, rt: &R) -> Due {
         let _ = self.stream.shutdown(Shutdown::Write);
         if !self.may_leave_input {
@@ -197,8 +198,8 @@ impl Exchange {
         }
     }
 
-    /// Returns what is due where a call failed: nothing if it would have to wait and the stage has time
-    /// left, `late` if it has none, and else the end.
+    /// Returns what is due where a call failed: nothing if it would have to wait and the stage has
+    /// time left, `late` if it has none, and else the end.
     fn awaited<R: Clock>(&self, rt: &R, error: &io::Error, late: Due) -> Due {
         if error.kind() != ErrorKind::WouldBlock {
             return Due::Close;

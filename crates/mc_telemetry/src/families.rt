@@ -1,5 +1,5 @@
-//! The table of metrics. Where a metric means the same as one of Prometheus' exporter for memcached, it
-//! has that one's name.
+//! The table of metrics. Where a metric means the same as one of Prometheus' exporter for
+//! memcached, it has that one's name.
 
 use Counted as C;
 use Figure::{Closed, Count};
@@ -11,8 +11,8 @@ use mc_sockets::Parting;
 /// The program's own version, as `--version` prints it.
 const VERSION: &[(&str, Figure)] = &[(r#"{version="0.9.0"}"#, Figure::One)];
 
-/// The commands, as the exporter counts them: of a `get` of several keys each key is one, `gat` is one of
-/// `touch`, and `set` stands for each storage command but `cas`.
+/// The commands, as the exporter counts them: of a `get` of several keys each key is one, `gat` is
+/// one of `touch`, and `set` stands for each storage command but `cas`.
 const COMMANDS: &[(&str, Figure)] = &[
     (r#"{command="get",status="hit"}"#, Count(C::GetHit)),
     (r#"{command="get",status="miss"}"#, Count(C::GetMiss)),

@@ -47,7 +47,7 @@ impl Display for Full {
 }
 
 impl Stock {
-    /// Writes which chunks were asked for.
+    /// Writes which chunks were wanted.
     fn write_need<W: fmt::Write>(&self, f: &mut Formatter<W>) -> fmt::Result {
         let class = self.need.class();
         match self.need.count() {

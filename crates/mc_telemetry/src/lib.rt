@@ -1,19 +1,20 @@
 //! What an operator sees of a running server: the page of metrics, and the lines on standard error.
 //!
-//! Both report what threads count and what the store holds, and neither takes part in serving. So they
-//! stand here, beside `mc_shared` and `mc_workers` and on neither. What they ask of the store are the
-//! three calls of [`StoreStats`]. `mc_server` makes them over the store that its threads share.
+//! Both report what threads count and what the store holds, and neither takes part in serving. So
+//! they are here, beside `mc_shared` and `mc_workers`, and need neither. They call the store by the
+//! three calls of [`StoreStats`], which `mc_server` implements over the store that its threads
+//! share.
 //!
-//! A worker counts its steps by a [`WorkerTally`] (`tally.rt`), each step as [`counted_as`] says
-//! (`counting.rt`). For a scrape an [`Observer`] reads the counters, the connections and the store
-//! (`observer.rt`), the table of families says what is printed (`families.rt`), and a [`MetricsServer`]
-//! answers over HTTP (`scrape.rt`), several clients at once (`exchange.rt`). [`write_lines`] writes to standard error in a thread of its own
-//! (`logger.rt`, `outlet.rt`): where the server listens, which connections open and close, and, once a minute, that
-//! the store is full (`full.rt`).
+//! A worker counts its steps by a [`WorkerTally`] (`tally.rt`), each by the counter [`counted_as`]
+//! returns (`counting.rt`). For a scrape an [`Observer`] reads the counters, the connections and
+//! the store (`observer.rt`), the table of families lists what is printed (`families.rt`), and a
+//! [`MetricsServer`] answers over HTTP (`scrape.rt`). [`write_lines`] writes to standard error in a
+//! thread of its own (`logger.rt`): where the server listens, which connections open and close,
+//! and, once a minute, that the store is full (`full.rt`).
 //!
-//! Contracts say of each step and its outcome as what it counts. How an answer and a page look is proved
-//! in `mc_metrics`. That counters count what happened, and that a line is written, no contract can say:
-//! tests over sockets do (tests/sockets).
+//! Contracts state which counter each step with its outcome raises. The look of an answer and of a
+//! page is proved in `mc_metrics`. No contract states that counters count what happened, and that a
+//! line is written: tests over sockets check that (tests/sockets).
 //!
 //! Begin with `specs/Counting.antt` and `src/stats.rt`, then `src/scrape.rt` and `src/logger.rt`.
 //!

@@ -1,7 +1,7 @@
 //! Writes to standard error while the server runs.
 //!
-//! One thread writes to standard error, so a full pipe stops no worker. The same thread reports that
-//! the store is full, and reads the class's counts by a caller of its own.
+//! One thread writes to standard error, so a full pipe stops no worker. The same thread reports
+//! that the store is full, and reads the class's counts by a caller of its own.
 
 use crate::full::{Full, Stock};
 use crate::outlet::Outlet;
@@ -26,9 +26,10 @@ pub struct Notice<'a> {
     pub descriptors: Option<u64>,
 }
 
-/// Writes where the server listens, and then the lines of the log, until no thread has more of them. If
-/// nobody reads what was written then, the rest isn't written, and the server ends all the same. It sleeps while there is nothing to write. A minute after a report that the store is full it wakes
-/// once, so that the next refusal is reported again.
+/// Writes where the server listens, and then the lines of the log, until no thread has more of
+/// them. If nobody reads what was written then, the rest isn't written, and the server ends all the
+/// same. It sleeps while there is nothing to write. A minute after a report that the store is full
+/// it wakes once, so that the next refusal is reported again.
 pub fn write_lines<R: Wait + Clock, S: StoreStats>(
     rt: &R,
     log: &Log,
@@ -86,8 +87,8 @@ struct Logger<'a> {
 }
 
 impl Logger<'_> {
-    /// Writes the next line, after the count of lines dropped before it. Returns whether there was one.
-    /// A line that can't be written is dropped.
+    /// Writes the next line, after the count of lines dropped before it. Returns whether there was
+    /// one. A line that can't be written is dropped.
     fn write_next(&mut self) -> bool {
         let (log, turn) = (self.log, self.turn);
         let Some(Waiting { line, dropped }) = log.take_line(turn) else {

@@ -33,8 +33,8 @@ impl Outlet {
         })
     }
 
-    /// Returns whether a line can be written without waiting, for which it waits half a second at most. A
-    /// file always takes one.
+    /// Returns whether a line can be written without waiting, for which it waits half a second at
+    /// most. A file always takes one.
     pub fn is_ready(&mut self) -> bool {
         let Some(poll) = &mut self.poll else {
             return true;

@@ -41,9 +41,10 @@ impl MetricsServer {
         }
     }
 
-    /// Answers one request on each connection, until the workers are sent no more connections. A client
-    /// that sends nothing, or reads nothing, keeps no other one waiting: its connection is closed
-    /// after 2 seconds for its request and 2 for its answer, or sooner if 64 newer ones are open.
+    /// Answers one request on each connection, until the workers are sent no more connections. A
+    /// client that sends nothing, or reads nothing, keeps no other one waiting: its connection is
+    /// closed after 2 seconds for its request and 2 for its answer, or sooner if 64 newer ones are
+    /// open.
     pub fn answer_all<R: AllocGlobal + Wait + Clock, S: StoreStats>(
         &mut self,
         rt: &R,
@@ -83,8 +84,8 @@ impl MetricsServer {
         true
     }
 
-    /// Opens an exchange with a peer, in place of the oldest if there are too many. Without memory the
-    /// connection is closed.
+    /// Opens an exchange with a peer, in place of the oldest if there are too many. Without memory
+    /// the connection is closed.
     fn open<R: AllocGlobal + Clock>(&mut self, rt: &R, stream: TcpStream, peer: SocketAddr) {
         let access = QuitAccess::of(self.may_quit, peer.ip().to_canonical());
         if let Ok(exchange) = Exchange::new(rt, rt.alloc(), stream, access) {
@@ -95,7 +96,8 @@ impl MetricsServer {
         }
     }
 
-    /// Lets each exchange go on, and closes those that are over. Returns whether one may go on at once.
+    /// Lets each exchange go on, and closes those that are over. Returns whether one may go on at
+    /// once.
     fn go_on_all<R: AllocGlobal + Wait + Clock, S: StoreStats>(
         &mut self,
         rt: &R,

@@ -1,7 +1,7 @@
 //! Counts the steps of a worker.
 //!
-//! Each worker counts in memory of its own, one cache line apart, and a scrape adds up. So a command
-//! costs one addition.
+//! Each worker counts in memory of its own, one cache line apart, and a scrape adds up. So a
+//! command costs one addition.
 
 use crate::counting::counted_as;
 use mc_guests::{Outcome, Tally};

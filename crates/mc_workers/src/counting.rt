@@ -55,8 +55,9 @@ impl<'a, S: Steps + Drop, T: Tally> Counting<'a, S, T> {
         }
     }
 
-    /// Reports a step whose reply goes to an `Answer` to the tally, if it was taken. A read that told
-    /// nothing isn't reported: it only measured a block.
+    /// Reports a step whose reply goes to an `Answer` to the tally, if it was taken.
+    ///
+    /// A read that delivered nothing isn't reported: it only measured a block.
     fn count_told(
         &self,
         step: &KeyStep<'_>,
