@@ -183,10 +183,11 @@ def made_clauses(file, name, *clauses):
 
 def line_of(name, file):
     """The line at which a definition or a function begins."""
-    for number, line in enumerate(file.read_text(encoding="utf-8").splitlines(), 1):
-        if re.match(rf" *(?:(?:pub|abbrev|unfoldable|record|data|fn) )+{name}\b", line):
-            return number
-    raise SystemExit(f"docs/make.py: {file} has no {name}")
+    heads = [("pub " not in line, number) for number, line in enumerate(file.read_text(encoding="utf-8").splitlines(), 1)
+             if re.match(rf" *(?:(?:pub|abbrev|unfoldable|record|data|fn) )+{name}\b", line)]
+    if not heads:
+        raise SystemExit(f"docs/make.py: {file} has no {name}")
+    return min(heads)[1]
 
 
 KINDS = {"crates": made_crates, "libraries": made_libraries, "tcp": made_tcp, "clauses": made_clauses}
