@@ -12,6 +12,7 @@ import glob
 import os
 import queue
 import shutil
+import signal
 import sys
 import tempfile
 import threading
@@ -179,6 +180,9 @@ def main(words, root=ROOT):
     parser.add_argument("--only", metavar="NAME")
     parser.add_argument("--anew", action="store_true")
     given = parser.parse_args(words)
+    if threading.current_thread() is threading.main_thread():
+        # as Ctrl-C does, so that no folder stays
+        signal.signal(signal.SIGTERM, lambda *_: sys.exit(143))
     given.jobs = int(os.environ.get("JOBS") or len(os.sched_getaffinity(0)))
     with tempfile.TemporaryDirectory(prefix="mcserver-wrong-") as room:
         os.mkdir(f"{room}/repository")
