@@ -86,8 +86,10 @@ class Run:
             except Exception as error:  # a fault of this program fails what it judges
                 for body in found:
                     self.fail(crate, body, f"it couldn't be judged: {error!r}")
-            if crate.later:
-                self.add(crate, crate.later.pop(0), keep if os.path.isdir(keep) else begin)
+            with self.turn:
+                after = crate.later.pop(0) if crate.later else None
+            if after:
+                self.add(crate, after, keep if os.path.isdir(keep) else begin)
             with self.turn:
                 crate.left -= 1
                 crate.checks += 1
