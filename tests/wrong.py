@@ -99,16 +99,17 @@ class Run:
 
     def judge(self, crate, found, begin, keep):
         """Judges bodies by one check. What it can't say of each goes into further checks."""
-        only = [] if len(found) > 1 else ["--only", f"{crate.name}::{found[0].function}"]
-        status, output = self.copy.check(crate.name, crate.sources.planted(found), [*only, "--jobs", str(self.each)], begin, keep)
+        names = dict.fromkeys(f"{crate.name}::{it.function}" for it in found)
+        flags = [word for it in names for word in ("--only", it)]
+        status, output = self.copy.check(crate.name, crate.sources.planted(found), [*flags, "--jobs", str(self.each)], begin, keep)
         said = bodies.verdicts(output, crate.name)
         if status in (0, 1, 3) and said and not bodies.unread(output):
             self.part(crate, found, said, begin, keep)
-        elif status not in (0, 1, 3) and begin:
+        elif status not in (0, 1, 3) and begin and not bodies.lacks(output):
             # what was kept may have changed while it was copied
             self.add(crate, found, None)
         elif len(found) > 1:
-            lost = bodies.culprits(output, found, crate.sources)
+            lost = bodies.culprits(output, found, crate)
             rest = [it for it in found if it not in lost]
             for part in [[it] for it in lost] + ([rest] if lost else halves(found)):
                 if part:
