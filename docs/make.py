@@ -30,8 +30,8 @@ PLACE = re.compile(r"\[`(\w+)`\]\(([^)#]+)#L\d+\)")
 # What the kit's libraries are for, in the order in which README.md names them.
 LIBRARIES = {
     "memchr": "finds line ends and word ends", "itoa": "prints numbers", "byteorder": "reads and writes an item's header",
-    "thiserror": "makes error types", "clap": "parses the command line", "mio": "polls sockets",
-    "crossbeam_queue": "hands connections to the workers", "httparse": "parses the head of an HTTP request",
+    "thiserror": "makes error types", "clap": "parses the command line (brings `strsim`)", "mio": "polls sockets",
+    "crossbeam_queue": "hands connections to the workers (brings `crossbeam_utils`)", "httparse": "parses the head of an HTTP request",
     "atomic_table": "has the atomic steps of threads", "core": "",
 }
 # Of these documents the names in code spans are looked up, too; the others name what clients and systems have.
@@ -183,10 +183,11 @@ def made_clauses(file, name, *clauses):
 
 def line_of(name, file):
     """The line at which a definition or a function begins."""
-    for number, line in enumerate(file.read_text(encoding="utf-8").splitlines(), 1):
-        if re.match(rf" *(?:(?:pub|abbrev|unfoldable|record|data|fn) )+{name}\b", line):
-            return number
-    raise SystemExit(f"docs/make.py: {file} has no {name}")
+    heads = [("pub " not in line, number) for number, line in enumerate(file.read_text(encoding="utf-8").splitlines(), 1)
+             if re.match(rf" *(?:(?:pub|abbrev|unfoldable|record|data|fn) )+{name}\b", line)]
+    if not heads:
+        raise SystemExit(f"docs/make.py: {file} has no {name}")
+    return min(heads)[1]
 
 
 KINDS = {"crates": made_crates, "libraries": made_libraries, "tcp": made_tcp, "clauses": made_clauses}

@@ -12,6 +12,7 @@ import glob
 import os
 import queue
 import shutil
+import signal
 import sys
 import tempfile
 import threading
@@ -85,8 +86,10 @@ class Run:
             except Exception as error:  # a fault of this program fails what it judges
                 for body in found:
                     self.fail(crate, body, f"it couldn't be judged: {error!r}")
-            if crate.later:
-                self.add(crate, crate.later.pop(0), keep if os.path.isdir(keep) else begin)
+            with self.turn:
+                after = crate.later.pop(0) if crate.later else None
+            if after:
+                self.add(crate, after, keep if os.path.isdir(keep) else begin)
             with self.turn:
                 crate.left -= 1
                 crate.checks += 1
@@ -96,16 +99,17 @@ class Run:
 
     def judge(self, crate, found, begin, keep):
         """Judges bodies by one check. What it can't say of each goes into further checks."""
-        only = [] if len(found) > 1 else ["--only", f"{crate.name}::{found[0].function}"]
-        status, output = self.copy.check(crate.name, crate.sources.planted(found), [*only, "--jobs", str(self.each)], begin, keep)
+        names = dict.fromkeys(f"{crate.name}::{it.function}" for it in found)
+        flags = [word for it in names for word in ("--only", it)]
+        status, output = self.copy.check(crate.name, crate.sources.planted(found), [*flags, "--jobs", str(self.each)], begin, keep)
         said = bodies.verdicts(output, crate.name)
         if status in (0, 1, 3) and said and not bodies.unread(output):
             self.part(crate, found, said, begin, keep)
-        elif status not in (0, 1, 3) and begin:
+        elif status not in (0, 1, 3) and begin and not bodies.lacks(output):
             # what was kept may have changed while it was copied
             self.add(crate, found, None)
         elif len(found) > 1:
-            lost = bodies.culprits(output, found, crate.sources)
+            lost = bodies.culprits(output, found, crate)
             rest = [it for it in found if it not in lost]
             for part in [[it] for it in lost] + ([rest] if lost else halves(found)):
                 if part:
@@ -179,6 +183,9 @@ def main(words, root=ROOT):
     parser.add_argument("--only", metavar="NAME")
     parser.add_argument("--anew", action="store_true")
     given = parser.parse_args(words)
+    if threading.current_thread() is threading.main_thread():
+        # as Ctrl-C does, so that no folder stays
+        signal.signal(signal.SIGTERM, lambda *_: sys.exit(143))
     given.jobs = int(os.environ.get("JOBS") or len(os.sched_getaffinity(0)))
     with tempfile.TemporaryDirectory(prefix="mcserver-wrong-") as room:
         os.mkdir(f"{room}/repository")

@@ -21,6 +21,7 @@ GOAL = re.compile(r"note: (src/\S+?:\d+:\d+: .*is not proved .*\(`[^`]+`\).*)")
 LINE = re.compile(r"(?:\./)?proofs/(\S+)/(?:Answers|Invariants|Proof)\.antt:(\d+):\d+: error: (.*)")
 # A text of the sources or definitions that can't be read.
 UNREAD = re.compile(r"(?:\./)?((?:src|specs)/\S+?):(\d+):\d+: error(?:\[|: (?!`[^`]*`: ))")
+LACKS = re.compile(r"has no function `([^`]+)`")
 # What is said of a proof that names what is there no more.
 GONE = re.compile(r"has no field|is not in scope|has no `|was not admitted|is no name|operand is missing|expected the end|cannot continue")
 # A goal of a function's end, whose name no change of a body changes.
@@ -171,18 +172,23 @@ def functions(text):
     return found
 
 
-def culprits(output, bodies, sources):
-    """The bodies whose lines are among those that the check can't read."""
+def culprits(output, bodies, crate):
+    """The bodies whose lines are among those that the check can't read, or whose function the crate hasn't."""
     named = {(found[1], int(found[2])) for found in map(UNREAD.match, output.split("\n")) if found}
     lost = []
     for body in bodies:
-        for file, begin, end, new in sources.cuts(body):
-            # a body that is planted above moves a line by as many as it adds, which is none: each change is one line
-            first = sources.text(file).count("\n", 0, begin) + 1
-            if any(name == file and first <= line <= first + new.count("\n") for name, line in named):
-                lost.append(body)
-                break
+        lines = set()
+        for file, begin, _, _ in crate.sources.cuts(body):
+            # each change is one line for one, so lines stay where they are
+            lines.add((file, crate.sources.text(file).count("\n", 0, begin) + 1))
+        if lines & named or f"{crate.name}::{body.function}" in lacks(output):
+            lost.append(body)
     return lost
+
+
+def lacks(output):
+    """The functions that a check was asked for and the crate hasn't."""
+    return LACKS.findall(output)
 
 
 def verdicts(output, crate):
