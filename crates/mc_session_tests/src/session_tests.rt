@@ -191,21 +191,24 @@ fn a_command_comes_from_a_source(rt: HostRuntime) -> Result<(), Fail> {
 fn passes_a_block_over(rt: &impl Abort, alloc: Global) -> Result<(), AllocError> {
     let mut store = PlainStore::new(alloc, 64, PAGE)?;
     let mut session = Session::new(alloc, PAGE);
+    passes_pieces_over(rt, alloc, &mut session, &mut store)
+}
+
+/// The same in a session that was fed nothing.
+fn passes_pieces_over(
+    rt: &impl Abort,
+    alloc: Global,
+    session: &mut Session,
+    store: &mut PlainStore,
+) -> Result<(), AllocError> {
     let piece = [b'x'; 16384];
-    turns(
-        rt,
-        alloc,
-        &mut session,
-        &mut store,
-        "set a 0 0 2097152\r\n",
-        1,
-    )?;
+    turns(rt, alloc, session, store, "set a 0 0 2097152\r\n", 1)?;
     for _ in 0..128 {
         session.feed(&piece)?;
         assert!(rt; session.is_idle());
     }
     session.feed(b"\r\n")?;
-    turns(rt, alloc, &mut session, &mut store, "version\r\n", 1)?;
+    turns(rt, alloc, session, store, "version\r\n", 1)?;
     let told = b"SERVER_ERROR object too large for cache\r\nVERSION 1.6.0\r\n".as_slice();
     assert_eq!(rt; session.out(), told);
     Ok(())
@@ -278,17 +281,38 @@ fn keys_of_a_get_take_a_turn_each(rt: HostRuntime) -> Result<(), Fail> {
 fn rests(rt: &impl Abort, alloc: Global) -> Result<(), AllocError> {
     let mut store = PlainStore::new(alloc, 64, PAGE)?;
     let mut session = Session::new(alloc, PAGE);
+    stores_a_block(rt, alloc, &mut session, &mut store)?;
+    rests_behind_a_hit(rt, alloc, &mut session, &mut store)
+}
+
+/// A session that was fed nothing stores a block of 9000 bytes.
+fn stores_a_block(
+    rt: &impl Abort,
+    alloc: Global,
+    session: &mut Session,
+    store: &mut PlainStore,
+) -> Result<(), AllocError> {
     assert!(rt; session.key().is_none());
-    turns(rt, alloc, &mut session, &mut store, "set a 0 0 9000\r\n", 0)?;
+    turns(rt, alloc, session, store, "set a 0 0 9000\r\n", 0)?;
     assert_eq!(rt; session.announced_bytes(), 9018);
     session.feed(&[b'x'; 9000])?;
-    turns(rt, alloc, &mut session, &mut store, "\r\n", 1)?;
+    turns(rt, alloc, session, store, "\r\n", 1)?;
     assert_eq!(rt; session.out().len(), 8);
     session.sent(8);
     assert!(rt; session.announced_bytes() == 0 && session.capacity() >= 9000);
+    Ok(())
+}
+
+/// It gets the block, and rests before and after that is sent.
+fn rests_behind_a_hit(
+    rt: &impl Abort,
+    alloc: Global,
+    session: &mut Session,
+    store: &mut PlainStore,
+) -> Result<(), AllocError> {
     session.feed(b"get a b\r\n")?;
     assert_eq!(rt; session.key(), Some(b"a".as_slice()));
-    turns(rt, alloc, &mut session, &mut store, "", 2)?;
+    turns(rt, alloc, session, store, "", 2)?;
     assert_eq!(rt; session.out().len(), 9023);
     assert!(rt; session.rest() >= 9023);
     session.sent(9023);
@@ -358,27 +382,61 @@ fn step_is_taken(
     after: &str,
 ) -> Result<(), AllocError> {
     let mut store = PlainStore::new(alloc, 64, PAGE)?;
-    asks(rt, alloc, &mut store, "set a 0 0 1\r\n1\r\n", "STORED\r\n")?;
+    step_is_taken_by(rt, alloc, &mut store, command, text, after)
+}
+
+/// The same in a store that is empty.
+fn step_is_taken_by(
+    rt: &impl Abort,
+    alloc: Global,
+    store: &mut PlainStore,
+    command: &str,
+    text: &str,
+    after: &str,
+) -> Result<(), AllocError> {
+    asks(rt, alloc, store, "set a 0 0 1\r\n1\r\n", "STORED\r\n")?;
     let mut session = Session::new(alloc, GREATEST);
-    turns(rt, alloc, &mut session, &mut store, "foo\r\n", 1)?;
+    is_fed_behind_a_turn(rt, alloc, &mut session, store, command)?;
+    let holds = match session.turn(alloc, store, Moment::from_seconds(1000)) {
+        Ok(_) => {
+            has_text(rt, &mut session, command, text);
+            after
+        }
+        Err(fault) => {
+            is_closed_by_a_fault(rt, &session, command);
+            if fault.decided { after } else { BEFORE }
+        }
+    };
+    asks(rt, alloc, store, "get a\r\n", holds)
+}
+
+/// Feeds a command behind a turn that was taken.
+fn is_fed_behind_a_turn(
+    rt: &impl Abort,
+    alloc: Global,
+    session: &mut Session,
+    store: &mut PlainStore,
+    command: &str,
+) -> Result<(), AllocError> {
+    turns(rt, alloc, session, store, "foo\r\n", 1)?;
     if session.feed(command.as_bytes()).is_err() {
         assert!(rt; session.is_idle());
         session.feed(command.as_bytes())?;
     }
-    let holds = match session.turn(alloc, &mut store, Moment::from_seconds(1000)) {
-        Ok(_) => {
-            assert!(rt; session.is_idle() && session.out().starts_with(b"ERROR\r\n"));
-            session.sent(7);
-            assert_eq!(rt; session.out(), text.as_bytes(), "at {command}");
-            after
-        }
-        Err(fault) => {
-            assert!(rt; session.is_closed());
-            assert_eq!(rt; session.out(), b"ERROR\r\n".as_slice(), "at {command}");
-            if fault.decided { after } else { BEFORE }
-        }
-    };
-    asks(rt, alloc, &mut store, "get a\r\n", holds)
+    Ok(())
+}
+
+/// The text of a command's turn stands behind that of the turn before.
+fn has_text(rt: &impl Abort, session: &mut Session, command: &str, text: &str) {
+    assert!(rt; session.is_idle() && session.out().starts_with(b"ERROR\r\n"));
+    session.sent(7);
+    assert_eq!(rt; session.out(), text.as_bytes(), "at {command}");
+}
+
+/// A session is closed, and has the text of the turn before a command's alone.
+fn is_closed_by_a_fault(rt: &impl Abort, session: &Session, command: &str) {
+    assert!(rt; session.is_closed());
+    assert_eq!(rt; session.out(), b"ERROR\r\n".as_slice(), "at {command}");
 }
 
 #[test]
