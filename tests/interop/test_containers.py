@@ -64,11 +64,17 @@ class Image:
             elif name == "COPY":
                 source, goal = words.removeprefix("--chmod=755 ").split()
                 self.put(program if source == "crates/mc_server/out/mc_server" else f"{ROOT}/{source}", goal)
+        # the slim image has the C library and those of the compiler
+        self.take_libraries(program)
 
     def take(self, path):
-        """Takes a file of this system, and the libraries that it is linked with."""
+        """Takes a program of this system, and the libraries that it is linked with."""
+        self.put(os.path.realpath(path), path)
+        self.take_libraries(path)
+
+    def take_libraries(self, path):
         found = subprocess.run(["ldd", path], capture_output=True, text=True).stdout
-        for it in [path, *re.findall(r"(/\S+) \(0x", found)]:
+        for it in re.findall(r"(/\S+) \(0x", found):
             self.put(os.path.realpath(it), it)
 
     def put(self, source, goal):

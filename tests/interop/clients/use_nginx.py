@@ -27,12 +27,10 @@ http {{
     server {{
         listen 127.0.0.1:{port};
         default_type text/plain;
-        memcached_connect_timeout 300ms;
-        memcached_read_timeout 300ms;
         location / {{ set $memcached_key "page:$uri?$args"; memcached_pass cache; error_page 404 502 504 = @made; }}
         location /alone/ {{ set $memcached_key "page:$uri"; memcached_pass cache; }}
         location /packed/ {{ set $memcached_key "page:$uri"; memcached_gzip_flag 2; gunzip on; memcached_pass cache; }}
-        location /silent/ {{ set $memcached_key "page:$uri"; memcached_pass silent; }}
+        location /silent/ {{ set $memcached_key "page:$uri"; memcached_read_timeout 300ms; memcached_pass silent; }}
         location @made {{ return 200 "made"; }}
     }}
 }}
