@@ -14,6 +14,7 @@ fn told(waiting: Option<Waiting>) -> Option<(u64, u64)> {
     let Waiting { line, dropped } = waiting?;
     match line {
         Line::Opened { number, .. } | Line::Closed { number, .. } => Some((number, dropped)),
+        Line::Warned(_) => None,
     }
 }
 

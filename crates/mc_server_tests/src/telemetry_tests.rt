@@ -10,6 +10,7 @@ use std::sync::{Arc, Wait};
 use std::test::*;
 
 /// A store of 4 shelves that has pages of the third class alone.
+#[derive(Clone, Copy)]
 struct FixedStats;
 
 impl StoreStats for FixedStats {
