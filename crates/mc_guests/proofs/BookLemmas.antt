@@ -125,3 +125,7 @@ settles_more at old mid new before between after some front one =
 pub wakes_join : (old mid new : BooksState) → WakesSome old mid → WakesSome mid new → WakesSome old new
 wakes_join old mid _ first wakes_nobody = first
 wakes_join old mid new first (wakes_another later last) = wakes_another (wakes_join old mid _ first later) last
+
+-- one that slept woke
+pub wakes_one : (at : ℕ) (old new : BooksState) → SleepsAt at old → new ≡ woken at old → MayWake old new
+wakes_one at old new sleeps is = inr (at, sleeps, is)

@@ -237,15 +237,23 @@ impl<L: Link + Drop> Guests<L> {
     }
 
     /// Wakes a waiting guest.
+    #[tactic(auto, using(crate::proofs::BookLemmas::wakes_one))]
     fn try_again(&mut self, at: usize)
         ensures { MayWake self.old self.new }
     {
         if self.awake <= at && at < self.row.len() {
-            self.row.set_waits(at, Waits::Next);
-            let first = self.awake;
-            self.row.swap(at, first);
-            self.awake = first + 1;
+            self.wake_waiting(at);
         }
+    }
+
+    /// Wakes a waiting guest that sleeps.
+    fn wake_waiting(&mut self, at: usize)
+        requires { SleepsAt at self.old }
+        ensures { self.new ≡ woken at self.old }
+    {
+        let place = self.awake;
+        self.wake_at(at);
+        self.row.set_waits(place, Waits::Next);
     }
 
     /// Returns whether a waiting guest finds room, and promises the room to it.

@@ -182,8 +182,7 @@ impl<L: Link + Drop> Row<L> {
         ensures all { length self.new.guests ≡ length self.old.guests }
         ensures numbers { self.new.numbers ≡ self.old.numbers }
     {
-        let (front, _) = self.guests.as_mut_slice().split_at_mut(count);
-        round_within(alloc, front, store, now, budget);
+        visit_front_of(alloc, self.guests.as_mut_slice(), count, store, now, budget);
     }
 
     /// Swaps two guests, and does nothing if they are the same.
@@ -198,6 +197,26 @@ impl<L: Link + Drop> Row<L> {
         self.guests.as_mut_slice().swap(one, other);
         self.numbers.swap(one, other);
     }
+}
+
+/// Visits each of the first `count` guests once, within the budget.
+fn visit_front_of<L: Link + Drop, S: Steps>(
+    alloc: Global,
+    guests: &mut [Weighed<L>],
+    count: usize,
+    store: &mut S,
+    now: Moment,
+    budget: &mut Budget,
+)
+    requires { count ≤ length guests.old }
+    ensures round { MakesRound S.Steps now store.old store.new }
+    ensures turns { HaveTurns S.Steps now (take count guests.old) (take count guests.new) store.old
+        store.new }
+    ensures rest { drop count guests.new ≡ drop count guests.old }
+    ensures all { length guests.new ≡ length guests.old }
+{
+    let (front, _) = guests.split_at_mut(count);
+    round_within(alloc, front, store, now, budget);
 }
 
 /// Appends a guest that holds nothing, and returns whether memory was there.

@@ -24,6 +24,14 @@ some_stand numbers later number more =
     let long : length later ≡ length numbers + 1 = ap length more ∙ length-append numbers (number ∷ []) in
     omega (arith, long)
 
+pub invariant_of-self : goal.invariant_of-self
+invariant_of-self g c = ap length (c.if-not-push.ensures.refused refl) ∙ c.self.invariant
+
+pub returns-then-not-push-clause-refused : goal.returns-then-not-push-clause-refused
+returns-then-not-push-clause-refused g c = λ _.
+    (λ i. record { guests = c.self.inside.guests.items; numbers = c.if-not-push.ensures.refused refl i })
+    ∙ c.self.view_is
+
 pub invariant_of-self-then-push_behind : goal.invariant_of-self-then-push_behind
 invariant_of-self-then-push_behind g c =
     longer c.self.inside.numbers c.push.new.self c.self.inside.guests.items c.push_behind.new.guests.items c.args.number c.args.guest c.self.invariant
