@@ -1,6 +1,6 @@
 //! One session over streams in memory, by the clock of a command line, and how it ends.
 
-use crate::settings::ONE;
+use crate::settings::one_page;
 use mc_hop::Fnv;
 use mc_host::{AskedClock, End};
 use mc_options::{Asked, Endpoints, Options};
@@ -45,7 +45,7 @@ fn served(
         verbose: false,
     };
     let endpoints = Endpoints::new(alloc, &[], None)?;
-    let options = Options::new(asked, ONE, endpoints);
+    let options = Options::new(asked, one_page(), endpoints);
     let clock = AskedClock {
         asked: options.now,
         system: Fixed(Moment::from_seconds_at_most(SYSTEM)),

@@ -1,8 +1,15 @@
+//! The store of these tests.
+ghost use Rattle.std.specs.Prelude.{◌≡◌};
+
 use mc_shelf::Settings;
 
-/// A store of one page.
-pub(crate) const ONE: Settings = Settings {
-    pages: 1,
-    greatest: Settings::GREATEST,
-    shelves: 64,
-};
+/// Returns the settings of a store of one page and 64 shelves.
+pub(crate) fn one_page() -> Settings
+    ensures { result.pages ≡ 1 }
+{
+    Settings {
+        pages: 1,
+        greatest: Settings::GREATEST,
+        shelves: 64,
+    }
+}

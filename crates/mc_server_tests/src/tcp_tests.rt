@@ -1,6 +1,6 @@
 //! A session over TCP on 127.0.0.1, with both ends in this process.
 
-use crate::settings::ONE;
+use crate::settings::one_page;
 use mc_hop::Fnv;
 use mc_host::bind_listener;
 use mc_metrics::Counts;
@@ -39,7 +39,7 @@ where
     let stream = Stream::from_std(stream);
     arrivals.deal(rt, Connection::new(crowd, stream, peer), 0);
     arrivals.end();
-    let (shared, caller) = Shared::new(alloc, ONE, Fnv)?;
+    let (shared, caller) = Shared::new(alloc, one_page(), Fnv)?;
     let events = Events::with_capacity(alloc, EVENTS)?;
     let counts = Arc::new(alloc, Counts::new())?;
     let links = SocketLinks::new(rt, alloc, &arrivals, Share::new(0), poll, events, counts);
