@@ -12,12 +12,13 @@ from tests.lib.peer import Peer, clients
 from tests.lib.server import Server
 from tests.lib.wait import until
 
-# An honest request is answered in so many seconds, but for one in a hundred.
-SOON, SHARE = 1, 100
+# An honest request is answered in so many seconds, but for one in a hundred. On a machine that is busy it may take so many times what
+# the slowest takes while nobody else is there.
+SOON, SHARE, BUSY = 1, 100, 3
 # What honest clients set and get, in turn.
 LENGTHS = [1, 100, 20_000, 200_000, 1_000_000]
 # How many there are, and for how long they ask.
-HONEST, SECONDS = 6, 12
+HONEST, SECONDS, CALM = 6, 12, 2
 # How many slow readers there are, how many bytes a second each reads, and how many fast ones are beside them.
 SLOW, PACE, FAST = 100, 400_000, 20
 # For so long a server stands still, while so many send a block.
@@ -29,16 +30,16 @@ HELD = 64 * MB
 class Honest(threading.Thread):
     """A client that sets and gets blocks of all lengths, and notes how long each took."""
 
-    def __init__(self, port, name, lengths):
+    def __init__(self, port, name, seconds):
         super().__init__(daemon=True)
-        self.port, self.key, self.lengths, self.times, self.fault = port, b"honest%d" % name, lengths, [], None
+        self.port, self.key, self.seconds, self.times, self.fault = port, b"honest%d" % name, seconds, [], None
 
     def run(self):
         try:
-            end = time.monotonic() + SECONDS
+            end = time.monotonic() + self.seconds
             with Peer(self.port, 3 * SECONDS) as peer:
                 while time.monotonic() < end:
-                    for length in self.lengths:
+                    for length in LENGTHS:
                         self.turn(peer, length)
         except (OSError, AssertionError) as error:
             self.fault = error
@@ -60,9 +61,9 @@ class Drips(threading.Thread):
 
     PERIODS = [1, 3, 10]
 
-    def __init__(self, port, count, length, first=0):
+    def __init__(self, port, count, length):
         super().__init__(daemon=True)
-        self.port, self.line, self.over, self.closed = port, b"set drip 0 0 %d\r\n" % length + b"d" * first, threading.Event(), 0
+        self.port, self.line, self.over, self.closed = port, b"set drip 0 0 %d\r\n" % length, threading.Event(), 0
         self.links = [self.begin(at) for at in range(count)]
 
     def begin(self, at):
@@ -155,51 +156,63 @@ def readers(paces, port, answer, seconds):
 
 
 class Waiting(ProgramCase):
-    def honest_are_answered(self, server, lengths=LENGTHS):
-        """Fails unless honest requests are answered soon, but for one in a hundred, and none wrong or refused."""
-        asking = [Honest(server.port, name, lengths) for name in range(HONEST)]
+    def times(self, server, seconds):
+        """How long each request of honest clients takes, in order, none of which is answered wrong or refused."""
+        asking = [Honest(server.port, name, seconds) for name in range(HONEST)]
         for it in asking:
             it.start()
         for it in asking:
             it.join(5 * SECONDS)
         self.assertEqual([it.fault for it in asking], [None] * HONEST)
-        times = sorted(time for it in asking for time in it.times)
-        late = [it for it in times if it > SOON]
-        print(f"    {len(times)} requests, {len(late)} of them after more than {SOON} s, the last after {times[-1]:.2f} s")
+        return sorted(time for it in asking for time in it.times)
+
+    def calm(self, server):
+        """So soon an honest request is answered beside others, by what the slowest takes while no others are there."""
+        return max(SOON, BUSY * self.times(server, CALM)[-1])
+
+    def honest_are_answered(self, server, soon):
+        """Fails unless honest requests are answered so soon, but for one in a hundred."""
+        times = self.times(server, SECONDS)
+        late = [it for it in times if it > soon]
+        print(f"    {len(times)} requests, {len(late)} of them after more than {soon:.1f} s, the last after {times[-1]:.2f} s")
         self.assertGreaterEqual(len(times), 20 * HONEST)
         self.assertLessEqual(len(late), len(times) // SHARE, f"late ones: {late[-5:]}")
 
     def test_a_byte_now_and_then(self):
         """Sixty clients begin a block of 1 MB and send a byte each 1, 3 or 10 seconds."""
         with Server() as server:
-            before = server.memory()
+            soon, before = self.calm(server), server.memory()
             with Drips(server.port, 60, 1_000_000):
-                self.honest_are_answered(server)
+                self.honest_are_answered(server, soon)
                 costs(server, before, HELD + LITTLE)
 
     def test_a_byte_of_8_mb_now_and_then(self):
         """Eight clients begin a block of 8 MB so."""
-        with Server(args=["-I", "8m"]) as server, Drips(server.port, 8, 8_000_000):
-            self.honest_are_answered(server)
+        with Server(args=["-I", "8m"]) as server:
+            soon = self.calm(server)
+            with Drips(server.port, 8, 8_000_000):
+                self.honest_are_answered(server, soon)
 
     def test_clients_that_time_out(self):
         """Beside those clients that drip, others give up after half a second, and come again."""
-        with Server() as server, Drips(server.port, 60, 1_000_000) as drips:
+        asked = [b"get large\r\n" * 3, b"set half 0 0 1000000\r\n" + b"h" * 900_000, b"set half 0 0 1000000\r\n"]
+        with Server() as server:
+            soon = self.calm(server)
             with Peer(server.port) as peer:
                 peer.asks(b"set large 0 0 1000000\r\n%s\r\n" % (b"l" * 1_000_000), b"STORED\r\n")
-            asked = [b"get large\r\n" * 3, b"set half 0 0 1000000\r\n" + b"h" * 900_000, b"set half 0 0 1000000\r\n"]
-            come = [TimesOut(server.port, asked[at % 3]) for at in range(30)]
-            for it in come:
-                it.start()
-            try:
-                self.honest_are_answered(server)
-                living = len(drips.links) + len(come)
-                self.assertTrue(until(lambda: server.connections() <= living + 10, 2), f"{server.connections()} connections of {living} clients")
-            finally:
+            with Drips(server.port, 60, 1_000_000) as drips:
+                come = [TimesOut(server.port, asked[at % 3]) for at in range(30)]
                 for it in come:
-                    it.over.set()
-                for it in come:
-                    it.join(2)
+                    it.start()
+                try:
+                    self.honest_are_answered(server, soon)
+                    living = len(drips.links) + len(come)
+                    self.assertTrue(until(lambda: server.connections() <= living + 10, 2), f"{server.connections()} connections of {living} clients")
+                finally:
+                    for it in come:
+                        it.over.set()
+                    for it in come:
+                        it.join(2)
             self.assertGreater(min(it.came for it in come), 3)
 
     def test_slow_readers(self):

@@ -7,7 +7,7 @@ use Rattle.std.proofs.lemmas.List.Edits.{length-swap}
 use Rattle.mc_guests.specs.Guests.{has_ended}
 use Rattle.mc_guests.specs.Books.{RowState, BooksState, HasNumber, SleepsAt, Wakes, WakesOne, WakesNone, woken, put_behind, let_gone, LetsGo}
 use Rattle.mc_guests.specs.Books.{is_over, IsFateOf, StaysOrSleeps, Settles, SettlesFrom, none, and_one, swapped, cut}
-use Rattle.mc_guests.specs.Books.{MayWake, WakesSome, wakes_nobody, wakes_another}
+use Rattle.mc_guests.specs.Books.{MayWake, WakesSome, none_woke, one_woke}
 use Rattle.mc_guests.specs.declared.guests.Fate.{Fate}
 use Rattle.mc_guests.specs.declared.guests.WorkEnd.{WorkEnd}
 
@@ -123,8 +123,8 @@ settles_more at old mid new before between after some front one =
 
 -- some woke, and then others
 pub wakes_join : (old mid new : BooksState) → WakesSome old mid → WakesSome mid new → WakesSome old new
-wakes_join old mid _ first wakes_nobody = first
-wakes_join old mid new first (wakes_another later last) = wakes_another (wakes_join old mid _ first later) last
+wakes_join old mid _ first none_woke = first
+wakes_join old mid new first (one_woke later last) = one_woke (wakes_join old mid _ first later) last
 
 -- one that slept woke
 pub wakes_one : (at : ℕ) (old new : BooksState) → SleepsAt at old → new ≡ woken at old → MayWake old new

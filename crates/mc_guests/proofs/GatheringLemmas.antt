@@ -2,7 +2,7 @@
 use Rattle.std.proofs.Common.{◌≡◌, ℕ, Bool, false, ◌<◌, ◌≤◌, ◌+◌, ◌-◌, List, [], ◌++◌, length, take, drop, refl, sym, ap, ◌∙◌, subst, arith, append_assoc, append-nil, Option, Result, Ok, Err}
 use Rattle.std.proofs.lemmas.List.{length-append, take-append-drop, take-append-le}
 use Rattle.std.proofs.Math.Seq.{take-append-add}
-use Rattle.mc_guests.specs.Links.{LinkState, asked, grown, took, failed, IsWrite, Pauses}
+use Rattle.mc_guests.specs.Links.{LinkState, asked, grown, took, failed, IsWrite}
 use Rattle.mc_guests.specs.Gathered.{GatheringState, whole, turned, IsFront, HandsOn, FailsBelow, Flushes, Gathers}
 use Rattle.mc_guests.proofs.LinkLemmas.{grown_nothing, grown_twice}
 use Rattle.mc_guests.specs.declared.link.Took.{Took}
@@ -133,9 +133,3 @@ gathers_takes old new bytes (Ok (TookBytes n)) gathers = (
 )
 gathers_takes old new bytes (Ok TookNone) gathers = hands_on_same (turned false old) new gathers
 gathers_takes old new bytes (Err fault) gathers = fails_same (turned false old) new gathers
-
--- a pause of the link below, once what is gathered was handed on as far as may be
-pub pauses_below : {A : Type 0} (old mid : GatheringState) (later : LinkState) (result : Result A LinkFault) → HandsOn old.gathered old mid
-    → Pauses mid.link result later → Pauses (whole old) result (whole (record mid { link = later }))
-pauses_below old mid later (Ok done) hands stays = ap (λ (l : LinkState). whole (record mid { link = l })) stays ∙ hands_on_same old mid hands
-pauses_below old mid later (Err fault) hands fails = ap (λ (l : LinkState). whole (record mid { link = l })) fails ∙ ap failed (hands_on_same old mid hands)

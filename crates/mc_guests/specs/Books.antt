@@ -167,8 +167,8 @@ MayWake old new = (new ≡ old) ⊎ ((at : ℕ) × SleepsAt at old × (new ≡ w
 
 -- some that slept may have been woken, one after another
 pub data WakesSome : (old new : BooksState) → Type 0 where
-  wakes_nobody : {books : BooksState} → WakesSome books books
-  wakes_another : {old mid new : BooksState} → WakesSome old mid → MayWake mid new → WakesSome old new
+  none_woke : {books : BooksState} → WakesSome books books
+  one_woke : {old mid new : BooksState} → WakesSome old mid → MayWake mid new → WakesSome old new
 
 -- whether one may be tried again is seen anew, and then some that slept may have been woken
 pub record LetsOn (old new : BooksState) : Type 0 where

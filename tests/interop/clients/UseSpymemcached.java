@@ -23,6 +23,8 @@ import net.spy.memcached.ConnectionFactoryBuilder;
 import net.spy.memcached.MemcachedClient;
 
 public class UseSpymemcached {
+    // It is kept, as a logger that nobody holds is forgotten with its level.
+    static final Logger LOG = Logger.getLogger("net.spy");
     static int passed, failed;
 
     // Says what the checks that follow are about.
@@ -105,7 +107,7 @@ public class UseSpymemcached {
     }
 
     public static void main(String[] words) throws Exception {
-        Logger.getLogger("net.spy").setLevel(Level.OFF);
+        LOG.setLevel(Level.OFF);
         System.setProperty("net.spy.log.LoggerImpl", "net.spy.memcached.compat.log.SunLogger");
         int port = Integer.parseInt(words[0]), silent = Integer.parseInt(words[1]), control = Integer.parseInt(words[2]);
         boolean isMemcached = "memcached".equals(System.getenv("SERVER"));
