@@ -261,6 +261,7 @@ class Kept(ProgramCase):
                 for it in holders:
                     it.socket.setblocking(False)
                     self.send_some(it, b"set held 0 0 1000000\r\n" + b"h" * 900_000)
+                self.assertTrue(until(lambda: server.connections() == len(holders), 2), f"{server.connections()} connections")
                 yield server
 
     def send_some(self, peer, data):
@@ -284,8 +285,8 @@ class Kept(ProgramCase):
             before = server.connections()
             peer = Peer(server.port)
             peer.send(b"get large\r\n")
+            self.assertTrue(until(lambda: server.connections() == before + 1, 2), f"{server.connections()} connections")
             time.sleep(0.3)
-            self.assertEqual(server.connections(), before + 1)
             peer.reset()
             self.assertTrue(until(lambda: server.connections() <= before, 1), "it is there")
 

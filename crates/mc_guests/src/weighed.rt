@@ -25,6 +25,9 @@ const IDLE: usize = 6144;
 /// The bytes that a guest reserves before it asks for the whole room of a large block.
 const BEGUN: usize = 32_768;
 
+/// A session makes all room of a block once one of these parts has come, so a guest asks before.
+const PARTS: usize = 16;
+
 /// The ticks after which others wait for a waiting guest.
 const LONG: u64 = 8;
 
@@ -316,7 +319,7 @@ impl<L: Link + Drop> Weighed<L> {
 /// Returns the bytes that a guest wants for a large block: none while few are reserved, or once
 /// there is room for all of it.
 fn missing_of(announced: usize, reserved: usize) -> usize {
-    if reserved < BEGUN || announced <= reserved {
+    if reserved < BEGUN.min(announced / PARTS) || announced <= reserved {
         0
     } else {
         announced

@@ -18,7 +18,7 @@ const GREATEST: u64 = 16_777_216;
 const ROUNDS: u64 = 1000;
 
 /// The bytes of a block that arrive: enough that room for all of it is wanted.
-const BEGUN: usize = 40_000;
+const BEGUN: usize = 30_000;
 
 // Lines that announce a block, named by their length with the block. At most its first bytes
 // arrive.
