@@ -1,11 +1,9 @@
-//! What a scrape reads of a store, of connections and of workers, and what a worker counts.
+//! What a scrape reads of a store, of connections and of workers.
 
-use mc_guests::{Outcome, Tally};
 use mc_metrics::{Counted, Counts, TablesReading, number_at};
-use mc_protocol::{Bytes, KeyStep, Verb};
 use mc_slab::{Account, Class};
-use mc_sockets::{Crowd, Log, PARTINGS, Refusals, Wanted};
-use mc_telemetry::{Observer, StoreStats, WorkerTally};
+use mc_sockets::{Crowd, PARTINGS};
+use mc_telemetry::{Observer, StoreStats};
 use std::sync::{Arc, Wait};
 use std::test::*;
 
@@ -80,31 +78,5 @@ fn a_scrape_has_the_classes_with_a_page(rt: HostRuntime) -> Result<(), Fail> {
     assert!(rt; (slab.number, slab.size, slab.pages) == (3, 152, 2));
     // 6898 chunks a page
     assert!(rt; (slab.chunks, slab.used, slab.free) == (13_796, 5, 13_791));
-    Ok(())
-}
-
-#[test]
-fn a_step_raises_one_counter(rt: HostRuntime) -> Result<(), Fail> {
-    let counts = Counts::new();
-    let log = Log::new(&rt, rt.alloc(), false)?;
-    let tally = WorkerTally {
-        counts: &counts,
-        refusals: Refusals::new(&log),
-    };
-    let step = KeyStep::Store {
-        verb: Verb::Set,
-        key: Bytes::of(b"key"),
-        flags: 0,
-        exptime: 0,
-        block: Bytes::of(b"block"),
-    };
-    tally.took(&step, Outcome::Stored);
-    tally.took(&step, Outcome::Stored);
-    assert!(rt; log.take_wanted().is_none());
-    tally.took(&step, Outcome::NoChunk);
-    assert!(rt; counts.at(Counted::SetStored.place()) == 2);
-    assert!(rt; counts.at(Counted::Refused.place()) == 1);
-    // 48 bytes of an item's head, 3 of its key, 5 of its block
-    assert!(rt; log.take_wanted() == Some(Wanted::Size(56)));
     Ok(())
 }
