@@ -246,8 +246,9 @@ impl Arrivals {
     /// Asks the acceptors to stop, and returns whether it did. If none can be woken, nothing
     /// changes.
     pub fn ask_to_close(&self) -> bool {
-        self.turn(OPEN, ASKED);
-        self.wake_acceptors() || !self.turn(ASKED, OPEN)
+        let is_first = self.turn(OPEN, ASKED);
+        // a listener that was shut down before can't be again, and its thread is awake
+        self.wake_acceptors() || !is_first || !self.turn(ASKED, OPEN)
     }
 
     /// Returns whether the acceptors are asked to stop; each calls it after every connection.
