@@ -58,7 +58,8 @@ impl MetricsServer {
             let may_come = self.accept_some(rt);
             let may_go_on = self.go_on_all(rt, arrivals, stats);
             if !may_come && !may_go_on {
-                self.door.wait(rt, self.rest(arrivals));
+                let rest = self.rest(arrivals);
+                self.door.wait(rt, rest);
             }
         }
     }
