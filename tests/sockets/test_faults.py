@@ -209,10 +209,10 @@ class Warned(ProgramCase):
         descriptor, memory = "as no descriptor is left (ulimit -n)", "as the system has no memory for it"
         for error, text in [*((it, descriptor) for it in NO_DESCRIPTOR), *((it, memory) for it in NO_MEMORY)]:
             with self.subTest(errno.errorcode[error]), Faults() as faults, StillServer(faults=faults) as server:
-                faults.fail("accept4", [error], left=20)
+                faults.fail("accept4", [error], left=3)
                 self.assertTrue(answers(HOST, server.port, ANSWERED), "a newcomer isn't answered")
                 self.assertTrue(until(lambda: text in server.said(), ANSWERED), server.said())
-                faults.fail("accept4", [error], left=20)
+                faults.fail("accept4", [error], left=3)
                 answers(HOST, server.port, ANSWERED)
                 time.sleep(0.2)
                 self.assertEqual(1, server.said().count(text), server.said())
