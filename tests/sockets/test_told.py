@@ -71,8 +71,11 @@ class Told(ProgramCase):
 
     def test_one_more_than_there_may_be(self):
         with self.started("-v", "-c", "1") as started, self.connected(), self.connected():
-            lines = [started.line() for _ in range(3)]
-        self.assertEqual(b"mcserver: connection 2 closed: one more than -c allows\n", lines[2])
+            opened = [started.line() for _ in range(2)]
+            lines = {started.line() for _ in range(2)}
+        self.assertRegex(opened[1], b"connection 2 from .* opened")
+        refused = b"mcserver: warning: a connection was refused, as -c allows no more (reported once a minute)\n"
+        self.assertEqual({refused, b"mcserver: connection 2 closed: one more than -c allows\n"}, lines)
 
     def test_a_listener_that_fails(self):
         """All connections end, each is told of, and the last line says why the program ends."""
