@@ -243,6 +243,9 @@ impl<L: Link + Drop> Guests<L> {
     {
         if self.awake <= at && at < self.row.len() {
             self.wake_waiting(at);
+        } else {
+            // an event woke it before: it is out of the queue, so its turn comes now
+            self.row.set_waits(at, Waits::Next);
         }
     }
 
