@@ -22,40 +22,44 @@ class Clock(ProgramCase):
         peer.send(b"".join(setting(name, at, exptime) for at in range(ITEMS)))
         peer.is_told(b"STORED\r\n" * ITEMS)
 
-    def alive(self, peer, name):
+    def alive(self, peer, name, items=range(ITEMS)):
         """How many of the items are hits."""
-        peer.send(b"get " + b" ".join(b"%s%d" % (name, at) for at in range(ITEMS)) + b"\r\n")
+        peer.send(b"get " + b" ".join(b"%s%d" % (name, at) for at in items) + b"\r\n")
         return peer.upto(b"END\r\n").count(b"VALUE ")
+
+    def is_dead(self, peer, name):
+        """Waits until the first of the items is dead. The others aren't read, since a dead item that is read is dropped."""
+        return until(lambda: self.alive(peer, name, [0]) == 0, SOON)
 
     def test_set_back(self):
         """By an hour, and at once by a day more: nothing that was dead is alive for any worker, and what lives stays so."""
         with Faults() as faults, Server(workers=4, faults=faults) as server, clients(server.port, 8) as peers:
             first = peers[0]
             self.store(first, b"flushed", 0)
-            time.sleep(2)  # (a flush of this second kills what was stored before it)
-            first.asks(b"flush_all\r\n", b"OK\r\n")
+            first.asks(b"flush_all 1\r\n", b"OK\r\n")
+            self.assertTrue(self.is_dead(first, b"flushed"), "a flushed item is alive")
             self.store(first, b"short", 1)
-            self.store(first, b"long", 2 * HOUR)
+            self.store(first, b"long", 30 * HOUR)
             first.asks(b"set unix 0 %d 1\r\nx\r\n" % (int(time.time()) + HOUR), b"STORED\r\n")
-            self.assertTrue(until(lambda: self.alive(first, b"short") == 0, SOON), "items of one second are alive")
+            self.assertTrue(self.is_dead(first, b"short"), "an item of one second is alive")
             for back in (HOUR, 25 * HOUR):
                 faults.set_clock_back(back)
-                time.sleep(1.2)  # (each worker has looked at the clock since)
+                time.sleep(0.6)  # (each worker has looked at the clock since)
                 for peer in peers:
                     self.assertEqual(0, self.alive(peer, b"flushed"), f"flushed items that are hits, {back} s back")
                     self.assertEqual(0, self.alive(peer, b"short"), f"expired items that are hits, {back} s back")
                     self.assertEqual(ITEMS, self.alive(peer, b"long"), f"items that live, {back} s back")
+                    peer.asks(b"get unix\r\n", b"VALUE unix 0 1\r\nx\r\nEND\r\n")
 
     def test_goes_on(self):
         """While the system's clock is behind, what is stored expires after as long as it was given."""
         with Faults() as faults, Server(faults=faults) as server, Peer(server.port) as peer:
-            peer.asks(b"version\r\n", b"VERSION ")
-            peer.upto(b"\r\n")
+            peer.asks(b"get a\r\n", b"END\r\n")
             faults.set_clock_back(HOUR)
             self.store(peer, b"brief", 3)
             stored = time.monotonic()
             self.assertEqual(ITEMS, self.alive(peer, b"brief"), "items that were just stored")
-            self.assertTrue(until(lambda: self.alive(peer, b"brief") == 0, SOON), "items of 3 seconds don't expire")
+            self.assertTrue(self.is_dead(peer, b"brief"), "items of 3 seconds don't expire")
             self.assertGreater(time.monotonic() - stored, 1.5, "seconds that items of 3 seconds lived")
 
     def test_set_forward(self):
@@ -63,7 +67,7 @@ class Clock(ProgramCase):
         with Faults() as faults, Server(faults=faults) as server, Peer(server.port) as peer:
             self.store(peer, b"hour", HOUR)
             faults.set_clock_back(-HOUR - 10)
-            self.assertTrue(until(lambda: self.alive(peer, b"hour") == 0, SOON), "items of an hour are alive, an hour later")
+            self.assertTrue(self.is_dead(peer, b"hour"), "an item of an hour is alive, an hour later")
             faults.set_clock_back(0)
-            time.sleep(1.2)
+            time.sleep(0.6)
             self.assertEqual(0, self.alive(peer, b"hour"), "items that were dead are hits")
