@@ -86,6 +86,7 @@ def options_of(numbers):
 def workloads():
     deep, zipf = ["--depth", "32"], ["--zipf", "0.99", "--gets", "90"]
     kilo = {"keys": 10_000, "value": 10_000}
+    kilos = {size: {"keys": 100_000 // size, "value": size * 1000, "connections": 16} for size in (100, 400)}
     mega = {"keys": 100, "value": 1_000_000, "connections": 8}
     megas = {size: {"keys": 200 // size, "value": size * 1_000_000, "connections": 8, "args": ["-I", "8m"]} for size in (4, 8)}
     nothing, hundred = ["--nothing", "--first-key", "1000000000"], ["--keys-a-get", "100"]
@@ -97,9 +98,11 @@ def workloads():
         Workload("get-100-keys", "get of 100 keys", "get", hundred),
         Workload("get-10k", "get of 10 KB", "get", **kilo),
         Workload("set-10k", "set of 10 KB", "set", **kilo),
+        *[Workload(f"{verb}-{size}k", f"{verb} of {size} KB", verb, **it) for size, it in kilos.items() for verb in ("get", "set")],
         Workload("get-1m", "get of 1 MB", "get", **mega),
         Workload("set-1m", "set of 1 MB", "set", **mega),
         *[Workload(f"{verb}-{size}m", f"{verb} of {size} MB", verb, **it) for size, it in megas.items() for verb in ("get", "set")],
+        Workload("get-100-keys-full", "get of 100 keys, of 1,000,000 items", "get", hundred, keys=1_000_000),
         Workload("nothing-32", "get of nothing, 32 deep, of 1,000 items", "get", [*nothing, *deep], keys=1000),
         Workload("nothing-100-keys", "get of 100 keys, all of nothing, of 1,000 items", "get", [*nothing, *hundred], keys=1000),
         Workload("nothing-full-32", "get of nothing, 32 deep, of 1,000,000 items", "get", [*nothing, *deep], keys=1_000_000),
