@@ -66,8 +66,9 @@ module _ (session between : SessionState) (link later : LinkState) (last : Optio
   waits_here : IsWaiting session
   waits_here = subst (λ (g : GuestState). IsWaiting g.session) (sym is) waits
 
-  pub reads_piece : later ≡ gave (asked true link) piece → ReadsPiece old (guest_of between later last)
-  reads_piece given = subst (λ (g : GuestState). ReadsPiece g (guest_of between later last)) is (record { piece = piece; waits = waits_here; session = came.0; link = given })
+  pub reads_piece : 0 < length piece → later ≡ gave (asked true link) piece → ReadsPiece old (guest_of between later last)
+  reads_piece some given =
+      subst (λ (g : GuestState). ReadsPiece g (guest_of between later last)) is (record { piece = piece; some = some; waits = waits_here; session = came.0; link = given })
 
   pub reads_later : piece ≡ [] → later ≡ asked true link → WaitsForLink old (guest_of between later last)
   reads_later none same = subst (λ (g : GuestState). WaitsForLink g (guest_of between later last)) is (record { awaits = inr waits_here; session = came.1 none; link = same })

@@ -15,14 +15,15 @@ pub record WritesFront (old new : GuestState) : Type 0 where
   pub session : new.session ≡ record old.session { out = new.session.out }
   pub link : new.link ≡ took (asked false old.link) part
 
--- the link gave a piece, which was fed
+-- the link gave a piece of at least one byte, which was fed
 pub record ReadsPiece (old new : GuestState) : Type 0 where
   pub piece : List ℕ
+  pub some : 0 < length piece
   pub waits : IsWaiting old.session
   pub session : new.session ≡ fed old.session piece
   pub link : new.link ≡ gave (asked true old.link) piece
 
--- nothing can be done now, as the link said when it was asked
+-- nothing can be done now, as the link said when it was asked; a call that moved no byte says so
 pub record WaitsForLink (old new : GuestState) : Type 0 where
   pub awaits : AwaitsLink old.session
   pub session : new.session ≡ old.session
