@@ -7,21 +7,22 @@ use Rattle.std.proofs.lemmas.Grind.{drop_more_same}
 use Rattle.mc_protocol.specs.declared.step.Steps.{Ghosts as Relations}
 use Rattle.std.proofs.lemmas.List.{take-append-drop, length-take-le, append-nil}
 use Rattle.mc_session.specs.Turns.{SessionState, DecidesStep, TurnIsDue, FedPiece, sent, closed}
-use Rattle.mc_guests.specs.Links.{LinkState, asked, grown, gave, took, failed, ended}
+use Rattle.mc_guests.specs.Links.{LinkState, IsRoom, asked, grown, gave, took, failed, ended}
 use Rattle.mc_guests.specs.Guests.{GuestState, IsWaiting}
 use Rattle.mc_guests.specs.Visits.{WritesFront, ReadsPiece, WaitsForLink, EndsServed, EndsBroken, RefusesPiece, RefusesTurn, Reads, Does, Visited, GoesRound, next}
 use Rattle.mc_guests.specs.declared.guest.Visit.{Visit}
 use Rattle.mc_guests.specs.declared.guest.Visit.TheVariants.{Wrote, Turned, Read, Later, Served, Broken, Refused}
 
 pub writes_front : (old new : GuestState) (n : ℕ) (bytes : List ℕ) → bytes ≡ old.session.out → 0 < n → n ≤ length bytes
-    → new.session ≡ sent old.session n → new.link ≡ took (asked false old.link) (take n bytes) → WritesFront old new
-writes_front old new n bytes is some low s l = record {
+    → new.session ≡ sent old.session n → new.link ≡ took (asked false new.link.requested old.link) (take n bytes)
+    → new.link.requested ≡ length bytes → WritesFront old new
+writes_front old new n bytes is some low s l offered = record {
   part = take n bytes;
   some = let e = length-take-le n bytes low in subst (λ k. 0 < k) (sym e) some;
   parts = subst (λ (t : SessionState). old.session.out ≡ take n bytes ++ t.out) (sym s)
       (subst (λ (b : List ℕ). old.session.out ≡ take n b ++ drop n old.session.out) (sym is) (sym (take-append-drop n old.session.out)));
   session = subst (λ (t : SessionState). t ≡ record old.session { out = t.out }) (sym s) refl;
-  link = l;
+  link = l ∙ ap (λ (k : ℕ). took (asked false k old.link) (take n bytes)) (offered ∙ ap length is);
 }
 
 pub round_more : {S : Type 0} (relations : Relations S) (now : ℕ) (olds news : List GuestState) (i : ℕ)
@@ -66,25 +67,30 @@ module _ (session between : SessionState) (link later : LinkState) (last : Optio
   waits_here : IsWaiting session
   waits_here = subst (λ (g : GuestState). IsWaiting g.session) (sym is) waits
 
-  pub reads_piece : 0 < length piece → later ≡ gave (asked true link) piece → ReadsPiece old (guest_of between later last)
-  reads_piece some given =
-      subst (λ (g : GuestState). ReadsPiece g (guest_of between later last)) is (record { piece = piece; some = some; waits = waits_here; session = came.0; link = given })
+  pub reads_piece : 0 < length piece → later ≡ gave (asked true later.requested link) piece → IsRoom later.requested → ReadsPiece old (guest_of between later last)
+  reads_piece some given room =
+      subst (λ (g : GuestState). ReadsPiece g (guest_of between later last)) is
+      (record { piece = piece; some = some; waits = waits_here; session = came.0; link = given; room = room })
 
-  pub reads_later : piece ≡ [] → later ≡ asked true link → WaitsForLink old (guest_of between later last)
-  reads_later none same = subst (λ (g : GuestState). WaitsForLink g (guest_of between later last)) is (record { awaits = inr waits_here; session = came.1 none; link = same })
+  pub reads_later : piece ≡ [] → later ≡ asked true later.requested link → IsRoom later.requested → WaitsForLink old (guest_of between later last)
+  reads_later none same room =
+      subst (λ (g : GuestState). WaitsForLink g (guest_of between later last)) is
+      (record { awaits = inr waits_here; session = came.1 none; link = same; demand = room })
 
-  pub reads_nothing : 0 ≡ length piece → later ≡ gave (asked true link) piece → WaitsForLink old (guest_of between later last)
-  reads_nothing zero given =
+  pub reads_nothing : 0 ≡ length piece → later ≡ gave (asked true later.requested link) piece → IsRoom later.requested → WaitsForLink old (guest_of between later last)
+  reads_nothing zero given room =
       let none : piece ≡ [] = no_items piece zero in
-      reads_later none (given ∙ ap (gave (asked true link)) none ∙ gave_none (asked true link) link.given refl)
+      reads_later none (given ∙ ap (gave (asked true later.requested link)) none ∙ gave_none (asked true later.requested link) link.given refl) room
 
-  pub reads_end : (new : SessionState) → new ≡ closed between → piece ≡ [] → later ≡ ended (asked true link) → EndsServed old (guest_of new later last)
-  reads_end new shut none over = subst (λ (g : GuestState). EndsServed g (guest_of new later last)) is
-      (record { written = waits_here.written; session = shut ∙ ap closed (came.1 none); over = inr (waits_here, over) })
+  pub reads_end : (new : SessionState) → new ≡ closed between → piece ≡ [] → later ≡ ended (asked true later.requested link) → IsRoom later.requested
+      → EndsServed old (guest_of new later last)
+  reads_end new shut none over room = subst (λ (g : GuestState). EndsServed g (guest_of new later last)) is
+      (record { written = waits_here.written; session = shut ∙ ap closed (came.1 none); over = inr (waits_here, over, room) })
 
-  pub reads_fault : (new : SessionState) → new ≡ closed between → piece ≡ [] → later ≡ failed (asked true link) → EndsBroken old (guest_of new later last)
-  reads_fault new shut none fails = subst (λ (g : GuestState). EndsBroken g (guest_of new later last)) is
-      (record { awaits = inr waits_here; session = shut ∙ ap closed (came.1 none); link = fails })
+  pub reads_fault : (new : SessionState) → new ≡ closed between → piece ≡ [] → later ≡ failed (asked true later.requested link) → IsRoom later.requested
+      → EndsBroken old (guest_of new later last)
+  reads_fault new shut none fails room = subst (λ (g : GuestState). EndsBroken g (guest_of new later last)) is
+      (record { awaits = inr waits_here; session = shut ∙ ap closed (came.1 none); link = fails; demand = room })
 
 -- there was no memory for a read's room, and nothing was read
 pub refuses_room : (session between new : SessionState) (link later : LinkState) (last : Option Visit) (old : GuestState) → guest_of session link last ≡ old → IsWaiting old.session

@@ -7,26 +7,29 @@ use Rattle.mc_guests.specs.declared.link.Took.{Took}
 use Rattle.mc_guests.specs.declared.link.Took.TheVariants.{Bytes as TookBytes, Later as TookNone}
 use Rattle.mc_guests.specs.declared.link.LinkFault.{LinkFault}
 
--- a link, the bytes that are gathered for it, and whether it was last asked to give and not to take
+-- A link, the bytes that are gathered for it, whether it was last asked to give and not to take, and
+-- how many bytes.
 pub record GatheringState : Type 0 where
   pub link : LinkState
   pub gathered : List ℕ
   pub was_read : Bool
+  pub requested : ℕ
 
 -- a link, for which nothing is gathered
 abbrev pub over : LinkState → GatheringState
-over link = record { link = link; gathered = []; was_read = false }
+over link = record { link = link; gathered = []; was_read = false; requested = 0 }
 
 -- as a link it took what the link below took, and then what is gathered
 abbrev pub whole : GatheringState → LinkState
 whole state = record state.link {
   taken = grown state.link.taken state.gathered;
   was_read = state.was_read;
+  requested = state.requested;
 }
 
--- it was asked to give, or to take
-abbrev pub turned : Bool → GatheringState → GatheringState
-turned reads state = record state { was_read = reads }
+-- it was asked to give, or to take, that many bytes
+abbrev pub turned : Bool → (bytes : ℕ) → GatheringState → GatheringState
+turned reads bytes state = record state { was_read = reads; requested = bytes }
 
 -- these bytes are a front of those
 abbrev pub IsFront : List ℕ → List ℕ → Type 0
@@ -36,15 +39,17 @@ IsFront front bytes = (rest : List ℕ) × (bytes ≡ front ++ rest)
 pub record HandsOn (all : List ℕ) (old new : GatheringState) : Type 0 where
   pub part : List ℕ
   pub parts : all ≡ part ++ new.gathered
-  pub link : asked false new.link ≡ took (asked false old.link) part
+  pub link : asked false 0 new.link ≡ took (asked false 0 old.link) part
   pub was_read : new.was_read ≡ old.was_read
+  pub requested : new.requested ≡ old.requested
 
 -- the link below took a front of what was gathered, and then failed; the rest stays gathered
 pub record FailsBelow (old new : GatheringState) : Type 0 where
   pub part : List ℕ
   pub parts : old.gathered ≡ part ++ new.gathered
-  pub link : asked false new.link ≡ failed (took (asked false old.link) part)
+  pub link : asked false 0 new.link ≡ failed (took (asked false 0 old.link) part)
   pub was_read : new.was_read ≡ old.was_read
+  pub requested : new.requested ≡ old.requested
 
 -- what comes of handing on what is gathered
 abbrev pub Flushes : {A : Type 0} → GatheringState → Result A LinkFault → GatheringState → Type 0
@@ -65,8 +70,10 @@ AfterAll (Ok GaveNone) gathered = Unit {0}
 AfterAll (Ok End) gathered = gathered ≡ []
 AfterAll (Err fault) gathered = Unit {0}
 
--- what holds it up: the link below was last asked to take what is gathered, or to give if nothing
--- is
+-- what holds it up: the link below was last offered all that is gathered, or if nothing is, was lent
+-- the room
 pub record WaitsBelow (state : GatheringState) : Type 0 where
   pub takes : (state.gathered ≡ [] → ⊥) → state.link.was_read ≡ false
+  pub offers : length state.gathered ≤ state.link.requested
   pub gives : state.gathered ≡ [] → state.link.was_read ≡ true
+  pub lends : state.gathered ≡ [] → state.link.requested ≡ state.requested

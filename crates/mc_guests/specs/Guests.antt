@@ -1,8 +1,8 @@
 -- What contracts see of a guest.
 use mathlib.Core.Logic.{inl, inr}
-use Rattle.std.specs.Prelude.{◌≡◌, ◌⊎◌, ℕ, Bool, true, false, List, [], Option, Some, None, IsTrue}
+use Rattle.std.specs.Prelude.{◌≡◌, ◌⊎◌, ℕ, Bool, true, false, List, [], length, Option, Some, None, IsTrue}
 use Rattle.mc_session.specs.Turns.{SessionState, NoTurnDue, TurnIsDue, opened}
-use Rattle.mc_guests.specs.Links.{LinkState, grown}
+use Rattle.mc_guests.specs.Links.{LinkState, IsRoom, grown}
 use Rattle.mc_guests.specs.declared.guest.Visit.{Visit}
 use Rattle.mc_guests.specs.declared.guest.Visit.TheVariants.{Wrote, Turned, Read, Later, Served, Broken, Refused}
 
@@ -50,6 +50,11 @@ AwaitsLink session = (session.out ≡ [] → ⊥) ⊎ IsWaiting session
 abbrev pub wants : {session : SessionState} → AwaitsLink session → Bool
 wants (inl has_output) = false
 wants (inr is_waiting) = true
+
+-- how many bytes its link is asked for: it is offered all of the output, or is lent room
+abbrev pub IsDemand : (session : SessionState) → AwaitsLink session → (bytes : ℕ) → Type 0
+IsDemand session (inl has_output) bytes = bytes ≡ length session.out
+IsDemand session (inr is_waiting) bytes = IsRoom bytes
 
 -- the bytes that its link took, and those that wait for it
 abbrev pub told : GuestState → Option (List ℕ)

@@ -2,47 +2,51 @@
 use Rattle.std.specs.Prelude.{◌≡◌, ◌⊎◌, ◌<◌, ℕ, true, false, List, [], ◌∷◌, ◌++◌, length, Some, IsTrue, IsFalse}
 use Rattle.mc_protocol.specs.declared.step.Steps.{Ghosts as Relations}
 use Rattle.mc_session.specs.Turns.{TakesTurn, DecidesStep, closed, fed}
-use Rattle.mc_guests.specs.Links.{asked, gave, took, failed, ended}
-use Rattle.mc_guests.specs.Guests.{GuestState, ends, has_ended, IsTurnDue, IsWaiting, AwaitsLink, wants}
+use Rattle.mc_guests.specs.Links.{IsRoom, asked, gave, took, failed, ended}
+use Rattle.mc_guests.specs.Guests.{GuestState, ends, has_ended, IsTurnDue, IsWaiting, AwaitsLink, wants, IsDemand}
 use Rattle.mc_guests.specs.declared.guest.Visit.{Visit}
 use Rattle.mc_guests.specs.declared.guest.Visit.TheVariants.{Wrote, Turned, Read, Later, Served, Broken, Refused}
 
--- the link took a front of the output, which leaves it
+-- the link was offered all of the output and took a front of it, which leaves it
 pub record WritesFront (old new : GuestState) : Type 0 where
   pub part : List ℕ
   pub some : 0 < length part
   pub parts : old.session.out ≡ part ++ new.session.out
   pub session : new.session ≡ record old.session { out = new.session.out }
-  pub link : new.link ≡ took (asked false old.link) part
+  pub link : new.link ≡ took (asked false (length old.session.out) old.link) part
 
--- the link gave a piece of at least one byte, which was fed
+-- the link was lent room and gave a piece of at least one byte, which was fed
 pub record ReadsPiece (old new : GuestState) : Type 0 where
   pub piece : List ℕ
   pub some : 0 < length piece
   pub waits : IsWaiting old.session
   pub session : new.session ≡ fed old.session piece
-  pub link : new.link ≡ gave (asked true old.link) piece
+  pub link : new.link ≡ gave (asked true new.link.requested old.link) piece
+  pub room : IsRoom new.link.requested
 
 -- nothing can be done now, as the link said when it was asked; a call that moved no byte says so
 pub record WaitsForLink (old new : GuestState) : Type 0 where
   pub awaits : AwaitsLink old.session
   pub session : new.session ≡ old.session
-  pub link : new.link ≡ asked (wants awaits) old.link
+  pub link : new.link ≡ asked (wants awaits) new.link.requested old.link
+  pub demand : IsDemand old.session awaits new.link.requested
 
 -- all was written, and the session was closed or its stream is at its end
 pub record EndsServed (old new : GuestState) : Type 0 where
   pub written : old.session.out ≡ []
   pub session : new.session ≡ closed old.session
   pub over : (IsFalse old.session.is_open × (new.link ≡ old.link))
-      ⊎ (IsWaiting old.session × (new.link ≡ ended (asked true old.link)))
+      ⊎ (IsWaiting old.session × (new.link ≡ ended (asked true new.link.requested old.link))
+      × IsRoom new.link.requested)
 
 -- the link failed
 pub record EndsBroken (old new : GuestState) : Type 0 where
   pub awaits : AwaitsLink old.session
   pub session : new.session ≡ closed old.session
-  pub link : new.link ≡ failed (asked (wants awaits) old.link)
+  pub link : new.link ≡ failed (asked (wants awaits) new.link.requested old.link)
+  pub demand : IsDemand old.session awaits new.link.requested
 
--- there was no memory for a piece, and the link wasn't asked
+-- there was no memory for a piece, or no room of 1 to 16384 bytes, and the link wasn't asked
 pub record RefusesPiece (old new : GuestState) : Type 0 where
   pub waits : IsWaiting old.session
   pub session : new.session ≡ closed old.session

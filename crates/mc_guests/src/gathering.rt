@@ -4,7 +4,7 @@
 //! one send. A piece of 32 KiB or more is sent from where it lies, in one call with what was
 //! gathered. A connection with unsent output isn't read.
 ghost use Rattle.mc_parse.specs.Queues.{first_piece};
-ghost use Rattle.std.specs.Prelude.{◌≡◌, ◌≤◌, ◌↔◌, ◌-◌, ◌^◌, ◌++◌, [], Ok, IsTrue, IsFalse, true, false};
+ghost use Rattle.std.specs.Prelude.{◌≡◌, ◌≤◌, ◌↔◌, ◌-◌, ◌^◌, ◌++◌, [], length, Ok, IsTrue, IsFalse, true, false};
 ghost use Rattle.mc_guests.specs.Links.{Gives, IsWrite};
 ghost use Rattle.mc_guests.specs.Gathered.{over, whole, turned, IsFront, Flushes, Gathers, AfterAll};
 ghost use Rattle.mc_guests.specs.Gathered.{WaitsBelow};
@@ -36,6 +36,8 @@ pub struct Gathering<L: Link + Drop> {
     gathered: Queue<65536>,
     /// Whether its last call was a read.
     was_read: bool,
+    /// The length of that call's piece or bytes.
+    requested: usize,
 }
 
 impl<L: Link + Drop> Model for Gathering<L> {
@@ -48,6 +50,7 @@ impl<L: Link + Drop> Model for Gathering<L> {
       link = L.shown g.link;
       gathered = g.gathered;
       was_read = g.was_read;
+      requested = g.requested;
     } };
 
     ghost invariant = { λ g. length g.gathered ≤ 65536 };
@@ -62,6 +65,7 @@ impl<L: Link + Drop> Gathering<L> {
             link,
             gathered: Queue::new(alloc),
             was_read: false,
+            requested: 0,
         }
     }
 
@@ -85,6 +89,7 @@ impl<L: Link + Drop> Gathering<L> {
     pub fn flush(&mut self) -> Result<(), LinkFault>
         ensures flushes { Flushes self.old result self.new }
         ensures asks { (self.new.gathered ≡ [] → ⊥) → self.new.link.was_read ≡ false }
+        ensures offers { length self.new.gathered ≤ self.new.link.requested }
     {
         match self.hand_on() {
             Ok(()) => self.hand_on(),
@@ -96,6 +101,7 @@ impl<L: Link + Drop> Gathering<L> {
     fn hand_on(&mut self) -> Result<(), LinkFault>
         ensures flushes { Flushes self.old result self.new }
         ensures asks { (self.new.gathered ≡ [] → ⊥) → self.new.link.was_read ≡ false }
+        ensures offers { length self.new.gathered ≤ self.new.link.requested }
     {
         if self.gathered.is_empty() {
             return Ok(());
@@ -125,6 +131,7 @@ impl<L: Link + Drop> Gathering<L> {
     fn send(&mut self, bytes: &[u8]) -> Result<Took, LinkFault>
         ensures gathers { Gathers self.old bytes.now result self.new }
         ensures asks { self.new.link.was_read ≡ false }
+        ensures offers { length self.new.gathered ≤ self.new.link.requested }
     {
         let before = self.gathered.len();
         match self
@@ -149,7 +156,9 @@ impl<L: Link + Drop> Gathering<L> {
         ensures gives { Gives self.old.link piece.new result self.new.link }
         ensures same { self.new.gathered ≡ self.old.gathered }
         ensures asks { self.new.link.was_read ≡ true }
+        ensures lent { self.new.link.requested ≡ length piece.new }
         ensures was_read { self.new.was_read ≡ self.old.was_read }
+        ensures requested { self.new.requested ≡ self.old.requested }
     {
         let got = self.link.try_read(piece);
         if let Ok(Got::Later) = got {
@@ -175,12 +184,14 @@ impl<L: Link + Drop> Link for Gathering<L> {
     /// Writes the gathered bytes, and then reads.
     fn try_read(&mut self, piece: &mut [u8]) -> Result<Got, LinkFault>
         ensures gives { Gives (whole self.old) piece.new result (whole self.new) }
+        ensures lent { self.new.requested ≡ length piece.new }
         ensures full { self.old.link.faults ≡ 2 ^ 64 - 1 → result ≡ Ok Got.Later }
         ensures after { AfterAll result self.new.gathered }
         ensures waits { (self.old.link.faults ≡ 2 ^ 64 - 1 → ⊥) → result ≡ Ok Got.Later →
             WaitsBelow self.new }
     {
         self.was_read = true;
+        self.requested = piece.len();
         if self.link.faults() == u64::MAX {
             return Ok(Got::Later);
         }
@@ -196,12 +207,15 @@ impl<L: Link + Drop> Link for Gathering<L> {
     /// The front is written if the link below took all gathered bytes.
     fn try_write(&mut self, bytes: &[u8]) -> Result<Took, LinkFault>
         ensures takes { IsWrite (whole self.old) bytes.now result (whole self.new) }
+        ensures offered { self.new.requested ≡ length bytes.now }
         ensures full { self.old.link.faults ≡ 2 ^ 64 - 1 → result ≡ Ok Took.Later }
-        ensures gathers { Gathers (turned false self.old) bytes.now result self.new }
+        ensures gathers { Gathers (turned false (length bytes.now) self.old) bytes.now result
+            self.new }
         ensures asks { (self.old.link.faults ≡ 2 ^ 64 - 1 → ⊥) → result ≡ Ok Took.Later →
             self.new.link.was_read ≡ false }
     {
         self.was_read = false;
+        self.requested = bytes.len();
         if self.link.faults() == u64::MAX {
             return Ok(Took::Later);
         }

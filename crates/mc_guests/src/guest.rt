@@ -10,8 +10,8 @@ ghost use Rattle.mc_guests.specs.Guests.{welcomed, has_ended, ends, IsWaiting};
 ghost use Rattle.mc_guests.specs.Visits.{Visited, Does, Writes, Reads};
 ghost use Rattle.mc_guests.specs.Asks.{StaysOrLosesLink};
 
-use crate::link::{Got, Link, LinkFault, Took};
-use crate::tap::Tap;
+use crate::link::{Link, LinkFault, Took};
+use crate::tap::{LONGEST_PIECE, Tap, Tapped};
 use mc_parse::FIRST_PIECE;
 use mc_protocol::Steps;
 use mc_session::{Session, Turn};
@@ -37,9 +37,6 @@ pub enum Visit {
     /// Memory was refused. The guest has ended.
     Refused,
 }
-
-/// The most bytes of a read, once a read filled the first piece.
-const LONGEST_PIECE: usize = 16384;
 
 /// A session with its link. Contracts see both, and the answer of the last visit.
 #[derive(Drop)]
@@ -86,8 +83,8 @@ impl<L: Link + Drop> Guest<L> {
 
     /// Does the one thing that is due: writes output, else takes a turn, else reads, or ends.
     ///
-    /// It reads at most 16384 bytes. A guest that has ended does nothing, and answers what ended
-    /// it.
+    /// A write offers the link all of the output, and a read lends it room for 1 to 16384 bytes. A
+    /// guest that has ended does nothing, and answers what ended it.
     pub fn visit<S: Steps>(&mut self, alloc: Global, store: &mut S, now: Moment) -> Visit
         ensures { Visited S.Steps now result self.old self.new store.old store.new }
     {
@@ -198,7 +195,9 @@ impl<L: Link + Drop> Guest<L> {
         }
     }
 
-    /// Writes a front of the output.
+    /// Offers the output to the link, which takes a front of it.
+    ///
+    /// A write of 0 bytes answers `Later`.
     fn write_out(&mut self) -> Visit
         requires { self.old.session.out ≡ [] → ⊥ }
         ensures last { self.new.last ≡ self.old.last }
@@ -239,13 +238,15 @@ impl<L: Link + Drop> Guest<L> {
     }
 
     /// Reads a piece, or ends.
+    ///
+    /// A read of 0 bytes answers `Later`.
     fn read_piece(&mut self) -> Visit
         requires { IsWaiting self.old.session }
         ensures last { self.new.last ≡ self.old.last }
         ensures reads { Reads result self.old self.new }
     {
         match self.session.feed_from(&mut self.tap, self.longest) {
-            Ok(Ok(Got::Bytes(count))) => {
+            Ok(Tapped::Bytes(count)) => {
                 if count == 0 {
                     return Visit::Later;
                 }
@@ -253,14 +254,18 @@ impl<L: Link + Drop> Guest<L> {
                 self.widen(count);
                 Visit::Read
             }
-            Ok(Ok(Got::Later)) => Visit::Later,
-            Ok(Ok(Got::End)) => {
+            Ok(Tapped::Later) => Visit::Later,
+            Ok(Tapped::End) => {
                 self.session.close();
                 Visit::Served
             }
-            Ok(Err(LinkFault)) => {
+            Ok(Tapped::Broken) => {
                 self.session.close();
                 Visit::Broken
+            }
+            Ok(Tapped::NoRoom) => {
+                self.session.close();
+                Visit::Refused
             }
             Err(_) => {
                 self.session.close();

@@ -29,25 +29,29 @@ pub struct LinkFault;
 /// A fault leaves the bytes given and taken unchanged, and counts; if no more faults can be
 /// counted, both calls answer `Later`.
 pub trait Link {
-    ghost use Rattle.std.specs.Prelude.{◌≡◌, ◌-◌, ◌^◌, ◌++◌, Ok};
-    ghost use Rattle.mc_guests.specs.Links.{LinkState, Gives, IsWrite, Pauses};
+    ghost use Rattle.std.specs.Prelude.{◌≡◌, ◌-◌, ◌^◌, ◌++◌, length, Ok};
+    ghost use Rattle.mc_guests.specs.Links.{LinkState, Gives, IsWrite, OffersFront, Pauses};
 
-    /// The bytes given and taken, the faults, whether it is at its end, and whether it read last.
+    /// The bytes given and taken, the faults, whether it is at its end, whether its last call was a
+    /// read, and for how many bytes that call was.
     ghost shown: { Self → LinkState };
 
     /// Reads bytes if there are any, at most as many as the piece is long.
     fn try_read(&mut self, piece: &mut [u8]) -> Result<Got, LinkFault>
         ensures gives { Gives (shown self.old) piece.new result (shown self.new) }
+        ensures lent { (shown self.new).requested ≡ length piece.new }
         ensures full { (shown self.old).faults ≡ 2 ^ 64 - 1 → result ≡ Ok Got.Later };
 
     /// Writes a front of these bytes if there is room.
     fn try_write(&mut self, bytes: &[u8]) -> Result<Took, LinkFault>
         ensures takes { IsWrite (shown self.old) bytes.now result (shown self.new) }
+        ensures offered { (shown self.new).requested ≡ length bytes.now }
         ensures full { (shown self.old).faults ≡ 2 ^ 64 - 1 → result ≡ Ok Took.Later };
 
     /// Writes a front of two texts, one after the other, if there is room.
     fn try_write_both(&mut self, first: &[u8], second: &[u8]) -> Result<Took, LinkFault>
         ensures takes { IsWrite (shown self.old) (first.now ++ second.now) result (shown self.new) }
+        ensures offered { OffersFront first.now second.now (shown self.new).requested }
         ensures full { (shown self.old).faults ≡ 2 ^ 64 - 1 → result ≡ Ok Took.Later }
     {
         if first.is_empty() {

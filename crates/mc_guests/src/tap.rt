@@ -1,9 +1,31 @@
 //! Links as sources of sessions.
+ghost use Rattle.std.specs.Prelude.{IsTrue};
+ghost use Rattle.mc_guests.specs.Links.{IsRoom};
 
 use crate::link::{Got, Link, LinkFault};
 use mc_parse::Source;
 
+/// The most bytes of a read.
+pub const LONGEST_PIECE: usize = 16384;
+
+/// The result of a read through a tap.
+#[derive(Clone, Copy, Debug, PartialEq, Eq)]
+pub enum Tapped {
+    /// The link gave this many bytes.
+    Bytes(usize),
+    /// The link gives nothing now.
+    Later,
+    /// The link gives nothing more.
+    End,
+    /// The link failed.
+    Broken,
+    /// The link wasn't asked: there was no room, or for more than `LONGEST_PIECE` bytes.
+    NoRoom,
+}
+
 /// A link as a source: it writes what it gives where its session keeps it.
+///
+/// The link is lent room for 1 to `LONGEST_PIECE` bytes.
 #[derive(Drop)]
 pub struct Tap<L: Link + Drop> {
     pub link: L,
@@ -12,17 +34,27 @@ pub struct Tap<L: Link + Drop> {
 impl<L: Link + Drop> Source for Tap<L> {
     ghost use Rattle.mc_guests.specs.Links.{GivesPiece};
 
-    type Answer = Result<Got, LinkFault>;
+    type Answer = Tapped;
 
     ghost gives = { λ old piece answer new.
         GivesPiece (L.shown old.link) piece answer (L.shown new.link) };
 
-    fn read(&mut self, room: &mut [u8]) -> (usize, Result<Got, LinkFault>) {
+    fn read(&mut self, room: &mut [u8]) -> (usize, Tapped) {
+        if !is_room(room.len()) {
+            return (0, Tapped::NoRoom);
+        }
         match self.link.try_read(room) {
-            Ok(Got::Bytes(count)) => (count, Ok(Got::Bytes(count))),
-            Ok(Got::Later) => (0, Ok(Got::Later)),
-            Ok(Got::End) => (0, Ok(Got::End)),
-            Err(LinkFault) => (0, Err(LinkFault)),
+            Ok(Got::Bytes(count)) => (count, Tapped::Bytes(count)),
+            Ok(Got::Later) => (0, Tapped::Later),
+            Ok(Got::End) => (0, Tapped::End),
+            Err(LinkFault) => (0, Tapped::Broken),
         }
     }
+}
+
+/// Returns whether a link may be lent room for this many bytes.
+fn is_room(bytes: usize) -> bool
+    ensures { IsTrue result → IsRoom bytes }
+{
+    0 < bytes && bytes <= LONGEST_PIECE
 }

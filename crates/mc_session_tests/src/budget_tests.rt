@@ -50,15 +50,17 @@ struct Quick<'a> {
     is_over: &'a Cell<bool>,
     is_ended: bool,
     was_read: bool,
+    requested: usize,
 }
 
 impl<'a> Link for Quick<'a> {
     ghost use Rattle.std.specs.Prelude.{None};
 
-    ghost shown = { λ s. record { given = None; taken = None; faults = 0; is_ended = s.is_ended; was_read = s.was_read } };
+    ghost shown = { λ s. record { given = None; taken = None; faults = 0; is_ended = s.is_ended; was_read = s.was_read; requested = s.requested } };
 
     fn try_read(&mut self, piece: &mut [u8]) -> Result<Got, LinkFault> {
         self.was_read = true;
+        self.requested = piece.len();
         let count = piece.len().min(self.input.len());
         if count == 0 {
             let more = piece.len().min(self.more);
@@ -81,6 +83,7 @@ impl<'a> Link for Quick<'a> {
 
     fn try_write(&mut self, bytes: &[u8]) -> Result<Took, LinkFault> {
         self.was_read = false;
+        self.requested = bytes.len();
         Ok(Took::Bytes(bytes.len()))
     }
 
@@ -148,6 +151,7 @@ fn let_in<'a>(
         is_over,
         is_ended: false,
         was_read: false,
+        requested: 0,
     };
     if !hall.guests.welcome(alloc, link, GREATEST, number) {
         return Err(AllocError);
@@ -377,6 +381,7 @@ fn waits_for_lines(alloc: Global, lines: u64) -> Result<usize, AllocError> {
             is_over: &goes_on,
             is_ended: false,
             was_read: false,
+            requested: 0,
         };
         if !hall.guests.welcome(alloc, line, GREATEST, number) {
             return Err(AllocError);

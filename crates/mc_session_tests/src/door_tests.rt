@@ -8,20 +8,23 @@ use std::test::*;
 #[derive(Drop)]
 struct Silent {
     was_read: bool,
+    requested: usize,
 }
 
 impl Link for Silent {
     ghost use Rattle.std.specs.Prelude.{None, false};
 
-    ghost shown = { λ s. record { given = None; taken = None; faults = 0; is_ended = false; was_read = s.was_read } };
+    ghost shown = { λ s. record { given = None; taken = None; faults = 0; is_ended = false; was_read = s.was_read; requested = s.requested } };
 
-    fn try_read(&mut self, _piece: &mut [u8]) -> Result<Got, LinkFault> {
+    fn try_read(&mut self, piece: &mut [u8]) -> Result<Got, LinkFault> {
         self.was_read = true;
+        self.requested = piece.len();
         Ok(Got::Later)
     }
 
-    fn try_write(&mut self, _bytes: &[u8]) -> Result<Took, LinkFault> {
+    fn try_write(&mut self, bytes: &[u8]) -> Result<Took, LinkFault> {
         self.was_read = false;
+        self.requested = bytes.len();
         Ok(Took::Later)
     }
 
@@ -43,7 +46,10 @@ impl Links<Silent> for Crowd {
             return Next::Later;
         }
         self.waiting -= 1;
-        Next::Link(Silent { was_read: false })
+        Next::Link(Silent {
+            was_read: false,
+            requested: 0,
+        })
     }
 
     fn ready(&mut self) -> Option<u64> {

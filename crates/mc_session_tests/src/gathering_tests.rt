@@ -15,6 +15,7 @@ struct Narrow {
     taken: Vec<u8>,
     is_ended: bool,
     was_read: bool,
+    requested: usize,
     calls: Calls,
 }
 
@@ -30,17 +31,21 @@ impl Model for Narrow {
       faults = s.calls;
       is_ended = s.is_ended;
       was_read = s.was_read;
+      requested = s.requested;
     } };
 }
 
 impl Narrow {
+    ghost use Rattle.std.specs.Prelude.{◌≡◌, length};
     ghost use Rattle.mc_guests.specs.Links.{IsWrite};
 
     /// Takes a front of the bytes.
     fn take(&mut self, bytes: &[u8]) -> Result<Took, LinkFault>
-        ensures { IsWrite self.old bytes.now result self.new }
+        ensures takes { IsWrite self.old bytes.now result self.new }
+        ensures offered { self.new.requested ≡ length bytes.now }
     {
         self.was_read = false;
+        self.requested = bytes.len();
         let count = bytes.len().min(self.width);
         let (front, _) = bytes.split_at(count);
         match self.taken.extend_from_slice(front) {
@@ -53,8 +58,9 @@ impl Narrow {
 impl Link for Narrow {
     ghost shown = { λ s. s };
 
-    fn try_read(&mut self, _piece: &mut [u8]) -> Result<Got, LinkFault> {
+    fn try_read(&mut self, piece: &mut [u8]) -> Result<Got, LinkFault> {
         self.was_read = true;
+        self.requested = piece.len();
         match self.calls.next() {
             Call::Fails => Err(LinkFault),
             Call::GivesNone | Call::IsEmpty => Ok(Got::Later),
@@ -67,6 +73,7 @@ impl Link for Narrow {
 
     fn try_write(&mut self, bytes: &[u8]) -> Result<Took, LinkFault> {
         self.was_read = false;
+        self.requested = bytes.len();
         match self.calls.next() {
             Call::Fails => Err(LinkFault),
             Call::GivesNone | Call::IsEmpty => Ok(Took::Later),
@@ -154,6 +161,7 @@ fn goes_through(alloc: Global, width: usize, fails_at: u64) -> Result<bool, Allo
         taken: Vec::new(alloc),
         is_ended: false,
         was_read: false,
+        requested: 0,
         calls: Calls::failing_at(fails_at),
     };
     let mut gathering = Gathering::new(alloc, link);

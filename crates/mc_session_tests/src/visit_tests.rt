@@ -25,6 +25,7 @@ struct Slow<'a> {
     calls: Calls,
     is_ended: bool,
     was_read: bool,
+    requested: usize,
 }
 
 impl<'a> Slow<'a> {
@@ -44,10 +45,11 @@ impl<'a> Slow<'a> {
 impl<'a> Link for Slow<'a> {
     ghost use Rattle.std.specs.Prelude.{None};
 
-    ghost shown = { λ s. record { given = None; taken = None; faults = s.calls; is_ended = s.is_ended; was_read = s.was_read } };
+    ghost shown = { λ s. record { given = None; taken = None; faults = s.calls; is_ended = s.is_ended; was_read = s.was_read; requested = s.requested } };
 
     fn try_read(&mut self, piece: &mut [u8]) -> Result<Got, LinkFault> {
         self.was_read = true;
+        self.requested = piece.len();
         match self.calls.next() {
             Call::Fails => Err(LinkFault),
             Call::GivesNone => Ok(Got::Later),
@@ -66,6 +68,7 @@ impl<'a> Link for Slow<'a> {
 
     fn try_write(&mut self, bytes: &[u8]) -> Result<Took, LinkFault> {
         self.was_read = false;
+        self.requested = bytes.len();
         match self.calls.next() {
             Call::Fails => Err(LinkFault),
             Call::GivesNone => Ok(Took::Later),
@@ -194,6 +197,7 @@ fn goes_as(alloc: Global, store: &mut Counting, course: &Course) -> Result<bool,
         calls: Calls::failing_at(course.fails_at),
         is_ended: false,
         was_read: false,
+        requested: 0,
     };
     let mut guest = Guest::new(alloc, link, 1048576)?;
     let mut goes_so = guest.last() == None;
@@ -223,21 +227,24 @@ fn visits_do_what_is_due(rt: HostRuntime) -> Result<(), Fail> {
 struct Flood<'a> {
     piece: &'a AtomicU64,
     was_read: bool,
+    requested: usize,
 }
 
 impl<'a> Link for Flood<'a> {
     ghost use Rattle.std.specs.Prelude.{None, false};
 
-    ghost shown = { λ s. record { given = None; taken = None; faults = 0; is_ended = false; was_read = s.was_read } };
+    ghost shown = { λ s. record { given = None; taken = None; faults = 0; is_ended = false; was_read = s.was_read; requested = s.requested } };
 
     fn try_read(&mut self, piece: &mut [u8]) -> Result<Got, LinkFault> {
         self.was_read = true;
+        self.requested = piece.len();
         self.piece.store(piece.len() as u64, Ordering::SeqCst);
         Ok(Got::Bytes(piece.len()))
     }
 
-    fn try_write(&mut self, _bytes: &[u8]) -> Result<Took, LinkFault> {
+    fn try_write(&mut self, bytes: &[u8]) -> Result<Took, LinkFault> {
         self.was_read = false;
+        self.requested = bytes.len();
         Ok(Took::Later)
     }
 
@@ -256,6 +263,7 @@ fn a_read_that_fills_its_piece_makes_the_next_longer(rt: HostRuntime) -> Result<
         Flood {
             piece: &length,
             was_read: false,
+            requested: 0,
         },
         1048576,
     )?;

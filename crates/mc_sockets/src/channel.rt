@@ -58,7 +58,7 @@ impl Readiness {
 /// A non-blocking connection.
 ///
 /// A socket's bytes are unspecified, so contracts see how often it failed, whether it is at its
-/// end, and whether it was last asked to give.
+/// end, whether its last call was a read, and for how many bytes that call was.
 ///
 /// A call returns `WouldBlock` only after the system reported it, by an error or a short count, and
 /// then lowers the flag. From then on the system reports the next change, and that event raises the
@@ -71,6 +71,8 @@ pub struct Channel {
     faults: u64,
     is_ended: bool,
     was_read: bool,
+    /// The length of the last call's piece or bytes.
+    requested: usize,
 }
 
 /// A connection, with its readiness and its counters.
@@ -105,6 +107,7 @@ impl Channel {
             faults: 0,
             is_ended: false,
             was_read: false,
+            requested: 0,
         }
     }
 
@@ -313,10 +316,12 @@ impl Link for Channel {
       faults = c.faults;
       is_ended = c.is_ended;
       was_read = c.was_read;
+      requested = c.requested;
     } };
 
     fn try_read(&mut self, piece: &mut [u8]) -> Result<Got, LinkFault> {
         self.was_read = true;
+        self.requested = piece.len();
         if self.faults == u64::MAX || piece.is_empty() {
             return Ok(Got::Later);
         }
@@ -340,6 +345,7 @@ impl Link for Channel {
 
     fn try_write_both(&mut self, first: &[u8], second: &[u8]) -> Result<Took, LinkFault> {
         self.was_read = false;
+        self.requested = first.len().saturating_add(second.len());
         if self.faults == u64::MAX {
             return Ok(Took::Later);
         }

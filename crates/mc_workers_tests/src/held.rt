@@ -54,6 +54,7 @@ pub struct HeldLink<'a> {
     gives: Option<&'a AtomicU64>,
     is_ended: bool,
     was_read: bool,
+    requested: usize,
 }
 
 impl<'a> Model for HeldLink<'a> {
@@ -68,11 +69,12 @@ impl<'a> Model for HeldLink<'a> {
       faults = s.calls;
       is_ended = s.is_ended;
       was_read = s.was_read;
+      requested = s.requested;
     } };
 }
 
 impl<'a> HeldLink<'a> {
-    ghost use Rattle.std.specs.Prelude.{◌≡◌, ◌∷◌, [], Ok};
+    ghost use Rattle.std.specs.Prelude.{◌≡◌, ◌∷◌, [], length, Ok};
     ghost use Rattle.mc_guests.specs.Links.{Gives, IsWrite};
 
     /// Returns a link with this input and this expected output.
@@ -87,6 +89,7 @@ impl<'a> HeldLink<'a> {
             gives: None,
             is_ended: false,
             was_read: false,
+            requested: 0,
         }
     }
 
@@ -112,9 +115,11 @@ impl<'a> HeldLink<'a> {
 
     /// Gives the next byte, if there is one.
     fn give(&mut self, piece: &mut [u8]) -> Result<Got, LinkFault>
-        ensures { Gives self.old piece.new result self.new }
+        ensures gives { Gives self.old piece.new result self.new }
+        ensures lent { self.new.requested ≡ length piece.new }
     {
         self.was_read = true;
+        self.requested = piece.len();
         if self.at >= self.input.len() {
             self.is_ended = true;
             return Ok(Got::End);
@@ -129,9 +134,11 @@ impl<'a> HeldLink<'a> {
 
     /// Takes the first byte, if there is one.
     fn take(&mut self, bytes: &[u8]) -> Result<Took, LinkFault>
-        ensures { IsWrite self.old bytes.now result self.new }
+        ensures takes { IsWrite self.old bytes.now result self.new }
+        ensures offered { self.new.requested ≡ length bytes.now }
     {
         self.was_read = false;
+        self.requested = bytes.len();
         if bytes.is_empty() {
             return Ok(Took::Later);
         }
@@ -152,6 +159,7 @@ impl<'a> Link for HeldLink<'a> {
 
     fn try_read(&mut self, piece: &mut [u8]) -> Result<Got, LinkFault> {
         self.was_read = true;
+        self.requested = piece.len();
         match self.calls.next() {
             Call::Fails => Err(LinkFault),
             Call::GivesNone => Ok(Got::Later),
@@ -162,6 +170,7 @@ impl<'a> Link for HeldLink<'a> {
 
     fn try_write(&mut self, bytes: &[u8]) -> Result<Took, LinkFault> {
         self.was_read = false;
+        self.requested = bytes.len();
         match self.calls.next() {
             Call::Fails => Err(LinkFault),
             Call::GivesNone => Ok(Took::Later),

@@ -12,7 +12,7 @@ returns-in-Ok-Bytes-clause-gathers g c =
     let more : length c.self.inside.gathered < c.in-Ok-Bytes.count = subst (λ n. n < c.in-Ok-Bytes.count) c.len-before.ensures c.if-count-before.true in
     subst (λ n. (c.in-Ok-Bytes.count - n ≤ length c.args.bytes.now) ×
     HandsOn (c.args.self.now.gathered ++ take (c.in-Ok-Bytes.count - n) c.args.bytes.now) c.args.self.now
-    (record { link = later; gathered = c.clear.new.self; was_read = c.self.inside.was_read })) (sym c.len-before.ensures)
+    (record { link = later; gathered = c.clear.new.self; was_read = c.self.inside.was_read; requested = c.self.inside.requested })) (sym c.len-before.ensures)
     (sends_front c.in-Ok-Bytes.count _ c.args.self.now c.as_slice.result.now c.front_of.result.now c.args.bytes.now c.clear.new.self later
     c.self.view_is c.as_slice.ensures c.front_of.ensures c.clear.ensures more takes)
 

@@ -13,4 +13,5 @@ returns-else-taken-eq0-clause-writes g c =
     let some : 0 < n = omega arith in
     writes_front _ _ n bytes (c.out.ensures ∙ ap (λ (s : GuestState). s.session.out) c.self.view_is) some t.0
     (c.sent.ensures ∙ ap (λ (s : GuestState). sent s.session n) c.self.view_is)
-    (t.1 ∙ ap (λ (s : GuestState). took (asked false s.link) (take n bytes)) c.self.view_is)
+    (t.1 ∙ ap (λ (s : GuestState). took (asked false (g.L.Link.shown c.try_write.new.self).requested s.link) (take n bytes)) c.self.view_is)
+    c.in-Ok-Bytes.ensures.offered

@@ -10,6 +10,7 @@ returns-clause-takes c =
       faults = c.args.self.now.faults;
       is_ended = c.args.self.now.is_ended;
       was_read = c.args.self.now.was_read;
+      requested = c.args.self.now.requested;
     } in
     let new : LinkState = record {
       given = None;
@@ -17,5 +18,6 @@ returns-clause-takes c =
       faults = c.try_write_both.new.self.faults;
       is_ended = c.try_write_both.new.self.is_ended;
       was_read = c.try_write_both.new.self.was_read;
+      requested = c.try_write_both.new.self.requested;
     } in
     subst (λ bytes. IsWrite old bytes c.try_write_both.result new) (append-nil c.args.bytes.now) c.try_write_both.ensures.takes
