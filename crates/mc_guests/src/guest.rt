@@ -11,6 +11,7 @@ ghost use Rattle.mc_guests.specs.Visits.{Visited, Does, Writes, Reads};
 ghost use Rattle.mc_guests.specs.Asks.{StaysOrLosesLink};
 
 use crate::link::{Link, LinkFault, Took};
+use crate::measure::Naming;
 use crate::tap::{LONGEST_PIECE, Tap, Tapped};
 use mc_parse::FIRST_PIECE;
 use mc_protocol::Steps;
@@ -169,20 +170,6 @@ impl<L: Link + Drop> Guest<L> {
         }
     }
 
-    /// Lends the key of the next turn, if that is one of a retrieval.
-    ///
-    /// It is `None` if output is written first.
-    pub(crate) fn key(&self) -> Option<&[u8]>
-        ensures out { (self.now.session.out ≡ [] → ⊥) → result ≡ None }
-        ensures short { IfSome result (λ key. length key.now ≤ longest_key) }
-    {
-        if self.session.out().is_empty() {
-            self.session.key()
-        } else {
-            None
-        }
-    }
-
     /// Returns what ended it.
     fn ending(&self) -> Option<Visit>
         ensures some { (answer : Visit) → result ≡ Some answer →
@@ -281,6 +268,24 @@ impl<L: Link + Drop> Guest<L> {
         if given == self.longest {
             self.longest = LONGEST_PIECE;
         }
+    }
+}
+
+impl<L: Link + Drop> Naming for Guest<L> {
+    ghost use Rattle.mc_guests.specs.Asks.{MayName};
+
+    ghost names = { λ guest key. MayName guest.session key };
+
+    /// Lends the key of the next turn, if that is one of a retrieval and no output is written
+    /// first.
+    fn key(&self) -> Option<&[u8]>
+        ensures named { IfSome result (λ key. MayName self.now.session key.now) }
+        ensures short { IfSome result (λ key. length key.now ≤ longest_key) }
+    {
+        if !self.session.out().is_empty() || self.session.is_closed() {
+            return None;
+        }
+        self.session.key()
     }
 }
 

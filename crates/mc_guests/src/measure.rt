@@ -1,5 +1,5 @@
 //! The length of a block before it is delivered.
-ghost use Rattle.std.specs.Prelude.{◌≤◌, length};
+ghost use Rattle.std.specs.Prelude.{◌≡◌, ◌≤◌, length};
 ghost use Rattle.mc_protocol.specs.Commands.{longest_key};
 ghost use Rattle.mc_guests.specs.Asks.{MayAsk};
 
@@ -39,12 +39,43 @@ fn length_of(parts: &[Bytes<'_>]) -> usize {
     counted
 }
 
+/// What lends the key of its next turn.
+pub trait Naming {
+    ghost use Rattle.std.specs.Prelude.{◌≤◌, ℕ, List, length, IfSome};
+    ghost use Rattle.mc_protocol.specs.Commands.{longest_key};
+
+    /// This may be the key of its next turn.
+    ghost names: { Self → List ℕ → Type 0 };
+
+    /// Lends the key of the next turn, if that is one of a retrieval.
+    fn key(&self) -> Option<&[u8]>
+        ensures named { IfSome result (λ key. names self.now key.now) }
+        ensures short { IfSome result (λ key. length key.now ≤ longest_key) };
+}
+
+/// Returns the length of the block that the next turn would deliver at this moment, or 0.
+///
+/// The store is asked once at most, for the key that is lent.
+pub fn next_length<N: Naming, S: Steps>(
+    alloc: Global,
+    store: &mut S,
+    naming: &N,
+    now: Moment,
+) -> usize
+    ensures { MayAsk S.Steps now (N.names naming.now) store.old store.new }
+{
+    match naming.key() {
+        Some(key) => block_length(alloc, store, key, now),
+        None => 0,
+    }
+}
+
 /// Returns the length of the block that a get of this key would deliver at this moment.
 ///
 /// A hit whose block could be delivered in place isn't taken for that.
-pub fn block_length<S: Steps>(alloc: Global, store: &mut S, key: &[u8], now: Moment) -> usize
+fn block_length<S: Steps>(alloc: Global, store: &mut S, key: &[u8], now: Moment) -> usize
     requires { length key.now ≤ longest_key }
-    ensures { MayAsk S.Steps now store.old store.new }
+    ensures { MayAsk S.Steps now (λ asked. asked ≡ key.now) store.old store.new }
 {
     let noted = Cell::new(0usize);
     let step = KeyStep::Read {

@@ -7,12 +7,12 @@
 //! minutes.
 ghost use Rattle.std.specs.Prelude.{◌≡◌, ◌≤◌, length, IfSome, None};
 ghost use Rattle.mc_protocol.specs.Commands.{longest_key};
-ghost use Rattle.mc_guests.specs.Asks.{AsksAndVisits, IsKeptWaiting, MayAsk};
+ghost use Rattle.mc_guests.specs.Asks.{AsksAndVisits, IsKeptWaiting, MayAsk, MayName};
 
 use crate::budget::{Budget, LITTLE};
 use crate::guest::{Guest, Visit};
 use crate::link::Link;
-use crate::measure::block_length;
+use crate::measure::next_length;
 use crate::pace::Pace;
 use mc_protocol::Steps;
 use mc_time::Moment;
@@ -216,7 +216,7 @@ impl<L: Link + Drop> Weighed<L> {
         now: Moment,
         budget: &Budget,
     ) -> usize
-        ensures { MayAsk S.Steps now store.old store.new }
+        ensures { MayAsk S.Steps now (MayName self.now.session) store.old store.new }
     {
         if self.unit > LITTLE {
             let announced = self.guest.announced_bytes();
@@ -227,10 +227,7 @@ impl<L: Link + Drop> Weighed<L> {
         if !budget.is_tight() {
             return 0;
         }
-        match self.guest.key() {
-            Some(key) => block_length(alloc, store, key, now),
-            None => 0,
-        }
+        next_length(alloc, store, &self.guest, now)
     }
 
     /// Returns whether it may go on with `wanted` bytes.

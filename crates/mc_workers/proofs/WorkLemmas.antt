@@ -15,7 +15,7 @@ use Rattle.mc_shared.specs.Asking.{AskingState, AsksOnce, moment_of, Further, no
 use Rattle.mc_workers.specs.Tending.{Tidied, none, and_one}
 use Rattle.mc_guests.specs.Guests.{GuestState}
 use Rattle.mc_guests.specs.Visits.{Does, Visited}
-use Rattle.mc_guests.specs.Asks.{MayAsk, AsksAndVisits, IsKeptWaiting, MakesRound, nobody, asks, visits}
+use Rattle.mc_guests.specs.Asks.{MayAsk, MayName, AsksAndVisits, IsKeptWaiting, MakesRound, nobody, asks, visits}
 use Rattle.mc_guests.specs.declared.guest.Visit.{Visit}
 use Rattle.mc_guests.specs.declared.guest.Visit.TheVariants.{Wrote, Turned, Read, Later, Served, Broken, Refused}
 
@@ -63,15 +63,15 @@ module _ {S : Type 0} (relations : Relations S) (now : ℕ) (Keeps : S → S →
   visit_keeps answer old new a b (inl ended) = stays a b ended.store
   visit_keeps answer old new a b (inr due) = does_keep answer old new a b due.does
 
-  ask_keeps : (a b : S) → MayAsk relations now a b → Keeps a b
-  ask_keeps a b (inl e) = stays a b e
-  ask_keeps a b (inr r) = elim r [ inl e ↦ alike a b e | inr t ↦ one a (ReadStep t.key) t.reply b t.took_it ]
+  ask_keeps : (names : List ℕ → Type 0) (a b : S) → MayAsk relations now names a b → Keeps a b
+  ask_keeps names a b (inl e) = stays a b e
+  ask_keeps names a b (inr r) = elim r [ inl e ↦ alike a b e | inr t ↦ one a (ReadStep t.key) t.reply b t.took_it ]
 
   pub round_keeps : (both : (a b c : S) → Keeps a b → Keeps b c → Keeps a c) (a b : S)
       → MakesRound relations now a b → Keeps a b
   round_keeps both a b nobody = none a
-  round_keeps both a c (asks {between = b} goes asked) =
-      both a b c (round_keeps both a b goes) (ask_keeps b c asked)
+  round_keeps both a c (asks {between = b} {session = session} goes asked) =
+      both a b c (round_keeps both a b goes) (ask_keeps (MayName session) b c asked)
   round_keeps both a c (visits {between = b} {answer = answer} {old = old} {new = new} goes visit) =
       both a b c (round_keeps both a b goes) (visit_keeps answer old new b c visit)
 
