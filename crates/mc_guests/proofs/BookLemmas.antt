@@ -4,9 +4,9 @@ use Rattle.std.proofs.Common.{◌≡◌, ◌⊎◌, inl, inr, ℕ, ◌<◌, ◌�
 use Rattle.std.proofs.lemmas.Bool.{cases_lt}
 use Rattle.std.proofs.lemmas.List.{length-take-le}
 use Rattle.std.proofs.lemmas.List.Edits.{length-swap}
-use Rattle.mc_guests.specs.Guests.{has_ended}
+use Rattle.mc_guests.specs.Guests.{has_ended, is_to_sleep}
 use Rattle.mc_guests.specs.Books.{RowState, BooksState, HasNumber, SleepsAt, Wakes, WakesOne, WakesNone, woken, put_behind, let_gone, LetsGo}
-use Rattle.mc_guests.specs.Books.{is_over, IsFateOf, StaysOrSleeps, Settles, SettlesFrom, none, and_one, swapped, cut}
+use Rattle.mc_guests.specs.Books.{is_over, is_asleep, IsFateOf, Settles, SettlesFrom, none, and_one, swapped, cut}
 use Rattle.mc_guests.specs.Books.{MayWake, WakesSome, none_woke, one_woke}
 use Rattle.mc_guests.specs.declared.guests.Fate.{Fate}
 use Rattle.mc_guests.specs.declared.guests.WorkEnd.{WorkEnd}
@@ -37,41 +37,57 @@ wakes_nobody number told old new is all same = inr (record {
 no_true : {A : Type 0} (b : Bool) → b ≡ false → b ≡ true → A
 no_true b miss hit = absurd (cc)
 
--- one that hasn't ended stays awake or sleeps
-pub settles_on : (at : ℕ) (fate : Fate) (old new : BooksState) (before after : WorkEnd)
-    → IsFateOf at old.row fate before after → is_over fate ≡ false → StaysOrSleeps at old new → Settles at old new before after
-settles_on at fate old new before after is on stays = record {
-  last = is.last;
-  answered = is.answered;
-  goes = λ ended. no_true (has_ended is.last) (sym is.over ∙ on) ended;
-  stays = λ _. stays;
-  counts = is.counts;
-}
+-- the guest at a place is settled as is its fate
+module _ (at : ℕ) (fate : Fate) (old new : BooksState) (before after : WorkEnd) (is : IsFateOf at old.row fate before after) where
+  -- one that has ended goes
+  pub settles_over : is_over fate ≡ true → LetsGo at old new → Settles at old new before after
+  settles_over over goes = record {
+    guest = is.guest;
+    stands = is.stands;
+    goes = λ _. goes;
+    sleeps = λ on _. no_true (has_ended is.guest.guest.last) on (sym is.over ∙ over);
+    stays = λ on _. no_true (has_ended is.guest.guest.last) on (sym is.over ∙ over);
+    counts = is.counts;
+  }
 
--- one that has ended goes
-pub settles_over : (at : ℕ) (fate : Fate) (old new : BooksState) (before after : WorkEnd)
-    → IsFateOf at old.row fate before after → is_over fate ≡ true → LetsGo at old new → Settles at old new before after
-settles_over at fate old new before after is over goes = record {
-  last = is.last;
-  answered = is.answered;
-  goes = λ _. goes;
-  stays = λ on. no_true (has_ended is.last) on (sym is.over ∙ over);
-  counts = is.counts;
-}
+  module _ (on : is_over fate ≡ false) where
+    -- one that is to sleep falls asleep
+    pub settles_asleep : is_asleep fate ≡ true → new ≡ put_behind at old → Settles at old new before after
+    settles_asleep asleep behind = record {
+      guest = is.guest;
+      stands = is.stands;
+      goes = λ ended. no_true (has_ended is.guest.guest.last) (sym is.over ∙ on) ended;
+      sleeps = λ _ _. behind;
+      stays = λ _ awake. no_true (is_to_sleep is.guest) awake (sym (is.asleep on) ∙ asleep);
+      counts = is.counts;
+    }
+
+    -- one that is not stays awake
+    pub settles_awake : is_asleep fate ≡ false → new ≡ old → Settles at old new before after
+    settles_awake awake same = record {
+      guest = is.guest;
+      stands = is.stands;
+      goes = λ ended. no_true (has_ended is.guest.guest.last) (sym is.over ∙ on) ended;
+      sleeps = λ _ asleep. no_true (is_to_sleep is.guest) (sym (is.asleep on) ∙ awake) asleep;
+      stays = λ _ _. same;
+      counts = is.counts;
+    }
 
 -- those before a place stay awake when the one at it is settled
 pub awake_before : (at : ℕ) (old new : BooksState) (before after : WorkEnd) → at < old.awake → Settles at old new before after → at ≤ new.awake
-awake_before at old new before after within settles = awake_by (has_ended settles.last) settles.goes settles.stays
+awake_before at old new before after within settles = awake_by (has_ended settles.guest.guest.last) settles.goes settles.sleeps settles.stays
   where
     one_less : new.awake ≡ old.awake - 1 → at ≤ new.awake
     one_less e = omega arith
 
-    awake_by : (ended : Bool) → (IsTrue ended → LetsGo at old new) → (IsFalse ended → StaysOrSleeps at old new) → at ≤ new.awake
-    awake_by true goes stays = one_less (ap (λ (b : BooksState). b.awake) (goes refl))
-    awake_by false goes stays = elim (stays refl) [
-      | inl same ↦ (let e : new.awake ≡ old.awake = ap (λ (b : BooksState). b.awake) same in omega arith)
-      | inr behind ↦ one_less (ap (λ (b : BooksState). b.awake) behind)
-    ]
+    awake_on : (sleeps : Bool) → (IsTrue sleeps → new ≡ put_behind at old) → (IsFalse sleeps → new ≡ old) → at ≤ new.awake
+    awake_on true behind same = one_less (ap (λ (b : BooksState). b.awake) (behind refl))
+    awake_on false behind same = (let e : new.awake ≡ old.awake = ap (λ (b : BooksState). b.awake) (same refl) in omega arith)
+
+    awake_by : (ended : Bool) → (IsTrue ended → LetsGo at old new) → (IsFalse ended → IsTrue (is_to_sleep settles.guest) → new ≡ put_behind at old)
+        → (IsFalse ended → IsFalse (is_to_sleep settles.guest) → new ≡ old) → at ≤ new.awake
+    awake_by true goes sleeps stays = one_less (ap (λ (b : BooksState). b.awake) (goes refl))
+    awake_by false goes sleeps stays = awake_on (is_to_sleep settles.guest) (sleeps refl) (stays refl)
 
 long_swapped : (one other : ℕ) (row later : RowState) → later ≡ swapped one other row → length later.guests ≡ length row.guests
 long_swapped one other row later is = ap (λ (r : RowState). length r.guests) is ∙ length-swap row.guests one other

@@ -8,3 +8,4 @@ pub mod PlaceLemmas
 pub mod BookLemmas
 pub mod DoorLemmas
 pub mod TurnLemmas
+pub mod BudgetLemmas

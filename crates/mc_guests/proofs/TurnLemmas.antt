@@ -1,23 +1,24 @@
 -- What becomes of turns with one guest more.
-use Rattle.std.proofs.Common.{◌≡◌, ℕ, ◌<◌, ◌+◌, List, [], ◌∷◌, ◌++◌, length, take, drop, refl, sym, ap, ◌∙◌, subst, arith, get_or, inl, inr, Option, Some, None, IfSome}
+use Rattle.std.proofs.Common.{◌≡◌, ℕ, ◌<◌, ◌+◌, List, [], ◌∷◌, ◌++◌, length, take, drop, refl, sym, ap, ◌∙◌, subst, arith, get_or, inl, inr, Bool, Option, Some, None, IfSome}
+use Rattle.std.specs.Prelude.{is_none}
 use Rattle.std.proofs.Math.ListN.{set}
 use Rattle.std.proofs.lemmas.List.{take_more, take_more_set, get_or-drop, drop-set-lt}
 use Rattle.std.proofs.lemmas.Grind.{drop_more_same}
 use Rattle.mc_protocol.specs.declared.step.Steps.{Ghosts as Relations}
 use Rattle.mc_guests.specs.Asks.{AsksAndVisits, IsKeptWaiting}
-use Rattle.mc_guests.specs.Guests.{GuestState}
+use Rattle.mc_guests.specs.Guests.{RowGuest}
 use Rattle.mc_guests.specs.Turns.{HasTurn, HaveTurns, next}
 use Rattle.mc_guests.specs.declared.guest.Visit.{Visit}
 
 module _ {S : Type 0} (relations : Relations S) (now : ℕ) where
   -- a guest was visited with an answer, or is kept waiting where there was none
-  pub has_turn : (result : Option Visit) (old new : GuestState) (before after : S)
-      → IfSome result (λ answer. AsksAndVisits relations now answer old new before after)
-      → (result ≡ None → IsKeptWaiting relations now old new before after) → HasTurn relations now old new before after
-  has_turn None old new before after some none = inr (none refl)
-  has_turn (Some answer) old new before after some none = inl (answer, some)
+  pub has_turn : (result : Option Visit) (old new : RowGuest) (before after : S)
+      → IfSome result (λ answer. AsksAndVisits relations now answer old.guest new.guest before after)
+      → (result ≡ None → IsKeptWaiting relations now old.guest new.guest before after) → new.waits ≡ is_none result → HasTurn relations now old new before after
+  has_turn None old new before after some none waits = inr (record { kept = none refl; waits = waits })
+  has_turn (Some answer) old new before after some none waits = inl (record { answer = answer; visits = some; goes_on = waits })
 
-  pub turns_more : (olds news : List GuestState) (i : ℕ) (x y : GuestState) (before between after : S)
+  pub turns_more : (olds news : List RowGuest) (i : ℕ) (x y : RowGuest) (before between after : S)
       → length news ≡ length olds → i < length news → x ≡ get_or news i x
       → HaveTurns relations now (take i olds) (take i news) before between × (drop i news ≡ drop i olds)
       → HasTurn relations now x y between after
@@ -29,7 +30,7 @@ module _ {S : Type 0} (relations : Relations S) (now : ℕ) where
       let none : i + 0 ≡ i = omega arith in
       let same : get_or olds i x ≡ x = cc (get_or-drop i olds 0 x, get_or-drop i news 0 x, heads, is, none) in
       let one : take (i + 1) olds ≡ take i olds ++ x ∷ [] =
-      take_more olds i x within ∙ ap (λ (z : GuestState). take i olds ++ z ∷ []) same in (
+      take_more olds i x within ∙ ap (λ (z : RowGuest). take i olds ++ z ∷ []) same in (
         subst (λ l. HaveTurns relations now l (take (i + 1) (set news i y)) before after) (sym one)
             (subst (λ l. HaveTurns relations now (take i olds ++ x ∷ []) l before after)
             (sym (take_more_set news i y inside)) (next goes.0 turn)),

@@ -1,6 +1,6 @@
 -- The books that a worker has of its guests.
 use Rattle.std.specs.Prelude.{◌≡◌, ◌⊎◌, ◌≤◌, ◌<◌, ◌+◌, ◌-◌, ◌^◌, ◌==◌, ◌&&◌, not, ℕ, List, [], ◌∷◌, ◌++◌, length, take, drop, min, swap, slice_get, Option, Some, None, Bool, true, false, IsTrue, IsFalse}
-use Rattle.mc_guests.specs.Guests.{GuestState, has_ended}
+use Rattle.mc_guests.specs.Guests.{GuestState, RowGuest, newcomer, has_ended, is_to_sleep}
 use Rattle.mc_guests.specs.declared.guest.Visit.{Visit}
 use Rattle.mc_guests.specs.declared.guest.Visit.TheVariants.{Wrote, Turned, Read, Later, Served, Broken, Refused}
 use Rattle.mc_guests.specs.declared.guests.WorkEnd.{WorkEnd}
@@ -9,7 +9,7 @@ use Rattle.mc_guests.specs.declared.guests.Fate.TheVariants.{GoesOn, Waits, Slee
 
 -- guests in a row, and beside each the number of its link
 pub record RowState : Type 0 where
-  pub guests : List GuestState
+  pub guests : List RowGuest
   pub numbers : List ℕ
 
 -- no guests
@@ -39,15 +39,13 @@ cut at row = record { guests = take at row.guests; numbers = take at row.numbers
 -- a guest stands behind the others, and beside it the number of its link
 abbrev pub joined : GuestState → ℕ → RowState → RowState
 joined guest number row = record {
-  guests = row.guests ++ guest ∷ [];
+  guests = row.guests ++ newcomer guest ∷ [];
   numbers = row.numbers ++ number ∷ [];
 }
 
--- what the guest at a place answered last
-pub record IsLastAt (at : ℕ) (row : RowState) (last : Option Visit) : Type 0 where
-  pub guest : GuestState
-  pub stands : slice_get row.guests at ≡ Some guest
-  pub is : last ≡ guest.last
+-- the guest at a place
+abbrev pub StandsAt : ℕ → RowState → RowGuest → Type 0
+StandsAt at row guest = slice_get row.guests at ≡ Some guest
 
 -- Guests in a row, of which so many are awake: the first ones. And whether one that is kept waiting may be tried
 -- again, as memory came back.
@@ -135,24 +133,31 @@ is_over Waits = false
 is_over Sleeps = false
 is_over Ended = true
 
--- how the guest at a place goes on: it is to go if it has ended, which is counted
+-- whether a guest is to sleep
+abbrev pub is_asleep : Fate → Bool
+is_asleep GoesOn = false
+is_asleep Waits = true
+is_asleep Sleeps = true
+is_asleep Ended = false
+
+-- what becomes of the guest at a place: it is to go if it has ended, which is counted, and else to sleep if it waits for
+-- room or its link gave or took nothing
 pub record IsFateOf (at : ℕ) (row : RowState) (fate : Fate) (before after : WorkEnd) : Type 0 where
-  pub last : Option Visit
-  pub answered : IsLastAt at row last
-  pub over : is_over fate ≡ has_ended last
-  pub counts : after ≡ counted last before
+  pub guest : RowGuest
+  pub stands : StandsAt at row guest
+  pub over : is_over fate ≡ has_ended guest.guest.last
+  pub asleep : IsFalse (is_over fate) → is_asleep fate ≡ is_to_sleep guest
+  pub counts : after ≡ counted guest.guest.last before
 
--- a guest that hasn't ended stays awake or falls asleep
-abbrev pub StaysOrSleeps : ℕ → (old new : BooksState) → Type 0
-StaysOrSleeps at old new = (new ≡ old) ⊎ (new ≡ put_behind at old)
-
--- The guest at a place was settled: if it has ended it is gone, and counted.
+-- The guest at a place was settled: if it has ended it is gone, and counted; else it sleeps if it is to sleep, and
+-- stays awake if not.
 pub record Settles (at : ℕ) (old new : BooksState) (before after : WorkEnd) : Type 0 where
-  pub last : Option Visit
-  pub answered : IsLastAt at old.row last
-  pub goes : IsTrue (has_ended last) → LetsGo at old new
-  pub stays : IsFalse (has_ended last) → StaysOrSleeps at old new
-  pub counts : after ≡ counted last before
+  pub guest : RowGuest
+  pub stands : StandsAt at old.row guest
+  pub goes : IsTrue (has_ended guest.guest.last) → LetsGo at old new
+  pub sleeps : IsFalse (has_ended guest.guest.last) → IsTrue (is_to_sleep guest) → new ≡ put_behind at old
+  pub stays : IsFalse (has_ended guest.guest.last) → IsFalse (is_to_sleep guest) → new ≡ old
+  pub counts : after ≡ counted guest.guest.last before
 
 -- of those that were awake the ones from a place on were settled, the last one first
 pub data SettlesFrom : (at : ℕ) (old new : BooksState) (before after : WorkEnd) → Type 0 where

@@ -1,7 +1,102 @@
 -- How much memory the guests of one worker may hold together.
-use Rattle.std.specs.Prelude.{◌&&◌, Bool, nat_lt}
+use Rattle.std.specs.Prelude.{◌≡◌, ◌<◌, ℕ, ◌+◌, ◌-◌, ◌/◌, ◌^◌, ◌==◌, ◌&&◌, ◌||◌, Bool, true, false, cond, if◌then◌else◌, not, nat_lt, nat_le, min, max}
+use Rattle.mc_guests.specs.Asks.{little}
+use Rattle.mc_guests.specs.Guests.{RowGuest}
 use Rattle.mc_guests.specs.declared.budget.Budget.{Budget}
+
+-- the greatest number of a counter; a counter that has it stays
+abbrev pub most : ℕ
+most = 2 ^ 64 - 1
+
+-- a sum, at most the greatest number
+abbrev pub plus : ℕ → ℕ → ℕ
+plus one other = min (one + other) most
+
+-- a budget of `share` bytes without guests, of which one may want up to `greatest` at once
+abbrev pub unused : (share greatest : ℕ) → Budget
+unused share greatest = record {
+  share = share;
+  tight = max (share - plus greatest little) (share / 2);
+  held = 0;
+  large = 0;
+  waiting = 0;
+  is_eased = false;
+  is_kept = false;
+  promised = 0;
+  ticks = 0;
+  tried = 0;
+  judged = 0;
+}
+
+-- whether there is room for one more guest that wants this many bytes: for a little always, and for more if so much is
+-- left or if no other guest holds more than a little
+abbrev pub fits : ℕ → Budget → Bool
+fits wanted budget =
+    (nat_le wanted little || nat_le wanted (budget.share - budget.held)) || budget.large == 0
+
+-- whether a waiting guest finds room for this many bytes more, beside what was promised
+abbrev pub has_left : ℕ → Budget → Bool
+has_left wanted budget = nat_le wanted (budget.share - plus budget.held budget.promised)
+    || (budget.large == 0 && budget.promised == 0)
+
+-- whether the budget may soon be used up: somebody waits, or much is held
+abbrev pub is_tight : Budget → Bool
+is_tight budget = nat_lt 0 budget.waiting || nat_lt budget.tight budget.held
+
+-- whether others wait for the oldest that waits
+abbrev pub is_kept_for_one : Budget → Bool
+is_kept_for_one budget = budget.is_kept && nat_lt 0 budget.waiting
 
 -- one that is kept waiting may be tried again: memory came back since one was kept waiting in vain
 abbrev pub may_try : Budget → Bool
 may_try budget = budget.is_eased && nat_lt 0 budget.waiting
+
+-- whether those that wait are tried again now: some do, and memory came back or a tick has passed
+abbrev pub is_retry_due : Budget → Bool
+is_retry_due budget = nat_lt 0 budget.waiting && (budget.is_eased || not (budget.ticks == budget.tried))
+
+-- those that wait are tried again
+abbrev pub retried : Budget → Budget
+retried budget = record budget { is_eased = false; is_kept = false; promised = 0; tried = budget.ticks }
+
+-- how many slow guests are judged now: as many as wait, at most 16, and none if some were in this tick
+abbrev pub to_judge : Budget → ℕ
+to_judge budget = if budget.ticks == budget.judged then 0 else min budget.waiting 16
+
+-- one if a test holds
+abbrev pub one_if : Bool → ℕ
+one_if test = cond test 1 0
+
+-- whether a guest goes on and is counted for more than a little
+abbrev pub is_large : (bytes : ℕ) (waits : Bool) → Bool
+is_large bytes waits = not waits && nat_lt little bytes
+
+-- a guest isn't counted any more that was counted for this many bytes
+abbrev pub uncounted : (bytes : ℕ) (waits : Bool) → Budget → Budget
+uncounted bytes waits budget = record budget {
+  held = budget.held - bytes;
+  waiting = budget.waiting - one_if waits;
+  large = budget.large - one_if (is_large bytes waits);
+}
+
+-- one more guest is counted for this many bytes
+abbrev pub counted_too : (bytes : ℕ) (waits : Bool) → Budget → Budget
+counted_too bytes waits budget = record budget {
+  held = budget.held + bytes;
+  waiting = plus budget.waiting (one_if waits);
+  large = plus budget.large (one_if (is_large bytes waits));
+}
+
+-- what a budget has beside what it counts, and whether memory came back
+abbrev pub rest_of : Budget → Budget
+rest_of budget = record budget { held = 0; large = 0; waiting = 0; is_eased = false }
+
+-- A guest is counted anew: beside what the budget counts of others it counts the guest as it is now. Nothing else of the
+-- budget changes but whether memory came back.
+pub record Recounts (old new : RowGuest) (before after : Budget) : Type 0 where
+  pub held : (others : ℕ) → before.held ≡ others + old.counted → after.held ≡ others + new.counted
+  pub waiting : (others : ℕ) → others < most → before.waiting ≡ others + one_if old.waits
+      → after.waiting ≡ others + one_if new.waits
+  pub large : (others : ℕ) → others < most → before.large ≡ others + one_if (is_large old.counted old.waits)
+      → after.large ≡ others + one_if (is_large new.counted new.waits)
+  pub rest : rest_of after ≡ rest_of before

@@ -1,6 +1,6 @@
 -- What contracts see of a guest.
 use mathlib.Core.Logic.{inl, inr}
-use Rattle.std.specs.Prelude.{◌≡◌, ◌⊎◌, ℕ, Bool, true, false, List, [], length, Option, Some, None, IsTrue}
+use Rattle.std.specs.Prelude.{◌≡◌, ◌⊎◌, ◌||◌, ℕ, Bool, true, false, List, [], length, Option, Some, None, IsTrue}
 use Rattle.mc_session.specs.Turns.{SessionState, NoTurnDue, TurnIsDue, opened}
 use Rattle.mc_guests.specs.Links.{LinkState, IsRoom, grown}
 use Rattle.mc_guests.specs.declared.guest.Visit.{Visit}
@@ -59,3 +59,28 @@ IsDemand session (inr is_waiting) bytes = IsRoom bytes
 -- the bytes that its link took, and those that wait for it
 abbrev pub told : GuestState → Option (List ℕ)
 told guest = grown guest.link.taken guest.session.out
+
+-- a guest of a worker: whether it waits for room, and the bytes for which it is counted
+pub record RowGuest : Type 0 where
+  pub guest : GuestState
+  pub waits : Bool
+  pub counted : ℕ
+
+-- a guest that just came
+abbrev pub newcomer : GuestState → RowGuest
+newcomer guest = record { guest = guest; waits = false; counted = 0 }
+
+-- whether its link gave or took nothing at the last visit
+abbrev pub is_later : Option Visit → Bool
+is_later None = false
+is_later (Some Wrote) = false
+is_later (Some Turned) = false
+is_later (Some Read) = false
+is_later (Some Later) = true
+is_later (Some Served) = false
+is_later (Some Broken) = false
+is_later (Some Refused) = false
+
+-- whether a guest that hasn't ended sleeps: it waits for room, or its link gave or took nothing
+abbrev pub is_to_sleep : RowGuest → Bool
+is_to_sleep guest = guest.waits || is_later guest.guest.last

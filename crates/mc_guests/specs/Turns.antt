@@ -1,22 +1,31 @@
 -- Who is visited in a round, where guests that want much may be kept waiting.
-use Rattle.std.specs.Prelude.{◌≡◌, ◌⊎◌, ℕ, List, [], ◌∷◌, ◌++◌, take}
+use Rattle.std.specs.Prelude.{◌≡◌, ◌⊎◌, ℕ, List, [], ◌∷◌, ◌++◌, take, IsTrue, IsFalse}
 use Rattle.mc_protocol.specs.declared.step.Steps.{Ghosts as Relations}
 use Rattle.mc_guests.specs.Asks.{AsksAndVisits, IsKeptWaiting}
 use Rattle.mc_guests.specs.Books.{BooksState, LetsOn, KeepsBooks}
-use Rattle.mc_guests.specs.Guests.{GuestState}
+use Rattle.mc_guests.specs.Guests.{RowGuest}
 use Rattle.mc_guests.specs.declared.guest.Visit.{Visit}
 
 module _ {S : Type 0} (relations : Relations S) (now : ℕ) where
+  -- a guest was visited, and waits for no room
+  pub record IsVisited (old new : RowGuest) (before after : S) : Type 0 where
+    pub answer : Visit
+    pub visits : AsksAndVisits relations now answer old.guest new.guest before after
+    pub goes_on : IsFalse new.waits
+
+  -- a guest is kept waiting, and waits for room
+  pub record WaitsForRoom (old new : RowGuest) (before after : S) : Type 0 where
+    pub kept : IsKeptWaiting relations now old.guest new.guest before after
+    pub waits : IsTrue new.waits
+
   -- a guest was visited, or is kept waiting
-  abbrev pub HasTurn : (old new : GuestState) (before after : S) → Type 0
-  HasTurn old new before after =
-      ((answer : Visit) × AsksAndVisits relations now answer old new before after)
-      ⊎ IsKeptWaiting relations now old new before after
+  abbrev pub HasTurn : (old new : RowGuest) (before after : S) → Type 0
+  HasTurn old new before after = IsVisited old new before after ⊎ WaitsForRoom old new before after
 
   -- the guests have their turns in order, once each, and the store goes from each to the next
-  pub data HaveTurns : (old new : List GuestState) (before after : S) → Type 0 where
+  pub data HaveTurns : (old new : List RowGuest) (before after : S) → Type 0 where
     nobody : {store : S} → HaveTurns [] [] store store
-    next : {olds news : List GuestState} {old new : GuestState} {before between after : S}
+    next : {olds news : List RowGuest} {old new : RowGuest} {before between after : S}
         → HaveTurns olds news before between → HasTurn old new between after
         → HaveTurns (olds ++ old ∷ []) (news ++ new ∷ []) before after
 

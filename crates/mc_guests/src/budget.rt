@@ -1,8 +1,9 @@
 //! How much memory the guests of one worker may hold together.
 
-ghost use Rattle.std.specs.Prelude.{◌≡◌, ◌≤◌, ◌<◌, ◌-◌, IsTrue, IsFalse};
-ghost use Rattle.mc_guests.specs.Asks.{little};
-ghost use Rattle.mc_guests.specs.Budgets.{may_try};
+ghost use Rattle.std.specs.Prelude.{◌≡◌, ◌-◌, min, IsTrue, IsFalse};
+ghost use Rattle.mc_guests.specs.Budgets.{most, unused, fits, has_left, is_tight, is_kept_for_one};
+ghost use Rattle.mc_guests.specs.Budgets.{may_try, is_retry_due, retried, to_judge};
+ghost use Rattle.mc_guests.specs.Budgets.{is_large, one_if, uncounted, counted_too};
 
 /// The bytes that a guest may always hold, whatever others hold.
 pub const LITTLE: usize = 131_072;
@@ -37,7 +38,7 @@ pub struct Budget {
 impl Budget {
     /// Makes a budget of `share` bytes without guests; a guest may want up to `greatest` at once.
     pub fn new(share: usize, greatest: u64) -> Budget
-        ensures { (result.share ≡ share) × (result.held ≡ 0) × (result.large ≡ 0) }
+        ensures { result ≡ unused share greatest }
     {
         let greatest = (greatest as usize).saturating_add(LITTLE);
         Budget {
@@ -59,26 +60,30 @@ impl Budget {
     ///
     /// There is always room up to `LITTLE`, and always if no other guest holds more than `LITTLE`.
     pub(crate) fn fits(&self, wanted: usize) -> bool
-        ensures no { IsFalse result → (little < wanted) × (self.now.share - self.now.held < wanted) }
-        ensures over { little < wanted → self.now.share - self.now.held < wanted →
-            0 < self.now.large → IsFalse result }
+        ensures { result ≡ fits wanted self.now }
     {
         wanted <= LITTLE || wanted <= self.share.saturating_sub(self.held) || self.large == 0
     }
 
     /// Returns whether a waiting guest finds room for `more` bytes, beside what was promised.
-    pub(crate) fn has_left(&self, more: usize) -> bool {
+    pub(crate) fn has_left(&self, more: usize) -> bool
+        ensures { result ≡ has_left more self.now }
+    {
         let taken = self.held.saturating_add(self.promised);
         more <= self.share.saturating_sub(taken) || (self.large == 0 && self.promised == 0)
     }
 
     /// Returns whether the budget may soon be used up.
-    pub(crate) fn is_tight(&self) -> bool {
+    pub(crate) fn is_tight(&self) -> bool
+        ensures { result ≡ is_tight self.now }
+    {
         self.waiting > 0 || self.held > self.tight
     }
 
     /// Returns whether others wait for the oldest waiting guest.
-    pub(crate) fn is_kept_for_one(&self) -> bool {
+    pub(crate) fn is_kept_for_one(&self) -> bool
+        ensures { result ≡ is_kept_for_one self.now }
+    {
         self.is_kept && self.waiting > 0
     }
 
@@ -91,8 +96,12 @@ impl Budget {
 
     /// Returns whether a retry is due, because memory came back or a tick has passed, and begins
     /// it.
-    pub(crate) fn tries_again(&mut self) -> bool {
-        if self.waiting == 0 || (!self.is_eased && self.ticks == self.tried) {
+    pub(crate) fn tries_again(&mut self) -> bool
+        ensures due { result ≡ is_retry_due self.old }
+        ensures begins { IsTrue result → self.new ≡ retried self.old }
+        ensures waits { IsFalse result → self.new ≡ self.old }
+    {
+        if !self.is_retry_due() {
             return false;
         }
         self.is_eased = false;
@@ -102,36 +111,61 @@ impl Budget {
         true
     }
 
+    /// Returns whether a retry is due.
+    fn is_retry_due(&self) -> bool
+        ensures { result ≡ is_retry_due self.now }
+    {
+        self.waiting > 0 && (self.is_eased || self.ticks != self.tried)
+    }
+
     /// Returns how many slow guests to judge now: once a tick, as many as wait, at most 16.
     pub(crate) fn takes_turn_to_judge(&mut self) -> usize
-        ensures { may_try self.new ≡ may_try self.old }
+        ensures judges { result ≡ to_judge self.old }
+        ensures notes { self.new ≡ record self.old { judged = self.old.ticks } }
     {
-        if self.ticks == self.judged {
-            return 0;
-        }
+        let is_judged = self.ticks == self.judged;
         self.judged = self.ticks;
-        self.waiting.min(JUDGED)
+        if is_judged {
+            0
+        } else {
+            self.waiting.min(JUDGED)
+        }
     }
 
-    /// Uncounts a guest.
-    pub(crate) fn take_out(&mut self, counted: usize, goes_on: bool) {
+    /// Uncounts a guest that was counted for so many bytes.
+    pub(crate) fn take_out(&mut self, counted: usize, waits: bool)
+        ensures { self.new ≡ uncounted counted waits self.old }
+    {
         self.held = self.held.saturating_sub(counted);
-        if !goes_on {
-            self.waiting = self.waiting.saturating_sub(1);
-        } else if counted > LITTLE {
-            self.large = self.large.saturating_sub(1);
-        }
+        self.waiting = self.waiting.saturating_sub(one_if(waits));
+        self.large = self.large.saturating_sub(one_if(is_large(counted, waits)));
     }
 
-    /// Counts a guest.
-    pub(crate) fn put_in(&mut self, counted: usize, goes_on: bool) {
-        self.held = self.held.saturating_add(counted);
-        if !goes_on {
-            self.waiting = self.waiting.saturating_add(1);
-        } else if counted > LITTLE {
-            self.large = self.large.saturating_add(1);
-        }
+    /// Counts a guest for so many bytes, or for as many as can be counted, and returns how many.
+    pub(crate) fn put_in(&mut self, bytes: usize, waits: bool) -> usize
+        ensures all { result ≡ min bytes (most - self.old.held) }
+        ensures counts { self.new ≡ counted_too result waits self.old }
+    {
+        let counted = bytes.min(usize::MAX - self.held);
+        self.held += counted;
+        self.waiting = self.waiting.saturating_add(one_if(waits));
+        self.large = self.large.saturating_add(one_if(is_large(counted, waits)));
+        counted
     }
+}
+
+/// Returns whether a guest goes on and is counted for more than `LITTLE`.
+fn is_large(counted: usize, waits: bool) -> bool
+    ensures { result ≡ is_large counted waits }
+{
+    !waits && counted > LITTLE
+}
+
+/// Returns 1 if a test holds, else 0.
+fn one_if(test: bool) -> usize
+    ensures { result ≡ one_if test }
+{
+    if test { 1 } else { 0 }
 }
 
 /// The most slow guests that are judged in one tick.

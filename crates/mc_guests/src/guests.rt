@@ -5,10 +5,10 @@
 //! nothing.
 ghost use Rattle.std.specs.Prelude.{◌≡◌, ◌↔◌, ◌<◌, ◌≤◌, length, IsTrue, IsFalse};
 ghost use Rattle.mc_guests.specs.Asks.{MakesRound};
-ghost use Rattle.mc_guests.specs.Guests.{welcomed, has_ended};
+ghost use Rattle.mc_guests.specs.Guests.{welcomed, has_ended, is_later, is_to_sleep};
 ghost use Rattle.mc_guests.specs.Books.{no_books, quiet, woken, put_behind, let_in, counted};
 ghost use Rattle.mc_guests.specs.Budgets.{may_try};
-ghost use Rattle.mc_guests.specs.Books.{SleepsAt, StaysOrSleeps, IsFateOf, is_over};
+ghost use Rattle.mc_guests.specs.Books.{SleepsAt, StandsAt, IsFateOf, is_over, is_asleep};
 ghost use Rattle.mc_guests.specs.Books.{Wakes, WakesSome, MayWake, LetsOn, LetsGo, Settles, SettlesFrom};
 ghost use Rattle.mc_guests.specs.Turns.{VisitsAll, VisitsAwake};
 
@@ -16,7 +16,7 @@ use crate::budget::Budget;
 use crate::guest::{Guest, Visit};
 use crate::link::Link;
 use crate::row::Row;
-use crate::weighed::{Judged, Waits};
+use crate::weighed::{Judged, Line};
 use mc_protocol::Steps;
 use mc_time::Moment;
 use std::alloc::Global;
@@ -34,9 +34,10 @@ pub struct WorkEnd {
     pub refused: u64,
 }
 
-/// The awake guests, and behind them the sleeping ones, whose last answer was `Later`.
+/// The awake guests, and behind them the sleeping ones.
 ///
-/// A sleeping guest wakes when its link is named. Contracts see all guests, the numbers of their
+/// A guest whose last answer was `Later` sleeps, and so does one that waits for room. A sleeping
+/// guest wakes when its link is named. Contracts see all guests, the numbers of their
 /// links, and how many are awake.
 #[derive(Drop)]
 pub struct Guests<L: Link + Drop> {
@@ -47,6 +48,8 @@ pub struct Guests<L: Link + Drop> {
     queue: VecDeque<u64>,
     /// Whether the newest one is next.
     is_last: bool,
+    /// Whether a waiting guest isn't in the queue, because memory was refused.
+    has_strays: bool,
 }
 
 impl<L: Link + Drop> Model for Guests<L> {
@@ -68,7 +71,7 @@ const LOOKS: usize = 256;
 #[derive(Clone, Copy, Debug, PartialEq, Eq)]
 enum Fate {
     GoesOn,
-    /// It waits from now on.
+    /// It waits for room from now on.
     Waits,
     Sleeps,
     Ended,
@@ -85,6 +88,7 @@ impl<L: Link + Drop> Guests<L> {
             budget,
             queue: VecDeque::new(alloc),
             is_last: false,
+            has_strays: false,
         }
     }
 
@@ -163,6 +167,7 @@ impl<L: Link + Drop> Guests<L> {
     {
         self.let_on_in_turn();
         self.let_on_others();
+        self.let_on_strays();
     }
 
     /// Returns whether a retry of the waiting guests is due, and records it.
@@ -236,6 +241,28 @@ impl<L: Link + Drop> Guests<L> {
         }
     }
 
+    /// Wakes the waiting guests that aren't in the queue.
+    fn let_on_strays(&mut self)
+        ensures { WakesSome self.old self.new }
+    {
+        if !self.has_strays {
+            return;
+        }
+        self.has_strays = false;
+        for at in self.awake..self.row.len() {
+            self.let_on_stray(at);
+        }
+    }
+
+    /// Wakes the guest at a place if it waits and isn't in the queue.
+    fn let_on_stray(&mut self, at: usize)
+        ensures { MayWake self.old self.new }
+    {
+        if at < self.row.len() && self.row.at(at).is_stray() {
+            self.try_again(at);
+        }
+    }
+
     /// Wakes a waiting guest.
     #[tactic(auto, using(crate::proofs::BookLemmas::wakes_one))]
     fn try_again(&mut self, at: usize)
@@ -245,7 +272,7 @@ impl<L: Link + Drop> Guests<L> {
             self.wake_waiting(at);
         } else {
             // an event woke it before: it is out of the queue, so its turn comes now
-            self.row.set_waits(at, Waits::Next);
+            self.row.set_line(at, Line::Next);
         }
     }
 
@@ -256,7 +283,7 @@ impl<L: Link + Drop> Guests<L> {
     {
         let place = self.awake;
         self.wake_at(at);
-        self.row.set_waits(place, Waits::Next);
+        self.row.set_line(place, Line::Next);
     }
 
     /// Returns whether a waiting guest finds room, and promises the room to it.
@@ -266,7 +293,7 @@ impl<L: Link + Drop> Guests<L> {
         if at >= self.row.len() {
             return true;
         }
-        let missing = self.row.missing(at);
+        let missing = self.row.at(at).missing();
         if self.budget.has_left(missing) {
             self.budget.promised = self.budget.promised.saturating_add(missing);
             return true;
@@ -283,7 +310,7 @@ impl<L: Link + Drop> Guests<L> {
 
     /// Returns whether the guest at a place waits in the queue for at least 2 s.
     fn waits_long(&self, at: usize) -> bool {
-        at < self.row.len() && self.row.waits_long(at, self.budget.ticks)
+        at < self.row.len() && self.row.at(at).waits_long(self.budget.ticks)
     }
 
     /// Passes the turn between the oldest and the newest if the guest in turn went on.
@@ -315,7 +342,7 @@ impl<L: Link + Drop> Guests<L> {
 
     /// Returns whether the guest at a place is in the queue.
     fn is_queued(&self, at: usize) -> bool {
-        at < self.row.len() && self.row.waits(at) == Waits::Queued
+        at < self.row.len() && self.row.at(at).is_queued()
     }
 
     /// Returns the number of waiting guests.
@@ -338,7 +365,8 @@ impl<L: Link + Drop> Guests<L> {
         self.row.judge_slowest(self.budget.ticks)
     }
 
-    /// Drops and counts the guests that have ended, and puts those that answered `Later` to sleep.
+    /// Drops and counts the guests that have ended, and puts those that answered `Later`, or wait
+    /// for room, to sleep. The others stay awake.
     ///
     /// The last comes first: if all behind a guest fall asleep too, none is moved.
     pub fn settle(&mut self, end: &mut WorkEnd)
@@ -367,22 +395,27 @@ impl<L: Link + Drop> Guests<L> {
         requires { at < self.now.awake }
         ensures { IsFateOf at self.now.row result end.old end.new }
     {
-        match fate_of(self.row.last(at), end) {
-            Fate::Ended => Fate::Ended,
-            fate => fate_in_line(self.row.waits(at), fate),
+        let guest = self.row.at(at);
+        let fate = fate_of(guest.last(), end);
+        if guest.waits() {
+            fate_in_line(guest.line(), fate)
+        } else {
+            fate
         }
     }
 
-    /// Puts a waiting guest to sleep behind the others. If memory is refused it stays awake.
+    /// Puts a waiting guest into the queue, and to sleep. If memory is refused it is a stray.
     fn line_up(&mut self, at: usize)
         requires { at < self.old.awake }
-        ensures { StaysOrSleeps at self.old self.new }
+        ensures { self.new ≡ put_behind at self.old }
     {
         let number = self.row.number_of(at);
         if self.queue.push_back(number).is_ok() {
-            self.row.set_waits(at, Waits::Queued);
-            self.put_behind(at);
+            self.row.set_line(at, Line::Queued);
+        } else {
+            self.has_strays = true;
         }
+        self.put_behind(at);
     }
 
     /// Wakes the guest whose link has this number, if it sleeps.
@@ -436,6 +469,7 @@ impl<L: Link + Drop> Guests<L> {
 /// Returns what a guest does next after its last answer. An end is counted.
 fn fate_of(last: Option<Visit>, end: &mut WorkEnd) -> Fate
     ensures over { is_over result ≡ has_ended last }
+    ensures asleep { is_asleep result ≡ is_later last }
     ensures counts { end.new ≡ counted last end.old }
 {
     match last {
@@ -456,16 +490,16 @@ fn fate_of(last: Option<Visit>, end: &mut WorkEnd) -> Fate
     }
 }
 
-/// Returns what a guest that hasn't ended does next.
+/// Returns what a guest that waits for room does next.
 ///
-/// It is put into the queue if it waits from now on, and sleeps if it is in the queue.
-fn fate_in_line(waits: Waits, fate: Fate) -> Fate
-    requires { IsFalse (is_over fate) }
-    ensures { IsFalse (is_over result) }
+/// It is put into the queue if it isn't there, and sleeps. It goes if it has ended.
+fn fate_in_line(line: Line, fate: Fate) -> Fate
+    ensures over { is_over result ≡ is_over fate }
+    ensures asleep { IsFalse (is_over fate) → IsTrue (is_asleep result) }
 {
-    match waits {
-        Waits::No => fate,
-        Waits::New => Fate::Waits,
-        Waits::Queued | Waits::Next => Fate::Sleeps,
+    match (fate, line) {
+        (Fate::Ended, _) => Fate::Ended,
+        (_, Line::Out) => Fate::Waits,
+        (_, Line::Queued | Line::Next) => Fate::Sleeps,
     }
 }

@@ -5,14 +5,15 @@
 ghost use Rattle.std.specs.Prelude.{◌≡◌, ◌<◌, ◌≤◌, ◌-◌, ◌++◌, ◌∷◌, ℕ, [], take, drop, length, Some, IfSome, IsTrue, IsFalse, false};
 ghost use Rattle.mc_guests.specs.Asks.{MakesRound};
 ghost use Rattle.mc_guests.specs.Turns.{HaveTurns};
-ghost use Rattle.mc_guests.specs.Books.{nobody, swapped, cut, joined, HasNumber, IsLastAt};
+ghost use Rattle.mc_guests.specs.Books.{nobody, swapped, cut, joined, HasNumber, StandsAt};
+ghost use Rattle.mc_guests.specs.Guests.{newcomer};
 
 use crate::budget::Budget;
-use crate::guest::{Guest, Visit};
+use crate::guest::Guest;
 use crate::link::Link;
 use crate::numbers::Numbers;
 use crate::rounds::round_within;
-use crate::weighed::{Judged, Waits, Weighed};
+use crate::weighed::{Judged, Line, Weighed};
 use mc_protocol::Steps;
 use mc_time::Moment;
 use std::alloc::Global;
@@ -84,27 +85,20 @@ impl<L: Link + Drop> Row<L> {
         self.numbers.pop();
     }
 
-    /// Returns the answer of a guest's last visit.
-    pub fn last(&self, at: usize) -> Option<Visit>
+    /// Lends the guest at a place.
+    pub fn at(&self, at: usize) -> &Weighed<L>
         requires { at < length self.now.guests }
-        ensures { IsLastAt at self.now result }
+        ensures { StandsAt at self.now result.now }
     {
-        self.guests[at].last()
+        &self.guests[at]
     }
 
-    /// Returns whether and how a guest waits for room.
-    pub fn waits(&self, at: usize) -> Waits
-        requires { at < length self.now.guests }
-    {
-        self.guests[at].waits()
-    }
-
-    /// Notes that a guest is in the queue of waiting guests, or that it is tried again.
-    pub fn set_waits(&mut self, at: usize, waits: Waits)
+    /// Notes a guest's place in the queue of waiting guests.
+    pub fn set_line(&mut self, at: usize, line: Line)
         ensures { self.new ≡ self.old }
     {
         if let Some(guest) = self.guests.get_mut(at) {
-            guest.set_waits(waits);
+            guest.set_line(line);
         }
     }
 
@@ -114,20 +108,6 @@ impl<L: Link + Drop> Row<L> {
         ensures { HasNumber self.now at result }
     {
         self.numbers.at(at)
-    }
-
-    /// Returns the bytes that a guest waits for, beyond those that are counted.
-    pub fn missing(&self, at: usize) -> usize
-        requires { at < length self.now.guests }
-    {
-        self.guests[at].missing()
-    }
-
-    /// Returns whether a guest waits in the queue for at least 2 s.
-    pub fn waits_long(&self, at: usize, ticks: u64) -> bool
-        requires { at < length self.now.guests }
-    {
-        self.guests[at].waits_long(ticks)
     }
 
     /// Judges the slowest guest that holds much, if one is slow.
@@ -221,7 +201,8 @@ fn visit_front_of<L: Link + Drop, S: Steps>(
 
 /// Appends a guest that holds nothing, and returns whether memory was there.
 fn push_behind<L: Link + Drop>(guests: &mut Vec<Weighed<L>>, guest: Guest<L>) -> bool
-    ensures pushed { IsTrue result → guests.new.items ≡ guests.old.items ++ guest ∷ [] }
+    ensures pushed { IsTrue result →
+        guests.new.items ≡ guests.old.items ++ newcomer guest ∷ [] }
     ensures refused { IsFalse result → guests.new.items ≡ guests.old.items }
 {
     guests.push(Weighed::new(guest)).is_ok()

@@ -5,9 +5,11 @@
 //! never stops half way. Waiting guests are retried after memory came back, the oldest and the
 //! newest in turn: with the oldest only, a thousand half-sent blocks delayed everyone else for
 //! minutes.
-ghost use Rattle.std.specs.Prelude.{◌≡◌, ◌≤◌, length, IfSome, None};
+ghost use Rattle.std.specs.Prelude.{◌≡◌, ◌≤◌, length, not, true, false, is_none, IfSome, None};
 ghost use Rattle.mc_protocol.specs.Commands.{longest_key};
 ghost use Rattle.mc_guests.specs.Asks.{AsksAndVisits, IsKeptWaiting, MayAsk, MayName};
+ghost use Rattle.mc_guests.specs.Budgets.{uncounted, counted_too, Recounts};
+ghost use Rattle.mc_guests.specs.Guests.{newcomer};
 
 use crate::budget::{Budget, LITTLE};
 use crate::guest::{Guest, Visit};
@@ -31,7 +33,8 @@ const PARTS: usize = 16;
 /// The ticks after which others wait for a waiting guest.
 const LONG: u64 = 8;
 
-/// A guest, and the memory that it holds. Contracts see what they see of the guest.
+/// A guest, and the memory that it holds. Contracts see the guest, whether it waits for room, and
+/// the bytes for which it is counted.
 #[derive(Drop)]
 pub struct Weighed<L: Link + Drop> {
     guest: Guest<L>,
@@ -41,19 +44,20 @@ pub struct Weighed<L: Link + Drop> {
     unit: usize,
     /// Whether it was admitted for the whole block that it reads.
     has_leave: bool,
-    waits: Waits,
+    /// Whether it waits for room.
+    waits: bool,
+    line: Line,
     /// The bytes that it wanted when it began to wait.
     wanted: usize,
     /// The pace of its link since it holds more than a little, or waits.
     pace: Pace,
 }
 
-/// Whether and how a guest waits for room.
-#[derive(Clone, Copy, Debug, PartialEq, Eq)]
-pub enum Waits {
-    No,
-    /// It waits and isn't in the queue yet.
-    New,
+/// The place of a waiting guest in the queue.
+#[derive(Clone, Copy, PartialEq, Eq)]
+pub enum Line {
+    /// It isn't in the queue.
+    Out,
     /// It is in the queue.
     Queued,
     /// It is tried again.
@@ -70,24 +74,25 @@ pub enum Judged {
 }
 
 impl<L: Link + Drop> Model for Weighed<L> {
-    ghost use Rattle.mc_guests.specs.Guests.{GuestState};
+    ghost use Rattle.mc_guests.specs.Guests.{RowGuest};
 
-    ghost Value = { GuestState };
+    ghost Value = { RowGuest };
 
-    ghost view = { λ w. w.guest };
+    ghost view = { λ w. record { guest = w.guest; waits = w.waits; counted = w.counted } };
 }
 
 impl<L: Link + Drop> Weighed<L> {
     /// Returns a guest that holds nothing.
     pub fn new(guest: Guest<L>) -> Weighed<L>
-        ensures { result ≡ guest }
+        ensures { result ≡ newcomer guest }
     {
         Weighed {
             guest,
             counted: 0,
             unit: 0,
             has_leave: false,
-            waits: Waits::No,
+            waits: false,
+            line: Line::Out,
             wanted: 0,
             pace: Pace::new(0),
         }
@@ -95,21 +100,28 @@ impl<L: Link + Drop> Weighed<L> {
 
     /// Returns the answer of its last visit, and `None` before the first.
     pub fn last(&self) -> Option<Visit>
-        ensures { result ≡ self.now.last }
+        ensures { result ≡ self.now.guest.last }
     {
         self.guest.last()
     }
 
-    /// Returns whether and how it waits for room.
-    pub fn waits(&self) -> Waits {
+    /// Returns whether it waits for room.
+    pub fn waits(&self) -> bool
+        ensures { result ≡ self.now.waits }
+    {
         self.waits
     }
 
-    /// Notes that it is in the queue of waiting guests, or that it is tried again.
-    pub fn set_waits(&mut self, waits: Waits)
+    /// Returns its place in the queue, if it waits for room.
+    pub fn line(&self) -> Line {
+        self.line
+    }
+
+    /// Notes its place in the queue.
+    pub fn set_line(&mut self, line: Line)
         ensures { self.new ≡ self.old }
     {
-        self.waits = waits;
+        self.line = line;
     }
 
     /// Returns the bytes that it waits for, beyond those that are counted.
@@ -119,12 +131,22 @@ impl<L: Link + Drop> Weighed<L> {
 
     /// Returns whether it waits in the queue for at least 2 s.
     pub fn waits_long(&self, ticks: u64) -> bool {
-        self.waits == Waits::Queued && self.pace.age(ticks) >= LONG
+        self.is_queued() && self.pace.age(ticks) >= LONG
+    }
+
+    /// Returns whether it waits in the queue.
+    pub fn is_queued(&self) -> bool {
+        self.waits && self.line == Line::Queued
+    }
+
+    /// Returns whether it waits and isn't in the queue.
+    pub fn is_stray(&self) -> bool {
+        self.waits && self.line == Line::Out
     }
 
     /// Returns its rate if it is slow, holds more than a little and doesn't wait.
     pub fn slowness(&self, ticks: u64) -> Option<u64> {
-        if self.waits == Waits::No && self.counted > LITTLE && self.pace.is_slow(ticks) {
+        if !self.waits && self.counted > LITTLE && self.pace.is_slow(ticks) {
             Some(self.pace.rate(ticks))
         } else {
             None
@@ -145,9 +167,12 @@ impl<L: Link + Drop> Weighed<L> {
     }
 
     /// Frees what it holds, and uncounts it.
-    pub fn leave(&mut self, budget: &mut Budget) {
+    pub fn leave(&mut self, budget: &mut Budget)
+        ensures { budget.new ≡ record (uncounted self.old.counted self.old.waits budget.old) {
+            is_eased = true } }
+    {
         self.guest.give_up();
-        budget.take_out(self.counted, self.waits == Waits::No);
+        budget.take_out(self.counted, self.waits);
         budget.is_eased = true;
     }
 
@@ -162,9 +187,11 @@ impl<L: Link + Drop> Weighed<L> {
         budget: &mut Budget,
     ) -> Option<Visit>
         ensures some { IfSome result (λ answer.
-            AsksAndVisits S.Steps now answer self.old self.new store.old store.new) }
+            AsksAndVisits S.Steps now answer self.old.guest self.new.guest store.old store.new) }
         ensures none { result ≡ None →
-            IsKeptWaiting S.Steps now self.old self.new store.old store.new }
+            IsKeptWaiting S.Steps now self.old.guest self.new.guest store.old store.new }
+        ensures waits { self.new.waits ≡ is_none result }
+        ensures counts { Recounts self.old self.new budget.old budget.new }
     {
         let wanted = self.wanted_bytes(alloc, store, now, budget);
         if !self.may_go_on(wanted, budget) {
@@ -179,9 +206,11 @@ impl<L: Link + Drop> Weighed<L> {
     /// Returns whether it may go on with `wanted` bytes; otherwise it waits.
     #[inline]
     fn may_go_on(&mut self, wanted: usize, budget: &mut Budget) -> bool
-        ensures { self.new ≡ self.old }
+        ensures same { self.new.guest ≡ self.old.guest }
+        ensures waits { self.new.waits ≡ not result }
+        ensures counts { Recounts self.old self.new budget.old budget.new }
     {
-        if wanted <= LITTLE && self.waits == Waits::No {
+        if wanted <= LITTLE && !self.waits {
             self.has_leave = false;
             return true;
         }
@@ -191,20 +220,32 @@ impl<L: Link + Drop> Weighed<L> {
     /// Returns whether there is room for it to go on with `wanted` bytes; otherwise it waits.
     #[inline(never)]
     fn finds_room(&mut self, wanted: usize, budget: &mut Budget) -> bool
-        ensures { self.new ≡ self.old }
+        ensures same { self.new.guest ≡ self.old.guest }
+        ensures waits { self.new.waits ≡ not result }
+        ensures counts { Recounts self.old self.new budget.old budget.new }
     {
-        budget.take_out(self.counted, self.waits == Waits::No);
-        if !self.has_room(wanted, budget) {
-            self.keep(wanted, budget);
-            return false;
+        budget.take_out(self.counted, self.waits);
+        if self.has_room(wanted, budget) {
+            self.go_on(wanted, budget);
+            return true;
         }
-        budget.put_in(self.counted, true);
-        if self.waits != Waits::No {
+        self.keep(wanted, budget);
+        false
+    }
+
+    /// Lets it go on with `wanted` bytes, and counts it.
+    fn go_on(&mut self, wanted: usize, budget: &mut Budget)
+        ensures same { self.new.guest ≡ self.old.guest }
+        ensures goes { self.new.waits ≡ false }
+        ensures counts { budget.new ≡ counted_too self.new.counted false budget.old }
+    {
+        if self.waits {
             self.pace = Pace::new(budget.ticks);
         }
-        self.waits = Waits::No;
+        self.waits = false;
+        self.line = Line::Out;
         self.has_leave = wanted > LITTLE;
-        true
+        self.counted = budget.put_in(self.counted, false);
     }
 
     /// Returns the bytes that its next visit may reserve, if they are many: for a large block that
@@ -216,7 +257,7 @@ impl<L: Link + Drop> Weighed<L> {
         now: Moment,
         budget: &Budget,
     ) -> usize
-        ensures { MayAsk S.Steps now (MayName self.now.session) store.old store.new }
+        ensures { MayAsk S.Steps now (MayName self.now.guest.session) store.old store.new }
     {
         if self.unit > LITTLE {
             let announced = self.guest.announced_bytes();
@@ -235,34 +276,37 @@ impl<L: Link + Drop> Weighed<L> {
     /// It may with at most `LITTLE`, with what it was admitted for, or with what fits, unless it
     /// has to wait for others.
     fn has_room(&self, wanted: usize, budget: &Budget) -> bool {
-        let is_open = self.waits == Waits::Next || !budget.is_kept_for_one();
+        let is_tried = self.waits && self.line == Line::Next;
+        let is_open = is_tried || !budget.is_kept_for_one();
         wanted <= LITTLE
             || (self.has_leave && wanted <= self.counted)
             || (is_open && budget.fits(wanted))
     }
 
-    /// Makes it wait for `wanted` bytes.
+    /// Makes it wait for `wanted` bytes, and counts it.
     fn keep(&mut self, wanted: usize, budget: &mut Budget)
-        ensures { self.new ≡ self.old }
+        ensures same { self.new.guest ≡ self.old.guest }
+        ensures waits { self.new.waits ≡ true }
+        ensures counts { budget.new ≡ record (counted_too self.new.counted true budget.old) {
+            is_eased = budget.new.is_eased } }
     {
-        match self.waits {
-            Waits::No => {
-                if self.counted > LITTLE {
-                    budget.is_eased = true;
-                }
-                self.pace = Pace::new(budget.ticks);
-                self.waits = Waits::New;
-            }
-            Waits::Next => self.waits = Waits::New,
-            Waits::New | Waits::Queued => {}
+        if !self.waits {
+            self.pace = Pace::new(budget.ticks);
+            budget.is_eased |= self.counted > LITTLE;
+        }
+        if !self.is_queued() {
+            self.line = Line::Out;
         }
         self.wanted = wanted;
-        budget.put_in(self.counted, false);
+        self.waits = true;
+        self.counted = budget.put_in(self.counted, true);
     }
 
     /// Counts it for what it holds after a visit with this answer, and for an admitted block.
     fn weigh(&mut self, answer: Visit, budget: &mut Budget)
-        ensures { self.new ≡ self.old }
+        ensures same { self.new.guest ≡ self.old.guest }
+        ensures waits { self.new.waits ≡ self.old.waits }
+        ensures counts { Recounts self.old self.new budget.old budget.new }
     {
         match answer {
             Visit::Wrote => {
@@ -298,18 +342,18 @@ impl<L: Link + Drop> Weighed<L> {
 
     /// Counts it for this many bytes from now on.
     #[inline(never)]
-    fn recount(&mut self, counted: usize, budget: &mut Budget)
-        ensures { self.new ≡ self.old }
+    fn recount(&mut self, bytes: usize, budget: &mut Budget)
+        ensures same { self.new.guest ≡ self.old.guest }
+        ensures waits { self.new.waits ≡ self.old.waits }
+        ensures counts { Recounts self.old self.new budget.old budget.new }
     {
-        if counted < self.counted {
-            budget.is_eased = true;
-        }
-        if self.counted <= LITTLE && counted > LITTLE {
+        let was = self.counted;
+        budget.take_out(was, self.waits);
+        self.counted = budget.put_in(bytes, self.waits);
+        if was <= LITTLE && self.counted > LITTLE {
             self.pace = Pace::new(budget.ticks);
         }
-        budget.take_out(self.counted, true);
-        budget.put_in(counted, true);
-        self.counted = counted;
+        budget.is_eased |= self.counted < was;
     }
 }
 
