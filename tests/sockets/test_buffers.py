@@ -15,6 +15,10 @@ ONES = [("1m", 1_000_000, 300), ("8m", 8_000_000, 24)]
 LET_ON = 60
 # What an idle one may cost.
 IDLE = 8192
+# Answers that nobody reads: the length of a block, and how many of them are asked for. So many clients do so, and each may cost
+# as much beyond the limit: the first 6 KiB of a connection, 16 KiB of requests, and 16 KiB of answers in room that was doubled.
+UNREAD = [(100_000, 60), (20_000, 200), (1_000, 3000)]
+SILENT, EACH = 500, 6 * 1024 + 16 * 1024 + 2 * 16 * 1024
 # How many pages a store of joined items has, how many workers, and how much each may have of pages that go to and fro.
 PAGES, WORKERS, EXCHANGED = 64, 4, 8 * MB
 
@@ -54,6 +58,18 @@ class Buffers(ProgramCase):
                     time.sleep(1)
                     self.others_are_served(server, b"w" * length)
                     costs(server, before, LIMIT * MB + LITTLE)
+
+    def test_small_answers_that_nobody_reads(self):
+        """Many clients ask for more blocks of less than 128 KiB than the system takes, and read nothing; others are served."""
+        for length, count in UNREAD:
+            with self.subTest(length), Server(args=["--buffer-limit", "8", "-c", "2000"]) as server:
+                with Peer(server.port) as peer:
+                    peer.asks(b"set block 0 0 %d\r\n%s\r\n" % (length, b"b" * length), b"STORED\r\n")
+                    before = server.memory()
+                    with clients(server.port, SILENT, receives=4096) as peers:
+                        sent_as_far(peers, b"get block\r\n" * count, 2)
+                        peer.asks(b"set small 0 0 1\r\ns\r\nget small\r\n", b"STORED\r\nVALUE small 0 1\r\ns\r\nEND\r\n")
+                        costs(server, before, 8 * MB + SILENT * EACH + LITTLE)
 
     def test_idle_ones_hold_little(self):
         """Clients set and get 60 KB each, and 120 KB, and are idle: what they needed comes back while they are there."""

@@ -13,7 +13,7 @@ use Rattle.mc_guests.specs.declared.guest.Visit.TheVariants.{Broken}
 
 -- how many bytes a guest may hold, however much others do
 abbrev pub little : ℕ
-little = 131072
+little = 16384
 
 -- its link failed or was to end while it was kept waiting, so that it has ended
 pub record LosesLink (old new : GuestState) : Type 0 where

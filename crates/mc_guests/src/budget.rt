@@ -6,7 +6,7 @@ ghost use Rattle.mc_guests.specs.Budgets.{may_try, is_retry_due, retried, to_jud
 ghost use Rattle.mc_guests.specs.Budgets.{is_large, one_if, uncounted, counted_too};
 
 /// The bytes that a guest may always hold, whatever others hold.
-pub const LITTLE: usize = 131_072;
+pub const LITTLE: usize = 16_384;
 
 /// The memory that a worker's guests hold, and its limit.
 #[derive(Drop)]

@@ -234,7 +234,10 @@ impl<L: Link + Drop> Link for Gathering<L> {
             return Ok(());
         }
         match self.flush() {
-            Ok(()) => self.link.pause(),
+            Ok(()) => {
+                self.rest();
+                self.link.pause()
+            }
             Err(LinkFault) => Err(LinkFault),
         }
     }

@@ -121,6 +121,26 @@ impl<L: Link + Drop> Guest<L> {
         self.session.rest()
     }
 
+    /// Returns whether its output was written, and a request came whole or it is closed.
+    pub(crate) fn is_turn_due(&self) -> bool {
+        self.session.out().is_empty() && !self.session.is_idle()
+    }
+
+    /// Returns the bytes reserved for output that its link still has, beyond a first piece.
+    pub(crate) fn unsent_bytes(&self) -> usize {
+        self.tap.link.capacity().saturating_sub(FIRST_PIECE)
+    }
+
+    /// Returns whether it has ended.
+    pub(crate) fn has_ended(&self) -> bool
+        ensures { result ≡ has_ended self.now.last }
+    {
+        match self.last {
+            Some(answer) => answer.ends(),
+            None => false,
+        }
+    }
+
     /// Drops the unread bytes and the output, and frees their memory.
     pub(crate) fn give_up(&mut self) {
         self.session.close();

@@ -357,7 +357,7 @@ impl<L: Link + Drop> Guests<L> {
         self.budget.takes_turn_to_judge()
     }
 
-    /// Judges the slowest of the guests that hold more than 128 KiB, if it is slow: it moved
+    /// Judges the slowest of the guests that hold more than 16 KiB, if it is slow: it moved
     /// nothing for 5 s, or less than 64 KiB/s for at least 5 s. All guests are looked at.
     pub fn judge_slowest(&mut self) -> Option<Judged>
         ensures { self.new ≡ self.old }

@@ -1,15 +1,17 @@
 //! Guests with the memory that they hold.
 //!
-//! A guest that needs more than 128 KiB waits if its worker's share of `--buffer-limit` is used up;
-//! its state doesn't change. A block is counted whole when it is admitted, so an admitted guest
-//! never stops half way. Waiting guests are retried after memory came back, the oldest and the
-//! newest in turn: with the oldest only, a thousand half-sent blocks delayed everyone else for
-//! minutes.
+//! A guest that needs more than 16 KiB waits if its worker's share of `--buffer-limit` is used up;
+//! its state doesn't change. Output that its client hasn't read counts too. A block is counted
+//! whole when it is admitted, so an admitted guest never stops half way. Waiting guests are retried
+//! after memory came back, the oldest and the newest in turn: with the oldest only, a thousand
+//! half-sent blocks delayed everyone else for minutes.
 ghost use Rattle.std.specs.Prelude.{◌≡◌, ◌≤◌, length, not, true, false, is_none, IfSome, None};
+ghost use Rattle.std.specs.Prelude.{IsTrue, IsFalse};
 ghost use Rattle.mc_protocol.specs.Commands.{longest_key};
-ghost use Rattle.mc_guests.specs.Asks.{AsksAndVisits, IsKeptWaiting, MayAsk, MayName};
+ghost use Rattle.mc_guests.specs.Asks.{AsksAndVisits, IsKeptWaiting, StaysOrLosesLink};
+ghost use Rattle.mc_guests.specs.Asks.{MayAsk, MayName};
 ghost use Rattle.mc_guests.specs.Budgets.{uncounted, counted_too, Recounts};
-ghost use Rattle.mc_guests.specs.Guests.{newcomer};
+ghost use Rattle.mc_guests.specs.Guests.{newcomer, has_ended};
 
 use crate::budget::{Budget, LITTLE};
 use crate::guest::{Guest, Visit};
@@ -25,7 +27,7 @@ use std::marker::Model;
 const IDLE: usize = 6144;
 
 /// The bytes that a guest reserves before it asks for the whole room of a large block.
-const BEGUN: usize = 32_768;
+const BEGUN: usize = LITTLE;
 
 /// A session makes all room of a block once one of these parts has come, so a guest asks before.
 const PARTS: usize = 16;
@@ -47,6 +49,8 @@ pub struct Weighed<L: Link + Drop> {
     /// Whether it waits for room.
     waits: bool,
     line: Line,
+    /// Whether its client didn't take all output that was sent before it began to wait.
+    is_unread: bool,
     /// The bytes that it wanted when it began to wait.
     wanted: usize,
     /// The pace of its link since it holds more than a little, or waits.
@@ -93,6 +97,7 @@ impl<L: Link + Drop> Weighed<L> {
             has_leave: false,
             waits: false,
             line: Line::Out,
+            is_unread: false,
             wanted: 0,
             pace: Pace::new(0),
         }
@@ -144,9 +149,11 @@ impl<L: Link + Drop> Weighed<L> {
         self.waits && self.line == Line::Out
     }
 
-    /// Returns its rate if it is slow, holds more than a little and doesn't wait.
+    /// Returns its rate if it is slow, holds more than a little, and doesn't wait or waits with
+    /// output that its client doesn't read.
     pub fn slowness(&self, ticks: u64) -> Option<u64> {
-        if !self.waits && self.counted > LITTLE && self.pace.is_slow(ticks) {
+        let is_held_up = self.waits && !self.is_unread;
+        if !is_held_up && self.counted > LITTLE && self.pace.is_slow(ticks) {
             Some(self.pace.rate(ticks))
         } else {
             None
@@ -193,9 +200,8 @@ impl<L: Link + Drop> Weighed<L> {
         ensures waits { self.new.waits ≡ is_none result }
         ensures counts { Recounts self.old self.new budget.old budget.new }
     {
-        let wanted = self.wanted_bytes(alloc, store, now, budget);
-        if !self.may_go_on(wanted, budget) {
-            self.guest.pause();
+        let asked = self.asked_bytes(alloc, store, now, budget);
+        if !self.may_go_on(asked, budget) {
             return None;
         }
         let answer = self.guest.visit(alloc, store, now);
@@ -203,24 +209,51 @@ impl<L: Link + Drop> Weighed<L> {
         Some(answer)
     }
 
-    /// Returns whether it may go on with `wanted` bytes; otherwise it waits.
+    /// Returns whether it may go on with a request of `asked` bytes; otherwise it waits.
     #[inline]
-    fn may_go_on(&mut self, wanted: usize, budget: &mut Budget) -> bool
-        ensures same { self.new.guest ≡ self.old.guest }
+    fn may_go_on(&mut self, asked: usize, budget: &mut Budget) -> bool
+        ensures stays { StaysOrLosesLink self.old.guest self.new.guest }
+        ensures goes { IsTrue result → self.new.guest ≡ self.old.guest }
         ensures waits { self.new.waits ≡ not result }
         ensures counts { Recounts self.old self.new budget.old budget.new }
     {
-        if wanted <= LITTLE && !self.waits {
+        if !self.waits && self.with_unsent(asked, budget) <= LITTLE {
             self.has_leave = false;
             return true;
         }
+        self.sends_and_finds_room(asked, budget)
+    }
+
+    /// Sends what its link gathered, and returns whether there is room then for a request of `asked`
+    /// bytes.
+    ///
+    /// Otherwise it waits. If its link failed or is to end, it has ended.
+    #[inline(never)]
+    fn sends_and_finds_room(&mut self, asked: usize, budget: &mut Budget) -> bool
+        ensures stays { StaysOrLosesLink self.old.guest self.new.guest }
+        ensures goes { IsTrue result → self.new.guest ≡ self.old.guest }
+        ensures waits { self.new.waits ≡ not result }
+        ensures counts { Recounts self.old self.new budget.old budget.new }
+    {
+        self.guest.pause();
+        self.is_unread = self.guest.unsent_bytes() > 0;
+        let wanted = self.with_unsent(asked, budget);
         self.finds_room(wanted, budget)
     }
 
+    /// Returns the bytes of a request, with unsent output if memory is tight and a turn is due.
+    fn with_unsent(&self, asked: usize, budget: &Budget) -> usize {
+        if budget.is_tight() && self.guest.is_turn_due() {
+            asked.saturating_add(self.guest.unsent_bytes())
+        } else {
+            asked
+        }
+    }
+
     /// Returns whether there is room for it to go on with `wanted` bytes; otherwise it waits.
-    #[inline(never)]
     fn finds_room(&mut self, wanted: usize, budget: &mut Budget) -> bool
         ensures same { self.new.guest ≡ self.old.guest }
+        ensures goes { IsTrue result → IsFalse (has_ended self.old.guest.last) }
         ensures waits { self.new.waits ≡ not result }
         ensures counts { Recounts self.old self.new budget.old budget.new }
     {
@@ -250,7 +283,7 @@ impl<L: Link + Drop> Weighed<L> {
 
     /// Returns the bytes that its next visit may reserve, if they are many: for a large block that
     /// has begun to come, or for an answer once memory is tight.
-    fn wanted_bytes<S: Steps>(
+    fn asked_bytes<S: Steps>(
         &self,
         alloc: Global,
         store: &mut S,
@@ -274,8 +307,13 @@ impl<L: Link + Drop> Weighed<L> {
     /// Returns whether it may go on with `wanted` bytes.
     ///
     /// It may with at most `LITTLE`, with what it was admitted for, or with what fits, unless it
-    /// has to wait for others.
-    fn has_room(&self, wanted: usize, budget: &Budget) -> bool {
+    /// has to wait for others. It may not if it has ended.
+    fn has_room(&self, wanted: usize, budget: &Budget) -> bool
+        ensures { IsTrue result → IsFalse (has_ended self.now.guest.last) }
+    {
+        if self.guest.has_ended() {
+            return false;
+        }
         let is_tried = self.waits && self.line == Line::Next;
         let is_open = is_tried || !budget.is_kept_for_one();
         wanted <= LITTLE

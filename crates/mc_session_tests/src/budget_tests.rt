@@ -20,12 +20,15 @@ const ROUNDS: u64 = 1000;
 /// The bytes of a block that arrive: enough that room for all of it is wanted.
 const BEGUN: usize = 30_000;
 
+/// As many for a block of 16384 bytes.
+const BEGUN_LITTLE: usize = 10_000;
+
 // Lines that announce a block, named by their length with the block. At most its first bytes
 // arrive.
 
-const OF_131072: &[u8] = b"set b 0 0 131052\r\n";
+const OF_16384: &[u8] = b"set b 0 0 16365\r\n";
 
-const OF_131073: &[u8] = b"set b 0 0 131053\r\n";
+const OF_16385: &[u8] = b"set b 0 0 16366\r\n";
 
 const OF_400000: &[u8] = b"set b 0 0 399980\r\n";
 
@@ -144,7 +147,7 @@ fn let_in<'a>(
     input: &'a [u8],
     is_over: &'a Cell<bool>,
 ) -> Result<usize, AllocError> {
-    let more = if input.starts_with(b"set") { BEGUN } else { 0 };
+    let more = begun_of(input);
     let link = Quick {
         input,
         more,
@@ -158,6 +161,17 @@ fn let_in<'a>(
     }
     go_round(alloc, hall);
     Ok(hall.guests.waiting_guests())
+}
+
+/// Returns how many bytes arrive after a line: none if it announces no block.
+fn begun_of(line: &[u8]) -> usize {
+    if !line.starts_with(b"set") {
+        0
+    } else if line.len() > OF_16384.len() {
+        BEGUN
+    } else {
+        BEGUN_LITTLE
+    }
 }
 
 /// Ends the guest whose link has this number, and returns how many guests wait.
@@ -183,7 +197,7 @@ struct Room {
 const ROOMS: [Room; 10] = [
     Room {
         others: &[],
-        wanted: OF_131072,
+        wanted: OF_16384,
         waiting: 0,
     },
     Room {
@@ -198,7 +212,7 @@ const ROOMS: [Room; 10] = [
     },
     Room {
         others: &[OF_600000],
-        wanted: OF_131072,
+        wanted: OF_16384,
         waiting: 0,
     },
     Room {
@@ -213,22 +227,22 @@ const ROOMS: [Room; 10] = [
     },
     Room {
         others: &[OF_600000, OF_400000],
-        wanted: OF_131072,
+        wanted: OF_16384,
         waiting: 0,
     },
     Room {
         others: &[OF_600000, OF_400000],
-        wanted: OF_131073,
+        wanted: OF_16385,
         waiting: 1,
     },
     Room {
         others: &[OF_1200000],
-        wanted: OF_131072,
+        wanted: OF_16384,
         waiting: 0,
     },
     Room {
         others: &[OF_1200000],
-        wanted: OF_131073,
+        wanted: OF_16385,
         waiting: 1,
     },
 ];
@@ -320,14 +334,15 @@ fn who_wants_more_than_a_little_waits(rt: HostRuntime) -> Result<(), Fail> {
     let set = b"set b 0 0 200000\r\nx".as_slice();
     assert!(rt; waits_for_another(rt.alloc(), set, 1)? == (1, 0));
     assert!(rt; waits_for_another(rt.alloc(), b"get a\r\n", 200_000)? == (1, 0));
+    assert!(rt; waits_for_another(rt.alloc(), b"get a\r\n", 16_385)? == (1, 0));
     Ok(())
 }
 
 #[test]
 fn who_wants_a_little_goes_on(rt: HostRuntime) -> Result<(), Fail> {
-    let set = b"set b 0 0 100000\r\nx".as_slice();
+    let set = b"set b 0 0 12000\r\n".as_slice();
     assert!(rt; waits_for_another(rt.alloc(), set, 1)? == (0, 0));
-    assert!(rt; waits_for_another(rt.alloc(), b"get a\r\n", 100_000)? == (0, 0));
+    assert!(rt; waits_for_another(rt.alloc(), b"get a\r\n", 16_384)? == (0, 0));
     Ok(())
 }
 

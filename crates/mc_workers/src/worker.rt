@@ -30,8 +30,8 @@ pub struct Worker<'a, G: Gate, T: Tally, C: Clock> {
     pub first: u32,
     /// Bytes of input and output that its guests may hold.
     ///
-    /// Above it, a guest that needs more than 131072 bytes waits. While guests wait, the slowest of
-    /// those that hold more than 131072 bytes are closed: they moved nothing for 5 seconds, or less
+    /// Above it, a guest that needs more than 16384 bytes waits. While guests wait, the slowest of
+    /// those that hold more than 16384 bytes are closed: they moved nothing for 5 seconds, or less
     /// than 65536 bytes a second.
     pub share: usize,
 }

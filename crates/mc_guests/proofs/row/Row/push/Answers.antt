@@ -2,6 +2,7 @@ use Rattle.std.proofs.Common.{◌≡◌, ◌+◌, ◌-◌, ◌<◌, ℕ, List, [
 use Rattle.std.proofs.Math.Seq.{take-append_seam}
 use Rattle.std.proofs.lemmas.List.{length-append}
 use Rattle.mc_guests.specs.Books.{RowState, joined}
+use Rattle.mc_guests.specs.Guests.{newcomer}
 use Rattle.mc_guests.proofs.row.Row.push.Goals as goal
 
 -- lists of one length have one length with one more each
@@ -34,7 +35,7 @@ returns-then-not-push-clause-refused g c = λ _.
 
 pub invariant_of-self-then-push_behind : goal.invariant_of-self-then-push_behind
 invariant_of-self-then-push_behind g c =
-    longer c.self.inside.numbers c.push.new.self c.self.inside.guests.items c.push_behind.new.guests.items c.args.number c.args.guest c.self.invariant
+    longer c.self.inside.numbers c.push.new.self c.self.inside.guests.items c.push_behind.new.guests.items c.args.number (newcomer c.args.guest) c.self.invariant
     (c.if-not-push.ensures.pushed refl) (c.if-push_behind.ensures.pushed refl)
 
 pub returns-then-push_behind-clause-pushed : goal.returns-then-push_behind-clause-pushed
