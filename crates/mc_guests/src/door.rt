@@ -16,7 +16,7 @@ use std::alloc::Global;
 const LINKS: usize = 32;
 
 /// The door through which guests come.
-#[derive(Clone, Copy, Debug, PartialEq, Eq)]
+#[derive(Clone, Copy)]
 pub struct Door {
     /// The greatest charge of a storage command, in bytes.
     pub greatest: u64,

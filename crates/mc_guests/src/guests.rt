@@ -68,7 +68,7 @@ impl<L: Link + Drop> Model for Guests<L> {
 const LOOKS: usize = 256;
 
 /// What an awake guest does next.
-#[derive(Clone, Copy, Debug, PartialEq, Eq)]
+#[derive(Clone, Copy)]
 enum Fate {
     GoesOn,
     /// It waits for room from now on.

@@ -13,7 +13,7 @@ const ASKED: u64 = 2;
 const LONG_ASKED: u64 = 8;
 
 /// The bytes that a link moved, and since when. Times are ticks.
-#[derive(Clone, Copy, Debug, Drop)]
+#[derive(Clone, Copy, Drop)]
 pub struct Pace {
     since: u64,
     moved: u64,

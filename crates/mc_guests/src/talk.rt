@@ -11,7 +11,7 @@ use crate::link::Link;
 use crate::links::{Links, Next};
 
 /// The answer to the call for the next link.
-#[derive(Clone, Copy, Debug, PartialEq, Eq)]
+#[derive(Clone, Copy, PartialEq, Eq)]
 pub enum Came {
     Link,
     /// None now.
@@ -21,7 +21,7 @@ pub enum Came {
 }
 
 /// The calls of links since the last round, and their answers.
-#[derive(Clone, Copy, Debug, PartialEq, Eq)]
+#[derive(Clone, Copy)]
 pub struct Talk {
     /// The next link, if it was called for.
     pub came: Option<Came>,

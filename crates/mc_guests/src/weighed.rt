@@ -69,7 +69,7 @@ pub enum Line {
 }
 
 /// What to do with a guest that holds much and is slow, by the number of its link.
-#[derive(Clone, Copy, Debug, PartialEq, Eq)]
+#[derive(Clone, Copy)]
 pub enum Judged {
     /// Ask the link again: the poll may have missed it.
     Asks(u64),
@@ -176,7 +176,8 @@ impl<L: Link + Drop> Weighed<L> {
     /// Frees what it holds, and uncounts it.
     pub fn leave(&mut self, budget: &mut Budget)
         ensures { budget.new ≡ record (uncounted self.old.counted self.old.waits budget.old) {
-            is_eased = true } }
+          is_eased = true;
+        } }
     {
         self.guest.give_up();
         budget.take_out(self.counted, self.waits);
@@ -326,7 +327,8 @@ impl<L: Link + Drop> Weighed<L> {
         ensures same { self.new.guest ≡ self.old.guest }
         ensures waits { self.new.waits ≡ true }
         ensures counts { budget.new ≡ record (counted_too self.new.counted true budget.old) {
-            is_eased = budget.new.is_eased } }
+          is_eased = budget.new.is_eased;
+        } }
     {
         if !self.waits {
             self.pace = Pace::new(budget.ticks);
