@@ -12,6 +12,7 @@ ghost use Rattle.mc_guests.specs.Asks.{AsksAndVisits, IsKeptWaiting, StaysOrLose
 ghost use Rattle.mc_guests.specs.Asks.{MayAsk, MayName};
 ghost use Rattle.mc_guests.specs.Budgets.{uncounted, counted_too, Recounts};
 ghost use Rattle.mc_guests.specs.Guests.{newcomer, has_ended};
+ghost use Rattle.mc_guests.specs.Visits.{Visited};
 
 use crate::budget::{Budget, LITTLE};
 use crate::guest::{Guest, Visit};
@@ -205,9 +206,25 @@ impl<L: Link + Drop> Weighed<L> {
         if !self.may_go_on(asked, budget) {
             return None;
         }
+        Some(self.visit_guest(alloc, store, now, budget))
+    }
+
+    /// Visits the guest, and counts it for what it holds then.
+    fn visit_guest<S: Steps>(
+        &mut self,
+        alloc: Global,
+        store: &mut S,
+        now: Moment,
+        budget: &mut Budget,
+    ) -> Visit
+        ensures visits { Visited S.Steps now result self.old.guest self.new.guest store.old
+            store.new }
+        ensures waits { self.new.waits ≡ self.old.waits }
+        ensures counts { Recounts self.old self.new budget.old budget.new }
+    {
         let answer = self.guest.visit(alloc, store, now);
         self.weigh(answer, budget);
-        Some(answer)
+        answer
     }
 
     /// Returns whether it may go on with a request of `asked` bytes; otherwise it waits.
@@ -348,46 +365,64 @@ impl<L: Link + Drop> Weighed<L> {
         ensures waits { self.new.waits ≡ self.old.waits }
         ensures counts { Recounts self.old self.new budget.old budget.new }
     {
+        let bytes = self.bytes_after(answer, budget.ticks);
+        self.recount(bytes, budget);
+    }
+
+    /// Returns the bytes that it is to be counted for after a visit with this answer, and notes
+    /// what the visit moved.
+    fn bytes_after(&mut self, answer: Visit, ticks: u64) -> usize
+        ensures { self.new ≡ self.old }
+    {
+        if !self.notes(answer, ticks) {
+            return self.counted;
+        }
+        let reserved = self.guest.capacity().saturating_sub(IDLE);
+        if self.has_leave {
+            reserved.max(self.unit)
+        } else {
+            reserved
+        }
+    }
+
+    /// Notes what a visit with this answer moved, and returns whether it is to be counted anew.
+    fn notes(&mut self, answer: Visit, ticks: u64) -> bool
+        ensures { self.new ≡ self.old }
+    {
         match answer {
             Visit::Wrote => {
-                self.pace.moves(self.guest.moved_bytes(), budget.ticks);
+                self.pace.moves(self.guest.moved_bytes(), ticks);
                 // a guest that holds little is counted for less only after a later visit
-                if self.counted <= LITTLE {
-                    return;
-                }
+                self.counted > LITTLE
             }
             Visit::Read => {
-                self.pace.moves(self.guest.moved_bytes(), budget.ticks);
+                self.pace.moves(self.guest.moved_bytes(), ticks);
                 self.unit = self.guest.unit();
+                true
             }
             Visit::Turned => {
                 self.has_leave = false;
                 self.unit = self.guest.unit();
+                true
             }
             Visit::Later => {
                 let _ = self.guest.rest();
+                true
             }
-            Visit::Served | Visit::Broken | Visit::Refused => {}
-        }
-        let reserved = self.guest.capacity().saturating_sub(IDLE);
-        let counted = if self.has_leave {
-            reserved.max(self.unit)
-        } else {
-            reserved
-        };
-        if counted != self.counted {
-            self.recount(counted, budget);
+            Visit::Served | Visit::Broken | Visit::Refused => true,
         }
     }
 
     /// Counts it for this many bytes from now on.
-    #[inline(never)]
     fn recount(&mut self, bytes: usize, budget: &mut Budget)
         ensures same { self.new.guest ≡ self.old.guest }
         ensures waits { self.new.waits ≡ self.old.waits }
         ensures counts { Recounts self.old self.new budget.old budget.new }
     {
         let was = self.counted;
+        if bytes == was {
+            return;
+        }
         budget.take_out(was, self.waits);
         self.counted = budget.put_in(bytes, self.waits);
         if was <= LITTLE && self.counted > LITTLE {
