@@ -1,8 +1,10 @@
 -- What a budget counts.
-use Rattle.std.proofs.Common.{◌≡◌, ℕ, ◌+◌, ◌-◌, ◌<◌, ◌≤◌, Bool, true, false, refl, sym, ap, ◌∙◌, arith}
+use Rattle.std.specs.Prelude.{◌&&◌, ◌||◌, not}
+use Rattle.std.proofs.Common.{◌≡◌, ◌⊎◌, inl, inr, ℕ, ◌+◌, ◌-◌, ◌<◌, ◌≤◌, Bool, true, false, refl, sym, ap, ◌∙◌, subst, arith, IsTrue, IsFalse}
 use Rattle.std.proofs.Math.Nat.{min-eq_left}
-use Rattle.mc_guests.specs.Guests.{RowGuest}
-use Rattle.mc_guests.specs.Budgets.{most, plus, one_if, is_large, uncounted, rest_of, Recounts}
+use Rattle.mc_guests.specs.Asks.{little}
+use Rattle.mc_guests.specs.Guests.{GuestState, RowGuest}
+use Rattle.mc_guests.specs.Budgets.{most, plus, one_if, is_large, uncounted, rest_of, Recounts, fits, is_kept_for_one, LacksRoom, IsHeldBack}
 use Rattle.mc_guests.specs.declared.budget.Budget.{Budget}
 
 pub at_most_one : (test : Bool) → one_if test ≤ 1
@@ -48,3 +50,26 @@ recounts_again old mid again new before between after bytes waits first second =
   large = λ others few is. second.large others few (first.large others few is ∙ (λ i. others + one_if (is_large (sym bytes i) (sym waits i))));
   rest = second.rest ∙ first.rest;
 }
+
+-- one that isn't tried again finds no room where others wait for the oldest, or where so much isn't left
+closed_or_full : (tried kept left : Bool) → ((tried || not kept) && left) ≡ false → IsTrue kept ⊎ IsFalse left
+closed_or_full tried kept false is = inr refl
+closed_or_full true kept true is = absurd (cc)
+closed_or_full false true true is = inl refl
+closed_or_full false false true is = absurd (cc)
+
+pub lacks_room : (guest : GuestState) (wanted : ℕ) (budget : Budget) (tried kept left : Bool) → little < wanted → wanted ≤ most
+    → kept ≡ is_kept_for_one budget → left ≡ fits wanted budget → ((tried || not kept) && left) ≡ false → IsHeldBack guest budget
+lacks_room guest wanted budget tried kept left much number waits room is = inr (record {
+  wanted = wanted;
+  much = much;
+  number = number;
+  full = elim (closed_or_full tried kept left is) [ inl closed ↦ inl (sym waits ∙ closed) | inr full ↦ inr (sym room ∙ full) ];
+})
+
+-- a guest is held back beside the others as they are counted
+pub held_beside : (guest later : GuestState) (counted bytes : ℕ) (waits waited : Bool) (budget others : Budget) → later ≡ guest → counted ≡ bytes → waits ≡ waited
+    → others ≡ uncounted counted waits budget → IsHeldBack guest others → IsHeldBack later (uncounted bytes waited budget)
+held_beside guest later counted bytes waits waited budget others same is so out held =
+    let beside : others ≡ uncounted bytes waited budget = out ∙ ap (λ (n : ℕ). uncounted n waits budget) is ∙ ap (λ (w : Bool). uncounted bytes w budget) so in
+    subst (λ (b : Budget). IsHeldBack later b) beside (subst (λ (g : GuestState). IsHeldBack g others) (sym same) held)

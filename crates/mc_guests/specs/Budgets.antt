@@ -1,7 +1,7 @@
 -- How much memory the guests of one worker may hold together.
-use Rattle.std.specs.Prelude.{◌≡◌, ◌<◌, ℕ, ◌+◌, ◌-◌, ◌/◌, ◌^◌, ◌==◌, ◌&&◌, ◌||◌, Bool, true, false, cond, if◌then◌else◌, not, nat_lt, nat_le, min, max}
+use Rattle.std.specs.Prelude.{◌≡◌, ◌⊎◌, ◌<◌, ◌≤◌, ℕ, ◌+◌, ◌-◌, ◌/◌, ◌^◌, ◌==◌, ◌&&◌, ◌||◌, Bool, true, false, cond, if◌then◌else◌, not, nat_lt, nat_le, min, max, IsTrue, IsFalse}
 use Rattle.mc_guests.specs.Asks.{little}
-use Rattle.mc_guests.specs.Guests.{RowGuest}
+use Rattle.mc_guests.specs.Guests.{GuestState, RowGuest, has_ended}
 use Rattle.mc_guests.specs.declared.budget.Budget.{Budget}
 
 -- the greatest number of a counter; a counter that has it stays
@@ -46,6 +46,18 @@ is_tight budget = nat_lt 0 budget.waiting || nat_lt budget.tight budget.held
 -- whether others wait for the oldest that waits
 abbrev pub is_kept_for_one : Budget → Bool
 is_kept_for_one budget = budget.is_kept && nat_lt 0 budget.waiting
+
+-- a guest wants more than a little, and others wait for the oldest that waits, or so much isn't left while another guest
+-- holds more than a little
+pub record LacksRoom (budget : Budget) : Type 0 where
+  pub wanted : ℕ
+  pub much : little < wanted
+  pub number : wanted ≤ most
+  pub full : IsTrue (is_kept_for_one budget) ⊎ IsFalse (fits wanted budget)
+
+-- a guest that isn't visited has ended, or lacks room in what the budget counts of the others
+abbrev pub IsHeldBack : GuestState → (others : Budget) → Type 0
+IsHeldBack guest others = IsTrue (has_ended guest.last) ⊎ LacksRoom others
 
 -- one that is kept waiting may be tried again: memory came back since one was kept waiting in vain
 abbrev pub may_try : Budget → Bool

@@ -5,12 +5,12 @@
 //! whole when it is admitted, so an admitted guest never stops half way. Waiting guests are retried
 //! after memory came back, the oldest and the newest in turn: with the oldest only, a thousand
 //! half-sent blocks delayed everyone else for minutes.
-ghost use Rattle.std.specs.Prelude.{◌≡◌, ◌≤◌, length, not, true, false, is_none, IfSome, None};
+ghost use Rattle.std.specs.Prelude.{◌≡◌, ◌<◌, ◌≤◌, length, not, true, false, is_none, IfSome, None};
 ghost use Rattle.std.specs.Prelude.{IsTrue, IsFalse};
 ghost use Rattle.mc_protocol.specs.Commands.{longest_key};
 ghost use Rattle.mc_guests.specs.Asks.{AsksAndVisits, IsKeptWaiting, StaysOrLosesLink};
-ghost use Rattle.mc_guests.specs.Asks.{MayAsk, MayName};
-ghost use Rattle.mc_guests.specs.Budgets.{uncounted, counted_too, Recounts};
+ghost use Rattle.mc_guests.specs.Asks.{little, MayAsk, MayName};
+ghost use Rattle.mc_guests.specs.Budgets.{uncounted, counted_too, IsHeldBack, Recounts};
 ghost use Rattle.mc_guests.specs.Guests.{newcomer, has_ended};
 ghost use Rattle.mc_guests.specs.Visits.{Visited};
 
@@ -199,6 +199,8 @@ impl<L: Link + Drop> Weighed<L> {
             AsksAndVisits S.Steps now answer self.old.guest self.new.guest store.old store.new) }
         ensures none { result ≡ None →
             IsKeptWaiting S.Steps now self.old.guest self.new.guest store.old store.new }
+        ensures held_back { result ≡ None →
+            IsHeldBack self.new.guest (uncounted self.old.counted self.old.waits budget.old) }
         ensures waits { self.new.waits ≡ is_none result }
         ensures counts { Recounts self.old self.new budget.old budget.new }
     {
@@ -232,6 +234,8 @@ impl<L: Link + Drop> Weighed<L> {
     fn may_go_on(&mut self, asked: usize, budget: &mut Budget) -> bool
         ensures stays { StaysOrLosesLink self.old.guest self.new.guest }
         ensures goes { IsTrue result → self.new.guest ≡ self.old.guest }
+        ensures held_back { IsFalse result →
+            IsHeldBack self.new.guest (uncounted self.old.counted self.old.waits budget.old) }
         ensures waits { self.new.waits ≡ not result }
         ensures counts { Recounts self.old self.new budget.old budget.new }
     {
@@ -250,6 +254,8 @@ impl<L: Link + Drop> Weighed<L> {
     fn sends_and_finds_room(&mut self, asked: usize, budget: &mut Budget) -> bool
         ensures stays { StaysOrLosesLink self.old.guest self.new.guest }
         ensures goes { IsTrue result → self.new.guest ≡ self.old.guest }
+        ensures held_back { IsFalse result →
+            IsHeldBack self.new.guest (uncounted self.old.counted self.old.waits budget.old) }
         ensures waits { self.new.waits ≡ not result }
         ensures counts { Recounts self.old self.new budget.old budget.new }
     {
@@ -272,6 +278,8 @@ impl<L: Link + Drop> Weighed<L> {
     fn finds_room(&mut self, wanted: usize, budget: &mut Budget) -> bool
         ensures same { self.new.guest ≡ self.old.guest }
         ensures goes { IsTrue result → IsFalse (has_ended self.old.guest.last) }
+        ensures held_back { IsFalse result →
+            IsHeldBack self.old.guest (uncounted self.old.counted self.old.waits budget.old) }
         ensures waits { self.new.waits ≡ not result }
         ensures counts { Recounts self.old self.new budget.old budget.new }
     {
@@ -327,16 +335,27 @@ impl<L: Link + Drop> Weighed<L> {
     /// It may with at most `LITTLE`, with what it was admitted for, or with what fits, unless it
     /// has to wait for others. It may not if it has ended.
     fn has_room(&self, wanted: usize, budget: &Budget) -> bool
-        ensures { IsTrue result → IsFalse (has_ended self.now.guest.last) }
+        ensures goes { IsTrue result → IsFalse (has_ended self.now.guest.last) }
+        ensures held_back { IsFalse result → IsHeldBack self.now.guest budget.now }
     {
         if self.guest.has_ended() {
             return false;
         }
+        if wanted <= LITTLE || (self.has_leave && wanted <= self.counted) {
+            return true;
+        }
+        self.finds_left(wanted, budget)
+    }
+
+    /// Returns whether more than `LITTLE` bytes are left for it, and it needn't wait for others.
+    fn finds_left(&self, wanted: usize, budget: &Budget) -> bool
+        requires { little < wanted }
+        ensures { IsFalse result → IsHeldBack self.now.guest budget.now }
+    {
         let is_tried = self.waits && self.line == Line::Next;
-        let is_open = is_tried || !budget.is_kept_for_one();
-        wanted <= LITTLE
-            || (self.has_leave && wanted <= self.counted)
-            || (is_open && budget.fits(wanted))
+        let is_kept = budget.is_kept_for_one();
+        let is_left = budget.fits(wanted);
+        (is_tried || !is_kept) && is_left
     }
 
     /// Makes it wait for `wanted` bytes, and counts it.
