@@ -1,22 +1,20 @@
 """Who waits for whom: clients that send a byte now and then, or read slowly, or time out and come again, keep no honest one waiting."""
 import contextlib
-import os
 import selectors
-import signal
-import threading
+import socket
 import time
 
-from tests.lib.abuse import LITTLE, MB, costs
+from tests.lib.abuse import LITTLE, MB, costs, sent_as_far
 from tests.lib.case import ProgramCase
 from tests.lib.peer import Peer, clients
+from tests.lib.scrape import MetricsServer
 from tests.lib.server import Server
+from tests.lib.slow import Drips, Honest, TimesOut, readers, uploads
 from tests.lib.wait import until
 
 # An honest request is answered in so many seconds, but for one in a hundred. On a machine that is busy it may take so many times what
 # the slowest takes while nobody else is there.
 SOON, SHARE, BUSY = 1, 100, 3
-# What honest clients set and get, in turn.
-LENGTHS = [1, 100, 20_000, 200_000, 1_000_000]
 # How many there are, and for how long they ask.
 HONEST, SECONDS, CALM = 6, 12, 2
 # How many slow readers there are, how many bytes a second each reads, and how many fast ones are beside them.
@@ -25,134 +23,6 @@ SLOW, PACE, FAST = 100, 400_000, 20
 STILL, UPLOADS = 7, 40
 # What all may hold by default, in bytes.
 HELD = 64 * MB
-
-
-class Honest(threading.Thread):
-    """A client that sets and gets blocks of all lengths, and notes how long each took."""
-
-    def __init__(self, port, name, seconds):
-        super().__init__(daemon=True)
-        self.port, self.key, self.seconds, self.times, self.fault = port, b"honest%d" % name, seconds, [], None
-
-    def run(self):
-        try:
-            end = time.monotonic() + self.seconds
-            with Peer(self.port, 3 * SECONDS) as peer:
-                while time.monotonic() < end:
-                    for length in LENGTHS:
-                        self.turn(peer, length)
-        except (OSError, AssertionError) as error:
-            self.fault = error
-
-    def turn(self, peer, length):
-        block = b"h" * length
-        asked = [
-            (b"set %s 0 0 %d\r\n%s\r\n" % (self.key, length, block), b"STORED\r\n"),
-            (b"get %s\r\n" % self.key, b"VALUE %s 0 %d\r\n%s\r\nEND\r\n" % (self.key, length, block)),
-        ]
-        for sent, wanted in asked:
-            began = time.monotonic()
-            peer.asks(sent, wanted)
-            self.times.append(time.monotonic() - began)
-
-
-class Drips(threading.Thread):
-    """Clients that begin a block and send a byte of it each 1, 3 or 10 seconds. One that was closed comes again."""
-
-    PERIODS = [1, 3, 10]
-
-    def __init__(self, port, count, length):
-        super().__init__(daemon=True)
-        self.port, self.line, self.over, self.closed = port, b"set drip 0 0 %d\r\n" % length, threading.Event(), 0
-        self.links = [self.begin(at) for at in range(count)]
-
-    def begin(self, at):
-        peer = Peer(self.port)
-        peer.send(self.line)
-        return [time.monotonic() + self.PERIODS[at % 3], peer]
-
-    def run(self):
-        while not self.over.wait(0.05):
-            for at, (due, peer) in enumerate(self.links):
-                if time.monotonic() >= due:
-                    try:
-                        peer.send(b"d")
-                        self.links[at][0] = time.monotonic() + self.PERIODS[at % 3]
-                    except OSError:
-                        self.closed += 1
-                        peer.close()
-                        with contextlib.suppress(OSError):
-                            self.links[at] = self.begin(at)
-
-    def __enter__(self):
-        self.start()
-        return self
-
-    def __exit__(self, *_):
-        self.over.set()
-        self.join()
-        for _, peer in self.links:
-            peer.close()
-
-
-class TimesOut(threading.Thread):
-    """A client that asks for a block or begins one, gives up after half a second, and comes again. It breaks every second connection."""
-
-    def __init__(self, port, sent):
-        super().__init__(daemon=True)
-        self.port, self.sent, self.over, self.came = port, sent, threading.Event(), 0
-
-    def run(self):
-        while not self.over.is_set():
-            with contextlib.suppress(OSError):
-                peer = Peer(self.port, 0.5)
-                with contextlib.suppress(OSError):
-                    peer.send(self.sent)
-                self.over.wait(0.5)
-                self.came += 1
-                if self.came % 2:
-                    peer.reset()
-                else:
-                    peer.close()
-
-
-class Reader:
-    """A client that asks for a block again and again, and reads so many bytes a second, or as many as come."""
-
-    def __init__(self, peer, pace):
-        self.socket, self.pace, self.began, self.got, self.asked, self.is_closed = peer.socket, pace, time.monotonic(), 0, 0, False
-        self.socket.setblocking(False)
-
-    def turn(self, room, answer):
-        """Reads what is due, and asks ahead for two answers."""
-        while self.asked * answer < self.got + 2 * answer:
-            self.socket.send(b"get large\r\n")
-            self.asked += 1
-        due = len(room) if self.pace is None else int(self.pace * (time.monotonic() - self.began)) - self.got
-        if due <= 0:
-            return
-        count = self.socket.recv_into(room[: min(due, len(room))])
-        self.is_closed = count == 0
-        self.got += count
-
-
-def readers(paces, port, answer, seconds):
-    """Has clients read for so many seconds, and gives them."""
-    room = memoryview(bytearray(2**17))
-    with clients(port, len(paces)) as peers:
-        made = [Reader(peer, pace) for peer, pace in zip(peers, paces)]
-        end = time.monotonic() + seconds
-        while time.monotonic() < end:
-            for it in made:
-                if not it.is_closed:
-                    try:
-                        it.turn(room, answer)
-                    except BlockingIOError:
-                        pass
-                    except OSError:
-                        it.is_closed = True
-            time.sleep(0.005)
-        return made
 
 
 class Waiting(ProgramCase):
@@ -229,22 +99,9 @@ class Waiting(ProgramCase):
 
     def test_a_pause(self):
         """A server stands still for 7 seconds while forty clients send blocks: each block is stored."""
-        block = b"b" * 1_000_000
-        with Server() as server, clients(server.port, UPLOADS, seconds=30) as peers:
-            for at, peer in enumerate(peers):
-                peer.send(b"set block%d 0 0 1000000\r\n%s" % (at, block[:100_000]))
-            os.kill(server.pid, signal.SIGSTOP)
-            try:
-                time.sleep(STILL)
-            finally:
-                os.kill(server.pid, signal.SIGCONT)
-            sending = [threading.Thread(target=peer.send, args=(block[100_000:] + b"\r\n",), daemon=True) for peer in peers]
-            for it in sending:
-                it.start()
-            for it in sending:
-                it.join(30)
-            for peer in peers:
-                peer.is_told(b"STORED\r\n")
+        with Server() as server:
+            made = uploads(server, UPLOADS, STILL)
+        self.assertEqual([it.fault for it in made], [None] * UPLOADS)
 
 
 class Kept(ProgramCase):
@@ -262,6 +119,7 @@ class Kept(ProgramCase):
                     it.socket.setblocking(False)
                     self.send_some(it, b"set held 0 0 1000000\r\n" + b"h" * 900_000)
                 self.assertTrue(until(lambda: server.connections() == len(holders), 2), f"{server.connections()} connections")
+                self.holders = holders
                 yield server
 
     def send_some(self, peer, data):
@@ -303,3 +161,31 @@ class Kept(ProgramCase):
                 peer.send(b"get large\r\n")
             for peer in peers:
                 peer.is_told(b"VALUE large 0 1000000\r\n%s\r\nEND\r\n" % (b"l" * 1_000_000))
+
+    def test_one_that_sends_no_more(self):
+        """One that has shut down its write side and waits has its answers, then the end, and leaves nothing behind."""
+        hit = b"VALUE large 0 1000000\r\n%s\r\nEND\r\n" % (b"l" * 1_000_000)
+        with self.full() as server, Peer(server.port, seconds=30) as peer:
+            peer.send(b"get large\r\nget none\r\nget large\r\n")
+            peer.socket.shutdown(socket.SHUT_WR)
+            peer.is_told(hit + b"END\r\n" + hit)
+            self.assertFalse(peer.more(time.monotonic() + peer.seconds), "more than was asked for")
+            for it in self.holders:
+                it.close()
+            self.assertTrue(until(lambda: server.connections() == 0, 2), f"{server.connections()} connections")
+
+
+class Reported(ProgramCase):
+    def test_why_they_are_closed(self):
+        """Those that hold much and are slow are closed and counted as such, and as nothing else."""
+        reasons = 'mcserver_connections_closed_total{reason="%s"}'
+        with MetricsServer("--buffer-limit", "8", workers=1) as server, clients(server.port, 8) as holders:
+            with Peer(server.port) as peer:
+                peer.asks(b"set large 0 0 1000000\r\n%s\r\n" % (b"l" * 1_000_000), b"STORED\r\n")
+            sent_as_far(holders, b"set held 0 0 1000000\r\n" + b"h" * 900_000, 0.5)
+            before = server.scrape()
+            with Peer(server.port, seconds=30) as peer:
+                peer.asks(b"get large\r\n", b"VALUE large 0 1000000\r\n%s\r\nEND\r\n" % (b"l" * 1_000_000))
+                grown = server.grown(before)
+        found = {it: grown[reasons % it] for it in ("hoarding", "idle", "session_over", "client_closed") if reasons % it in grown}
+        self.assertEqual(["hoarding"], list(found), f"reasons of connections that were closed: {found}")

@@ -11,6 +11,7 @@ use mc_guests::{Got, Link, LinkFault, Took};
 use mc_metrics::{Counted, Counts};
 use std::cell::Cell;
 use std::io::{self, ErrorKind, IoSlice, Read, Write};
+use std::net::Shutdown;
 use std::rc::Rc;
 use std::sync::Arc;
 
@@ -29,8 +30,12 @@ pub struct Readiness {
     pub waits: bool,
     /// It began to wait since the last look at idle connections.
     pub is_fresh: bool,
-    /// Its link was dropped, and some output isn't sent yet.
+    /// Its link was dropped, and its client may still send or read.
     pub leaves: bool,
+    /// The input bytes dropped since its write side was shut down; `None` before that.
+    pub dropped: Option<usize>,
+    /// The time for its client to read its last answers is over.
+    pub has_lingered: bool,
     /// The reason for which it is to be closed.
     pub ends: Option<Parting>,
     /// Urgent data arrived; a read stops short there.
@@ -39,6 +44,15 @@ pub struct Readiness {
 
 /// How often a call that a signal interrupts is made again at once.
 const INTERRUPTIONS: u32 = 1000;
+
+/// The most input bytes that are dropped behind the last answer.
+const DROPPED: usize = 1_048_576;
+
+/// The most bytes of a read whose bytes are dropped.
+const DROPPED_PIECE: usize = 16_384;
+
+/// The most such reads at once, so that a client that sends on holds no worker.
+const DROPPED_PIECES: u32 = 128;
 
 impl Readiness {
     /// A new connection without any report.
@@ -50,6 +64,8 @@ impl Readiness {
         waits: false,
         is_fresh: false,
         leaves: false,
+        dropped: None,
+        has_lingered: false,
         ends: None,
         is_marked: false,
     };
@@ -114,6 +130,18 @@ impl Channel {
     /// Returns whether nothing more is to be sent: it failed, or is to be closed.
     pub fn is_over(&self) -> bool {
         self.faults > 0 || self.wire.readiness.get().ends.is_some()
+    }
+
+    /// Shuts down the write side, drops what the client sent, and returns whether that was all.
+    ///
+    /// A connection that is closed with unread input is reset, and its client may lose answers. It
+    /// is all too if the connection failed, 1 MiB was dropped, or it has lingered.
+    pub fn has_drained(&self) -> bool {
+        if self.is_ended || self.wire.readiness.get().has_lingered {
+            return true;
+        }
+        self.wire.end_output();
+        self.wire.drop_input()
     }
 
     /// Notes that the link was dropped.
@@ -254,6 +282,50 @@ impl Wire {
     fn count(&self, counted: Counted, bytes: usize) {
         self.moved.set(self.moved.get().saturating_add(bytes));
         self.counts.add(counted, bytes as u64);
+    }
+
+    /// Shuts down the write side, unless it was before.
+    fn end_output(&self) {
+        let known = self.readiness.get();
+        if known.dropped.is_none() {
+            // if that fails, the next read reports why
+            let _ = self.connection.stream.shutdown(Shutdown::Write);
+            self.readiness.set(Readiness {
+                dropped: Some(0),
+                ..known
+            });
+        }
+    }
+
+    /// Reads and drops what is there, and returns whether nothing more is to be dropped.
+    fn drop_input(&self) -> bool {
+        let mut piece = [0u8; DROPPED_PIECE];
+        for _piece in 0..DROPPED_PIECES {
+            match (&self.connection.stream).read(&mut piece) {
+                Ok(0) => return true,
+                Ok(count) if self.has_dropped(count) => return true,
+                Ok(_) => {}
+                Err(error) if error.kind() == ErrorKind::Interrupted => {}
+                Err(error) => return !is_later(&error),
+            }
+        }
+        false
+    }
+
+    /// Counts dropped bytes, and returns whether they are as many as may be dropped.
+    fn has_dropped(&self, bytes: usize) -> bool {
+        self.count(Counted::Received, bytes);
+        let known = self.readiness.get();
+        let before = match known.dropped {
+            Some(before) => before,
+            None => 0,
+        };
+        let dropped = before.saturating_add(bytes);
+        self.readiness.set(Readiness {
+            dropped: Some(dropped),
+            ..known
+        });
+        dropped >= DROPPED
     }
 
     /// Has the link named at the next event, because its guest waits for memory. Fails if the

@@ -41,6 +41,9 @@ const PASSED: usize = 1024;
 /// After this many seconds without an event a waiting link is tried again.
 const UNHEARD: u32 = 10;
 
+/// After this many seconds a connection that lingers behind its last answer is closed.
+const LINGER: u64 = 2;
+
 /// What the links of one worker share.
 #[derive(Drop)]
 struct Common {
@@ -223,6 +226,8 @@ impl<'a, R: Wait + Clock> SocketLinks<'a, R> {
     }
 
     /// Names links again, in turn, that had no event for long before the last poll.
+    ///
+    /// It closes those that have lingered for `LINGER`.
     fn ask_unheard(&mut self, before: Instant) {
         let Some(watch) = &mut self.unheard else {
             return;
@@ -231,10 +236,12 @@ impl<'a, R: Wait + Clock> SocketLinks<'a, R> {
             return;
         };
         let places = self.places.len();
+        let linger = Duration::from_secs(LINGER);
         for _one in 0..watch.due(places, now) {
             let at = watch.turn(places);
             if let Some(place) = self.places.get_mut(at)
-                && place.ask_if_unheard(watch.limit(), before, now, &mut self.named)
+                && (place.lingers_too_long(linger, before, now)
+                    || place.ask_if_unheard(watch.limit(), before, now, &mut self.named))
                 && let Some(common) = &self.common
             {
                 common.send_rest(at);
@@ -258,6 +265,13 @@ impl<'a, R: Wait + Clock> SocketLinks<'a, R> {
         let registered = self.poll.registry().register(stream, token, all);
         if registered.is_ok() {
             connection.note(Parting::SessionOver);
+        }
+        if registered.is_err() {
+            // it is closed at once, as no event of it would be reported
+            readiness.set(Readiness {
+                has_lingered: true,
+                ..Readiness::NEW
+            });
         }
         let channel = Channel::new(connection, readiness, moved, counts);
         let link = SocketLink::new(self.alloc, channel, at, yard);

@@ -18,6 +18,8 @@ pub struct Place {
     waits_since: Option<Instant>,
     /// The same, since its link was asked again or the last event.
     asked_since: Option<Instant>,
+    /// When it was first seen with its write side shut down; `None` if nobody looked.
+    lingers_since: Option<Instant>,
 }
 
 impl Place {
@@ -28,6 +30,7 @@ impl Place {
             readiness,
             waits_since: None,
             asked_since: None,
+            lingers_since: None,
         }
     }
 
@@ -84,6 +87,28 @@ impl Place {
         });
         let _ = named.push_back(self.number);
         known.leaves
+    }
+
+    /// Returns whether its write side was shut down `limit` before `before`. It does so once.
+    ///
+    /// The connection has lingered then, and is to be closed.
+    pub fn lingers_too_long(&mut self, limit: Duration, before: Instant, now: Instant) -> bool {
+        let known = self.readiness.get();
+        if known.dropped.is_none() || known.has_lingered {
+            return false;
+        }
+        let Some(since) = self.lingers_since else {
+            self.lingers_since = Some(now);
+            return false;
+        };
+        if before.duration_since(since) < limit {
+            return false;
+        }
+        self.readiness.set(Readiness {
+            has_lingered: true,
+            ..known
+        });
+        true
     }
 
     /// Names the link if it had no event for `limit` before `before`, so that it is tried again.

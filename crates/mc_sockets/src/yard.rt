@@ -1,14 +1,16 @@
-//! Connections whose sessions ended before their output was sent.
+//! Connections whose sessions ended before their clients did.
 //!
 //! Output left when a session ends stays with its worker until the system takes it, in a map by
-//! place: `quit` behind many answers loses none.
+//! place: `quit` behind many answers loses none. Then the write side is shut down, and what the
+//! client sends on is dropped until it ends, because a close with unread input resets the
+//! connection and loses answers. After 1 MiB, or 2 seconds (`links.rt`), it is closed all the same.
 
 use crate::channel::Channel;
 use mc_guests::Gathering;
 use std::alloc::Global;
 use std::collections::BTreeMap;
 
-/// The free places of links, and the connections with output left, by place.
+/// The free places of links, and the connections that linger, by place.
 #[derive(Drop)]
 pub struct Yard {
     free: Vec<usize>,
@@ -45,9 +47,10 @@ impl Yard {
         }
     }
 
-    /// Sends what the link at this place has left, if there may be room.
+    /// Sends what the link at this place has left, if there may be room, and drops its input.
     ///
-    /// It closes the connection if all was sent, nothing is read any more, or it is to end.
+    /// It closes the connection if all was sent and its client ended, if it failed, or if it is to
+    /// end.
     pub fn send_rest(&mut self, place: usize) {
         if self.is_done_sending(place) {
             let _ = self.leaving.remove(&place);
@@ -55,9 +58,9 @@ impl Yard {
         }
     }
 
-    /// Sends what is left of one connection, and returns whether that was all.
+    /// Sends what is left of one connection, and returns whether nothing is left to do.
     ///
-    /// It returns false if none is left at this place.
+    /// It returns false if none lingers at this place.
     fn is_done_sending(&mut self, place: usize) -> bool {
         let Some(gathering) = self.leaving.get_mut(&place) else {
             return false;
@@ -67,7 +70,9 @@ impl Yard {
     }
 }
 
-/// Returns whether nothing is left to do: all was sent, or the channel failed or is to end.
+/// Returns whether nothing is left to do: all was sent and the client sends no more, or the channel
+/// failed or is to end.
 fn is_done(gathering: &Gathering<Channel>) -> bool {
-    gathering.is_empty() || gathering.link().is_over()
+    let channel = gathering.link();
+    channel.is_over() || gathering.is_empty() && channel.has_drained()
 }
