@@ -6,6 +6,9 @@ connections at once, each with one request under way. Beside it other processes 
 wait of the polite: the median, the 99th of a hundred, the longest, in milliseconds. It is no test: nothing fails for being slow.
 The status is 1 where an answer was wrong, or a server failed.
 
+The rows drippers, readers and pause print how many requests of others were answered, and how many of them after more than a second,
+how many newcomers were refused, and how many connections were closed; the row unread prints memory.
+
     bench/waiting.py [--program PATH] [--only NAME ..] [--seconds S] [--quick] [--list]
 """
 import argparse
@@ -24,8 +27,11 @@ from dataclasses import dataclass, field
 HERE = os.path.dirname(os.path.realpath(__file__))
 sys.path.insert(0, os.path.dirname(HERE))
 
+from tests.lib.abuse import sent_as_far  # noqa: E402
+from tests.lib.peer import Peer, clients  # noqa: E402
 from tests.lib.server import CannotStart, Server  # noqa: E402
 from tests.lib.settings import program as built  # noqa: E402
+from tests.lib.slow import Drips, Honest, readers, uploads  # noqa: E402
 from tests.lib.threads import held  # noqa: E402
 
 NAMES = ("memcached", "mcserver")
@@ -34,6 +40,16 @@ SMALL, LARGE = b"x" * 100, b"y" * 1_000_000
 # No answer may take longer; whoever waits so long is counted as not served.
 PATIENCE = 60
 FORK = multiprocessing.get_context("fork")
+# An answer after more seconds is late.
+LATE = 1
+# How many clients drip, and a byte each in how many seconds; how many honest ones are beside them.
+DRIPPERS, PERIOD, HONEST = 60, 3, 6
+# How many read slowly, and how many bytes a second; how many fast ones are beside them.
+SLOW, PACE, FAST = 100, 400_000, 20
+# For so many seconds a server stands still, while so many clients send a block.
+STILL, UPLOADS = 7, 40
+# How many clients never read, and what they ask for: blocks of so many bytes, so often.
+MUTE, UNREAD = 1000, [(1000, 100), (100_000, 4), (1_000_000, 4)]
 
 
 class Failed(Exception):
@@ -378,6 +394,88 @@ def idle_of(given, count, seconds):
         print(f"  {name:12}  {used:.2f} s of a processor, {memory:.0f} MB", flush=True)
 
 
+def beside(given, title, act):
+    """Prints what becomes of others, for each server."""
+    print(title)
+    for name, server in servers(given, Row("", "")):
+        with server:
+            answered, late, refused, closed = act(server)
+            if not server.runs():
+                raise Failed("the server ended")
+        print(f"  {name:12}  answered {answered:,}, after more than {LATE} s {late:,}, refused {refused:,}, closed {closed:,}", flush=True)
+
+
+def newcomers(port, seconds):
+    """Clients that come one after another and ask for an item that isn't there: how long each took, and how many were refused."""
+    times, refused, end = [], 0, time.monotonic() + seconds
+    while time.monotonic() < end:
+        began = time.monotonic()
+        try:
+            with Peer(port, PATIENCE) as peer:
+                peer.asks(b"get none\r\n", b"END\r\n")
+            times.append(time.monotonic() - began)
+        except (OSError, AssertionError):
+            refused += 1
+        time.sleep(0.1)
+    return times, refused
+
+
+def drippers(server, seconds):
+    """Clients that drip have done so for a while when the honest ones come."""
+    with Drips(server.port, DRIPPERS, len(LARGE), [PERIOD]):
+        time.sleep(seconds / 2)
+        asking = [Honest(server.port, name, seconds) for name in range(HONEST)]
+        for it in asking:
+            it.start()
+        times, refused = newcomers(server.port, seconds)
+        for it in asking:
+            it.join(PATIENCE)
+    times += [time for it in asking for time in it.times]
+    return len(times), sum(it > LATE for it in times), refused, sum(it.fault is not None for it in asking)
+
+
+def slow_readers(server, seconds):
+    large_item(server.port)
+    answer = len(b"VALUE large 0 1000000\r\n\r\nEND\r\n") + len(LARGE)
+    made = readers([PACE] * SLOW + [None] * FAST, server.port, answer, seconds)
+    return sum(it.got // answer for it in made), 0, 0, sum(it.is_closed for it in made)
+
+
+def pause(server):
+    made = uploads(server, UPLOADS, STILL)
+    times = [it.took for it in made if it.took is not None]
+    return len(times), sum(it > LATE for it in times), 0, len(made) - len(times)
+
+
+def unread(given):
+    for size, often in UNREAD:
+        print(f"{MUTE:,} connections that ask for {size:,} bytes {often} times and never read")
+        for name, server in servers(given, Row("", "")):
+            with server:
+                with connect(server.port) as link:
+                    put(link, b"unread", b"u" * size)
+                before = server.memory()
+                with clients(server.port, MUTE, receives=4096) as peers:
+                    sent_as_far(peers, b"get unread\r\n" * often, 5)
+                    time.sleep(2)
+                    held = server.memory() - before
+            print(f"  {name:12}  {held / 1e6:.0f} MB, {held / MUTE / 1e3:.1f} kB a connection", flush=True)
+
+
+def slow(given):
+    seconds = 10 if given.quick else 30
+    return {
+        "drippers": lambda: beside(
+            given, f"{DRIPPERS} that send a byte of a block of 1 MB each {PERIOD} s: what {HONEST} others that set and get 1 byte to 1 MB, and newcomers, have",
+            lambda server: drippers(server, seconds)),
+        "readers": lambda: beside(
+            given, f"{SLOW} that read answers of 1 MB at {PACE // 1000} kB/s beside {FAST} that read as fast as they can, for {seconds} s",
+            lambda server: slow_readers(server, seconds)),
+        "pause": lambda: beside(given, f"the server stands still for {STILL} s while {UPLOADS} send 1 MB", pause),
+        "unread": lambda: unread(given),
+    }
+
+
 def bursts(given):
     count = 2000 if given.quick else 10_000
     large = [(pipelines_gets, (b"get large\r\n",))] * 16
@@ -403,7 +501,7 @@ def main():
     given = arguments()
     signal.signal(signal.SIGTERM, lambda *_: sys.exit(1))
     raise_limits()
-    acts = {row.name: lambda row=row: waits_of(given, row) for row in rows(given.quick)} | bursts(given)
+    acts = {row.name: lambda row=row: waits_of(given, row) for row in rows(given.quick)} | bursts(given) | slow(given)
     if given.list:
         print(*acts, sep="\n")
         return 0

@@ -4,8 +4,9 @@
 // words: the seconds that are added to the system's clock, whether each peer seems to be another machine's, six that nobody reads, and
 // then a row of 16 for each call of CALLS in that order: each Kth call fails (0: none), how many may fail still (negative: no end), how
 // many calls there were, how many failed, how many errors follow, and the errors in turn. An error 0 stands for an answer of 0, as of a
-// send that takes nothing; 1000 and more for a call that is made after so many milliseconds less 1000. A call that fails isn't made, but
-// for close, whose descriptor is gone on Linux whatever it answers.
+// send that takes nothing; 1000 and more for a call that is made after so many milliseconds less 1000; 1000000 and more for an epoll_wait
+// whose answer comes so many milliseconds less 1000000 later. A call that fails isn't made, but for close, whose descriptor is gone on Linux
+// whatever it answers.
 #define _GNU_SOURCE
 #include <arpa/inet.h>
 #include <dlfcn.h>
@@ -26,7 +27,7 @@
 
 enum call { ACCEPT4, RECV, SEND, SENDMSG, EPOLL_WAIT, EPOLL_CTL, CLOSE, WRITE, PTHREAD_CREATE, CALLS };
 enum column { EVERY, LEFT, MADE, FAILED, ERRORS, FIRST, WIDTH = 16 };
-enum { CLOCK, ELSEWHERE, FRONT = 8, DELAY = 1000 };
+enum { CLOCK, ELSEWHERE, FRONT = 8, DELAY = 1000, LATE = 1000000 };
 
 typedef _Atomic int64_t word;
 
@@ -59,13 +60,17 @@ static int fault(enum call call) {
     return (int)row[FIRST + nth % count];
 }
 
+static void rest(int milliseconds) {
+    struct timespec time = {milliseconds / 1000, milliseconds % 1000 * 1000000L};
+    nanosleep(&time, NULL);
+}
+
 // The same, after the time for which this call is to wait.
 static int fault_or_delay(enum call call) {
     int error = fault(call);
     if (error < DELAY)
         return error;
-    struct timespec time = {(error - DELAY) / 1000, (error - DELAY) % 1000 * 1000000L};
-    nanosleep(&time, NULL);
+    rest(error - DELAY);
     return -1;
 }
 
@@ -100,9 +105,16 @@ ssize_t sendmsg(int fd, const struct msghdr *message, int flags) {
 }
 
 int epoll_wait(int fd, struct epoll_event *events, int most, int timeout) {
-    FAIL(EPOLL_WAIT);
     NEXT(epoll_wait);
-    return next(fd, events, most, timeout);
+    int error = fault(EPOLL_WAIT);
+    if (error >= 0 && error < DELAY)
+        return error ? (errno = error, -1) : 0;
+    if (error >= DELAY && error < LATE)
+        rest(error - DELAY);
+    int answer = next(fd, events, most, timeout);
+    if (error >= LATE)
+        rest(error - LATE);
+    return answer;
 }
 
 int epoll_ctl(int fd, int what, int of, struct epoll_event *event) {

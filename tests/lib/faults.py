@@ -4,6 +4,7 @@
         faults.fail("recv", [errno.EINTR], every=3)     # each third call of recv fails so
         faults.fail("accept4", [errno.EMFILE], left=1)  # the next one alone
         faults.fail("close", [delay(50)])               # each is made 50 ms later
+        faults.fail("epoll_wait", [late(50)], left=1)   # the next is made now, and answers 50 ms later
         faults.end()
         faults.set_clock_back(3600)
 
@@ -19,7 +20,7 @@ import tempfile
 HERE = os.path.dirname(os.path.realpath(__file__))
 # As in faults.c.
 CALLS = ["accept4", "recv", "send", "sendmsg", "epoll_wait", "epoll_ctl", "close", "write", "pthread_create"]
-CLOCK, ELSEWHERE, FRONT, WIDTH, WORD, DELAY = 0, 1, 8, 16, 8, 1000
+CLOCK, ELSEWHERE, FRONT, WIDTH, WORD, DELAY, LATE = 0, 1, 8, 16, 8, 1000, 1_000_000
 EVERY, LEFT, MADE, FAILED, ERRORS, FIRST = range(6)
 MOST = WIDTH - FIRST
 
@@ -27,6 +28,11 @@ MOST = WIDTH - FIRST
 def delay(milliseconds):
     """What stands in place of an error for a call that is made so much later."""
     return DELAY + milliseconds
+
+
+def late(milliseconds):
+    """What stands in place of an error for an epoll_wait whose answer comes so much later."""
+    return LATE + milliseconds
 
 
 @functools.cache

@@ -3,6 +3,7 @@ wrong, and gives its descriptors back."""
 import contextlib
 import errno
 import fcntl
+import socket
 import time
 from concurrent.futures import ThreadPoolExecutor
 
@@ -12,7 +13,7 @@ from tests.lib.faults import Faults
 from tests.lib.keeper import Keepers
 from tests.lib.peer import Peer, answers
 from tests.lib.process import outcome, started
-from tests.lib.scrape import MetricsServer, sent, told
+from tests.lib.scrape import MetricsServer, rest, sent, told
 from tests.lib.server import HOST, StillServer, free_port
 from tests.lib.wait import until
 
@@ -200,6 +201,15 @@ class Elsewhere(ProgramCase):
             with Peer(server.port) as peer:
                 peer.asks(b"get a\r\n", b"END\r\n")
             self.assertTrue(server.runs(), server.said())
+
+    def test_each_address_of_the_loopback_may(self):
+        with MetricsServer("--allow-quit") as server, socket.socket() as link:
+            link.bind(("127.0.0.2", 0))
+            link.settimeout(ANSWERED)
+            link.connect((HOST, server.metrics))
+            link.sendall(POST)
+            self.assertEqual(200, told(rest(link)).status)
+            self.assertEqual(0, server.process.wait(AGAIN))
 
 
 class Warned(ProgramCase):

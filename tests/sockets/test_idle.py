@@ -5,12 +5,15 @@ import time
 
 from tests.lib.abuse import store_large
 from tests.lib.case import ProgramCase
+from tests.lib.faults import Faults, late
 from tests.lib.peer import Peer, answers, clients
 from tests.lib.server import HOST, MOMENT, Server
 from tests.lib.wait import until
 
 # So many seconds nothing may be heard, and so soon one is closed, from when it was heard of last.
 LIMIT, SOON = 1, 5
+# Behind its last answer a connection stays for so many seconds more.
+LINGERS = 4
 # What is said before nothing is heard any more.
 SAID = [b"", b"get a\r\n", b"ver", b"set a 0 0 10\r\n12345"]
 # More than a worker looks at in turn.
@@ -20,10 +23,12 @@ WATCHED, OFTEN = 4, 0.4
 # What one asks for who reads slowly, and how much of it is read each time: more than the system keeps for it.
 ASKED, PIECE = 40, 2_500_000
 SMALL = b"s" * 1000
+# For so many milliseconds a worker stands still behind its look for events, which it takes half a second for at most.
+STILL, POLL = 3000, 0.7
 
 
-def idle_server(seconds, *more):
-    return Server(args=["--now", str(MOMENT), "--idle-timeout", str(seconds), *more])
+def idle_server(seconds, *more, **options):
+    return Server(args=["--now", str(MOMENT), "--idle-timeout", str(seconds), *more], **options)
 
 
 def lives(peers, began, seconds):
@@ -87,8 +92,21 @@ class Idle(ProgramCase):
             with clients(server.port, 100, receives=4096) as peers:
                 for number, peer in enumerate(peers):
                     peer.send(b"get small\r\n" * (45 * number) + b"quit\r\n")
-                found = until(lambda: server.connections() == 0, SOON)
+                found = until(lambda: server.connections() == 0, SOON + LINGERS)
             self.assertTrue(found, f"it has {server.connections()} sockets still")
+
+    def test_those_that_are_heard_of_in_a_pause(self):
+        """What is sent while a worker stands still, behind its look for events and before that for idle ones, counts."""
+        with Faults() as faults, idle_server(LIMIT, workers=1, faults=faults) as server:
+            server.settle()
+            with clients(server.port, 20) as peers:
+                for peer in peers:
+                    peer.asks(b"get a\r\n", b"END\r\n")
+                faults.fail("epoll_wait", [late(STILL)], left=1)
+                self.assertTrue(until(lambda: faults.count("epoll_wait") == 1, SOON), "nobody looks for events")
+                time.sleep(POLL)
+                for peer in peers:
+                    peer.asks(b"get a\r\n", b"END\r\n")
 
     def test_the_place_of_one_comes_back(self):
         with idle_server(LIMIT, "-c", "2") as server:

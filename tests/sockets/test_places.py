@@ -35,6 +35,7 @@ class Leaving(ProgramCase):
                     for it in rest:
                         it.is_told(hit[: -len(b"END\r\n")] + hit)
                         self.assertTrue(it.is_closed(), "a connection that was told all is open")
+                        it.close()  # (until then it lingers)
                     newcomers = stack.enter_context(clients(server.port, NEWCOMERS, seconds=ANSWERED))
                     for nth, it in enumerate(newcomers):
                         it.send(b"set k%d 0 0 3\r\n%03d\r\n" % (nth, nth))
@@ -42,7 +43,7 @@ class Leaving(ProgramCase):
                         it.is_told(b"STORED\r\n")
                     for nth, it in enumerate(newcomers):
                         it.asks(b"get k%d\r\n" % nth, b"VALUE k%d 0 3\r\n%03d\r\nEND\r\n" % (nth, nth))
-                    self.assertEqual(NEWCOMERS, self.open(server), "open connections that are counted")
+                    self.assertTrue(until(lambda: self.open(server) == NEWCOMERS, ANSWERED), f"{self.open(server)} are counted, {NEWCOMERS} are open")
                 self.assertTrue(until(lambda: self.open(server) == 0, ANSWERED), f"{self.open(server)} are counted, and none is open")
 
     def open(self, server):
@@ -76,6 +77,39 @@ class Closing(ProgramCase):
 
 
 class WakeUps(ProgramCase):
+    # A worker rests for half a second at most. It is tried again where the machine was busy: a wake-up that is lost is lost each time.
+    SOON, TRIES = 0.3, 3
+
+    def test_before_each_store_of_a_worker(self):
+        """A newcomer that comes right before a worker stores what the acceptor reads, on its way to rest, is served at once."""
+        with StillServer(workers=1) as server:
+            server.settle()
+            (worker,) = workers(server)
+            stores = 0
+            while took := self.quickest(server, worker, stores):
+                self.assertLess(took, self.SOON, f"seconds until a newcomer before store {stores} was answered")
+                stores += 1
+            self.assertGreaterEqual(stores, 2, "stores of a worker that rests, and then doesn't")
+
+    def quickest(self, server, worker, nth):
+        """How long a newcomer before a store of the worker waits for its answer, the quickest of some; nothing if there is no such store."""
+        found = None
+        for _ in range(self.TRIES):
+            time.sleep(0.1)  # (it rests)
+            with contextlib.ExitStack() as stack:
+                with held(worker):
+                    if not takes_to_store(server.pid, worker, nth):
+                        return None
+                    peer = stack.enter_context(Peer(server.port))
+                    peer.send(b"get a\r\n")
+                    time.sleep(0.05)  # (it is accepted)
+                    began = time.monotonic()
+                peer.is_told(b"END\r\n")
+                found = min(found or self.SOON + 1, time.monotonic() - began)
+            if found < self.SOON:
+                break
+        return found
+
     def test_each_newcomer_wakes_a_worker(self):
         """A newcomer to a worker that is about to rest doesn't wait until its rest is over."""
         late = []

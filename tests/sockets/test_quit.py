@@ -7,7 +7,7 @@ import time
 from tests.lib.case import ProgramCase
 from tests.lib.listening import ended
 from tests.lib.peer import Peer
-from tests.lib.scrape import MetricsServer, rest, sent, told
+from tests.lib.scrape import MetricsServer, sent, told
 from tests.lib.server import HOST, free_port
 from tests.lib.wait import until
 
@@ -131,15 +131,6 @@ class Answers(ProgramCase):
                 self.assertEqual(404, told(sent(server.metrics, request)).status)
             peer.asks(b"get a\r\n", b"END\r\n")
             self.assertTrue(server.runs())
-
-    def test_it_is_granted_to_each_address_of_the_loopback(self):
-        with MetricsServer("--allow-quit") as server, socket.socket() as link:
-            link.bind(("127.0.0.2", 0))
-            link.settimeout(AT_MOST)
-            link.connect((HOST, server.metrics))
-            link.sendall(POST)
-            self.assertEqual(200, told(rest(link)).status)
-            self.assertEqual(0, server.process.wait(IDLE))
 
     def test_it_is_refused_from_elsewhere(self):
         """By an address of this machine that isn't its loopback's."""
