@@ -23,8 +23,8 @@ WATCHED, OFTEN = 4, 0.4
 # What one asks for who reads slowly, and how much of it is read each time: more than the system keeps for it.
 ASKED, PIECE = 40, 2_500_000
 SMALL = b"s" * 1000
-# For so many milliseconds a worker stands still behind its look for events, which it takes half a second for at most.
-STILL, POLL = 3000, 0.7
+# For so many milliseconds a worker stands still behind its look for events, which it takes half a second for at most; and the limit then.
+STILL, POLL, LONGER = 3000, 0.7, 2
 
 
 def idle_server(seconds, *more, **options):
@@ -97,11 +97,12 @@ class Idle(ProgramCase):
 
     def test_those_that_are_heard_of_in_a_pause(self):
         """What is sent while a worker stands still, behind its look for events and before that for idle ones, counts."""
-        with Faults() as faults, idle_server(LIMIT, workers=1, faults=faults) as server:
+        with Faults() as faults, idle_server(LONGER, workers=1, faults=faults) as server:
             server.settle()
             with clients(server.port, 20) as peers:
                 for peer in peers:
                     peer.asks(b"get a\r\n", b"END\r\n")
+                time.sleep(POLL)  # (each is seen waiting)
                 faults.fail("epoll_wait", [late(STILL)], left=1)
                 self.assertTrue(until(lambda: faults.count("epoll_wait") == 1, SOON), "nobody looks for events")
                 time.sleep(POLL)
