@@ -438,7 +438,8 @@ def slow_readers(server, seconds):
     large_item(server.port)
     answer = len(b"VALUE large 0 1000000\r\n\r\nEND\r\n") + len(LARGE)
     made = readers([PACE] * SLOW + [None] * FAST, server.port, answer, seconds)
-    return sum(it.got // answer for it in made), 0, 0, sum(it.is_closed for it in made)
+    times = [time for it in made if it.pace is None for time in it.times()]
+    return len(times), sum(it > LATE for it in times), 0, sum(it.is_closed for it in made)
 
 
 def pause(server):
@@ -469,7 +470,7 @@ def slow(given):
             given, f"{DRIPPERS} that send a byte of a block of 1 MB each {PERIOD} s: what {HONEST} others that set and get 1 byte to 1 MB, and newcomers, have",
             lambda server: drippers(server, seconds)),
         "readers": lambda: beside(
-            given, f"{SLOW} that read answers of 1 MB at {PACE // 1000} kB/s beside {FAST} that read as fast as they can, for {seconds} s",
+            given, f"{SLOW} that read answers of 1 MB at {PACE // 1000} kB/s, for {seconds} s: what {FAST} that read as fast as they can have",
             lambda server: slow_readers(server, seconds)),
         "pause": lambda: beside(given, f"the server stands still for {STILL} s while {UPLOADS} send 1 MB", pause),
         "unread": lambda: unread(given),

@@ -102,10 +102,11 @@ class TimesOut(threading.Thread):
 
 
 class Reader:
-    """A client that asks for a block again and again, and reads so many bytes a second, or as many as come."""
+    """A client that asks for a block again and again, and reads so many bytes a second, or as many as come; it notes when each was whole."""
 
     def __init__(self, peer, pace):
         self.socket, self.pace, self.began, self.got, self.asked, self.is_closed = peer.socket, pace, time.monotonic(), 0, 0, False
+        self.whole = []
         self.socket.setblocking(False)
 
     def turn(self, room, answer):
@@ -119,6 +120,12 @@ class Reader:
         count = self.socket.recv_into(room[: min(due, len(room))])
         self.is_closed = count == 0
         self.got += count
+        if self.got // answer > len(self.whole):
+            self.whole.append(time.monotonic())
+
+    def times(self):
+        """How long each block took since the one before was whole."""
+        return [after - before for before, after in zip([self.began, *self.whole], self.whole)]
 
 
 def readers(paces, port, answer, seconds):
