@@ -49,6 +49,14 @@ QUERIES = [
     ('memcached_commands_total{command="get",status="miss"}', MISSES),
     ("sum(memcached_slab_chunks_used)", SETS),
     ("mcserver_refusals_total", 0),
+    ("sum(memcached_slab_items_outofmemory_total)", 0),
+    ("count(memcached_slab_items_outofmemory_total)", 41),
+    ("memcached_items_evicted_total", 0),
+    ("memcached_connections_rejected_total", 0),
+    ("count(process_resident_memory_bytes > 1e6)", 1),
+    ("count(process_max_fds >= process_open_fds)", 1),
+    ("count(time() - process_start_time_seconds < 60)", 1),
+    ("count(mcserver_build_info)", 1),
 ]
 
 
@@ -180,7 +188,7 @@ class Scraped(ProgramCase):
     def test_each_query_and_rule_has_data(self):
         """Of a server that is used; and nothing fires, as all is well."""
         asked = [*queries(), *formulas(), *((name, part) for name, parts in compared().items() for part in parts)]
-        self.assertEqual((17, 2, 8), (len([*queries()]), len(formulas()), sum(map(len, compared().values()))))
+        self.assertEqual((22, 2, 9), (len([*queries()]), len(formulas()), sum(map(len, compared().values()))))
         with MetricsServer() as server, self.prometheus(server) as answers:
 
             def without_data():

@@ -10,7 +10,9 @@ SECONDS = 10
 GET = b"GET /metrics HTTP/1.1\r\nHost: mcserver\r\n\r\n"
 TEXT = "text/plain; version=0.0.4; charset=utf-8"
 HEAD = re.compile(r"# HELP (\w+) (.+)\n# TYPE (\w+) (counter|gauge)")
-SAMPLE = re.compile(r'([a-z_]+)(\{[a-z]+="[^"\\]*"(?:,[a-z]+="[^"\\]*")*\})? (\d+)')
+SAMPLE = re.compile(r'([a-z_]+)(\{[a-z]+="[^"\\]*"(?:,[a-z]+="[^"\\]*")*\})? (\d+(?:\.\d\d)?)')
+# What the system counts of the process grows by itself.
+PROCESS = "process_"
 
 Told = namedtuple("Told", "status fields body")
 
@@ -29,15 +31,16 @@ def rest(link):
     return b"".join(pieces)
 
 
-def told(answer):
-    """An answer's status, its fields under their small names, and its body, which is as long as it says."""
+def told(answer, without_body=False):
+    """An answer's status, its fields under their small names, and its body, which is as long as it says, or isn't there."""
     head, end, body = answer.partition(b"\r\n\r\n")
     if not end:
         raise AssertionError(f"this is no answer: {answer!r}")
     first, *lines = head.decode().split("\r\n")
     version, status = first.split(" ")[:2]
     fields = {name.lower(): value.strip() for name, _, value in (line.partition(":") for line in lines)}
-    if version != "HTTP/1.1" or fields["connection"] != "close" or int(fields["content-length"]) != len(body):
+    length = 0 if without_body else int(fields["content-length"])
+    if version != "HTTP/1.1" or fields["connection"] != "close" or length != len(body):
         raise AssertionError(f"the head isn't right: {head!r}, with {len(body)} bytes behind it")
     return Told(int(status), fields, body)
 
@@ -54,7 +57,7 @@ def families(page):
             sample = SAMPLE.fullmatch(line)
             if not sample or sample[1] != head[1] or sample[2] in samples:
                 raise AssertionError(f"this is no sample of {head[1]}: {line!r}")
-            samples[sample[2] or ""] = int(sample[3])
+            samples[sample[2] or ""] = float(sample[3]) if "." in sample[3] else int(sample[3])
         found[head[1]] = samples
     return found
 
@@ -82,5 +85,6 @@ class MetricsServer(Server):
         return scrape(self.metrics, seconds)
 
     def grown(self, before):
-        """By how much each number has grown, where it has."""
-        return {name: number - before.get(name, 0) for name, number in self.scrape().items() if number != before.get(name, 0)}
+        """By how much each number has grown, where it has, but for those of the process."""
+        now = {name: number for name, number in self.scrape().items() if not name.startswith(PROCESS)}
+        return {name: number - before.get(name, 0) for name, number in now.items() if number != before.get(name, 0)}

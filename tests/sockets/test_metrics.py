@@ -1,6 +1,8 @@
 """With --metrics it tells Prometheus over HTTP what is counted, each exactly; who holds a connection there keeps nobody out."""
 import contextlib
 import itertools
+import os
+import re
 import socket
 import subprocess
 import threading
@@ -23,6 +25,10 @@ LARGE = b"l" * 1000000
 
 def command(name, status):
     return f'memcached_commands_total{{command="{name}",status="{status}"}}'
+
+
+def out_of_memory(slab):
+    return f'memcached_slab_items_outofmemory_total{{slab="{slab}"}}'
 
 
 def closed(reason):
@@ -65,12 +71,19 @@ COMMANDS = [
 REQUESTS = [
     (b"GET /metrics HTTP/1.1\r\nHost: a\r\n\r\n", 200),
     (b"GET /metrics HTTP/1.0\r\n\r\n", 200),
+    (b"GET /metrics?x=1&y=/quit HTTP/1.1\r\nHost: a\r\n\r\n", 200),
+    (b"GET /metrics? HTTP/1.1\r\nHost: a\r\nOrigin: http://a\r\n\r\n", 200),
     (b"GET /healthz HTTP/1.1\r\nHost: a\r\nAccept: */*\r\n\r\n", 200),
-    (b"GET / HTTP/1.1\r\nHost: a\r\n\r\n", 404),
+    (b"GET /healthz?now=1?a HTTP/1.1\r\nHost: a\r\n\r\n", 200),
+    (b"GET / HTTP/1.1\r\nHost: a\r\n\r\n", 200),
+    (b"GET /?a HTTP/1.1\r\nHost: a\r\n\r\n", 200),
     (b"GET /metrics/ HTTP/1.1\r\nHost: a\r\n\r\n", 404),
+    (b"GET /metric?s HTTP/1.1\r\nHost: a\r\n\r\n", 404),
+    (b"GET ?/metrics HTTP/1.1\r\nHost: a\r\n\r\n", 404),
     (b"POST /metrics HTTP/1.1\r\nHost: a\r\nContent-Length: 3\r\n\r\nabc", 405),
-    (b"HEAD /metrics HTTP/1.1\r\nHost: a\r\n\r\n", 405),
+    (b"POST / HTTP/1.1\r\nHost: a\r\n\r\n", 405),
     (b"get /metrics HTTP/1.1\r\nHost: a\r\n\r\n", 405),
+    (b"head /metrics HTTP/1.1\r\nHost: a\r\n\r\n", 405),
     (b"GET /metrics HTTP/2.0\r\n\r\n", 400),
     (b"GET /metrics\r\n\r\n", 400),
     (b"get a\r\n", 400),
@@ -80,6 +93,8 @@ REQUESTS = [
     (b"GET /" + b"m" * LONGEST + b" HTTP/1.1\r\n\r\n", 431),
     (b"GET / HTTP/1.1\r\nA: " + b"m" * (3 * LONGEST) + b"\r\n\r\n", 431),
 ]
+# What is asked by HEAD, and the status of the answer, which has no body.
+HEADS = [(b"/metrics", 200), (b"/metrics?a", 200), (b"/healthz", 200), (b"/", 200), (b"/none", 404), (b"/quit", 404)]
 
 
 def hash_of(key):
@@ -106,7 +121,7 @@ class Metrics(ProgramCase):
                     self.assertEqual({it: wanted.count(it) for it in wanted}, self.counted(server, before))
 
     def counted(self, server, before):
-        kinds = ("memcached_commands_total", STORED, REFUSED)
+        kinds = ("memcached_commands_total", STORED, REFUSED, "memcached_slab_items_outofmemory_total")
         return {name: grown for name, grown in server.grown(before).items() if name.startswith(kinds)}
 
     def test_what_it_has(self):
@@ -115,7 +130,7 @@ class Metrics(ProgramCase):
             now = server.scrape()
             self.assertEqual([1, 3 * 1048576, 77, 8, 0, 0], [now[it] for it in (
                 "memcached_up", "memcached_limit_bytes", "memcached_max_connections", "mcserver_shelves", ITEMS, "memcached_current_bytes")])
-            self.assertFalse([it for it in now if "slab=" in it], "classes that have no page")
+            self.assertFalse([it for it in now if "slab=" in it and "outofmemory" not in it], "classes that have no page")
             version = subprocess.run([self.program, "--version"], capture_output=True, text=True, check=True).stdout.split()[1]
             self.assertEqual(1, now[f'memcached_version{{version="{version}"}}'])
             for key in (b"a", b"b", b"c"):
@@ -173,7 +188,23 @@ class Metrics(ProgramCase):
             for _ in range(3):
                 peer.asks(b"set second 0 0 1\r\nx\r\n", b"SERVER_ERROR out of memory storing object\r\n")
             peer.asks(b"add third 0 0 1 noreply\r\nx\r\nget third\r\n", b"END\r\n")
-            self.assertEqual({REFUSED: 4, command("get", "miss"): 1}, self.counted(server, before))
+            # 48 bytes, a key of 5 or 6 and a block of 1 are of the first class, whose chunks have 96 bytes
+            self.assertEqual({REFUSED: 4, out_of_memory(1): 4, command("get", "miss"): 1}, self.counted(server, before))
+            before = server.scrape()
+            for size, slab in ((43, 1), (44, 2), (1000, 12), (600000, 40)):
+                peer.asks(b"set refus 0 0 %d\r\n%s\r\n" % (size, b"x" * size), b"SERVER_ERROR out of memory storing object\r\n")
+                self.assertEqual({REFUSED: 1, out_of_memory(slab): 1}, self.counted(server, before), size)
+                before = server.scrape()
+
+    def test_refusals_of_items_that_grow(self):
+        """Their class isn't known: they count as of class 0, and each class has a number from the start."""
+        with MetricsServer(pages=1) as server, Peer(server.port) as peer:
+            before = server.scrape()
+            self.assertEqual([0] * 41, [before[out_of_memory(slab)] for slab in range(41)])
+            peer.asks(b"set small 0 0 20\r\n%s\r\n" % (b"x" * 20), b"STORED\r\n")
+            before = server.scrape()
+            peer.asks(b"append small 0 0 100\r\n%s\r\n" % (b"x" * 100), b"SERVER_ERROR out of memory storing object\r\n")
+            self.assertEqual({REFUSED: 1, out_of_memory(0): 1}, self.counted(server, before))
 
     def test_connections_and_bytes(self):
         with MetricsServer("-c", "4") as server:
@@ -190,12 +221,63 @@ class Metrics(ProgramCase):
                 peers[0].send(b"quit\r\n")
                 self.assertTrue(peers[0].is_closed())
             wanted = {"memcached_connections_total": 5, closed("one_too_many"): 1, closed("session_over"): 1, closed("client_closed"): 3}
+            wanted |= {"memcached_connections_rejected_total": 1}
             wanted |= {READ: 4 * len(b"get abc\r\n") + len(b"quit\r\n"), WRITTEN: 4 * len(b"END\r\n"), command("get", "miss"): 4}
 
             def found():
                 return {name: grown for name, grown in server.grown(before).items() if name != "memcached_uptime_seconds"} == wanted
 
             self.assertTrue(until(found, SOON), f"{server.grown(before)}, wanted {wanted}")
+
+    def test_why_connections_were_closed(self):
+        """quit and a line that is too long are told apart, however much was answered before, and what a block holds is no answer."""
+        with MetricsServer() as server:
+            before = server.scrape()
+            with Peer(server.port) as peer:
+                peer.asks(b"version\r\n" + b"x" * 70000, b"VERSION 1.6.0\r\nCLIENT_ERROR line too long\r\n")
+                self.assertTrue(peer.is_closed())
+            with Peer(server.port) as peer:
+                peer.asks(b"set a 0 0 26\r\nCLIENT_ERROR line too long\r\n", b"STORED\r\n")
+                peer.asks(b"get a\r\nquit\r\n", b"VALUE a 0 26\r\nCLIENT_ERROR line too long\r\nEND\r\n")
+                self.assertTrue(peer.is_closed())
+            wanted = {closed("line_too_long"): 1, closed("session_over"): 1}
+
+            def found():
+                return {name: grown for name, grown in server.grown(before).items() if "closed_total" in name} == wanted
+
+            self.assertTrue(until(found, SOON), server.grown(before))
+
+    def test_the_process(self):
+        """What it is told of the process is what the system has for it."""
+        with MetricsServer("-c", "50") as server, clients(server.port, 10) as peers:
+            for peer in peers:
+                peer.asks(b"get abc\r\n", b"END\r\n")
+            now = server.scrape()
+            with open(f"/proc/{server.pid}/status") as it:
+                status = dict(line.split(":", 1) for line in it)
+            with open(f"/proc/{server.pid}/limits") as it:
+                limit = int(re.search(r"Max open files +(\d+)", it.read())[1])
+            resident, virtual = (int(status[name].split()[0]) * 1024 for name in ("VmRSS", "VmSize"))
+            self.assertAlmostEqual(resident, now["process_resident_memory_bytes"], delta=resident / 4)
+            self.assertAlmostEqual(virtual, now["process_virtual_memory_bytes"], delta=virtual / 4)
+            self.assertTrue(until(lambda: server.scrape()["process_open_fds"] == self.descriptors(server) + 1, SOON), "a scrape has one of its own")
+            self.assertEqual(limit, now["process_max_fds"])
+            self.assertAlmostEqual(time.time(), now["process_start_time_seconds"], delta=SOON)
+            self.assertLess(now["process_cpu_seconds_total"], SOON)
+            self.assertTrue(until(lambda: self.uses_time(server, now), SOON), "its time of CPU doesn't grow")
+
+    def descriptors(self, server):
+        return len(os.listdir(f"/proc/{server.pid}/fd"))
+
+    def uses_time(self, server, before):
+        """Has it work, and tells whether its time of CPU has grown by what the system says, within a tenth of a second."""
+        with Peer(server.port) as peer:
+            peer.asks(b"get none\r\n" * 10000, b"END\r\n" * 10000)
+        found = server.scrape()["process_cpu_seconds_total"]
+        with open(f"/proc/{server.pid}/stat") as it:
+            words = it.read().rpartition(")")[2].split()
+        self.assertAlmostEqual((int(words[11]) + int(words[12])) / os.sysconf("SC_CLK_TCK"), found, delta=0.1)
+        return found > before["process_cpu_seconds_total"]
 
     def test_idle_connections_are_closed(self):
         with MetricsServer("--idle-timeout", "1") as server, clients(server.port, 3):
@@ -234,10 +316,32 @@ class Requests(ProgramCase):
                 with self.subTest(request[:40]):
                     answer = told(sent(server.metrics, request))
                     self.assertEqual(status, answer.status)
-                    if status not in (200, 404):
-                        self.assertEqual(b"", answer.body)
+                    if status != 200:
+                        self.assertRegex(answer.body, rb"\A[^\n]{10,100}\n\Z")
+                        self.assertEqual("text/plain; charset=utf-8", answer.fields["content-type"])
             self.assertEqual(b"ok\n", told(sent(server.metrics, b"GET /healthz HTTP/1.1\r\n\r\n")).body)
-            self.assertEqual("GET", told(sent(server.metrics, b"PUT / HTTP/1.1\r\n\r\n")).fields["allow"])
+            self.assertEqual("GET, HEAD", told(sent(server.metrics, b"PUT / HTTP/1.1\r\n\r\n")).fields["allow"])
+
+    def test_head_has_the_length_and_no_body(self):
+        with MetricsServer() as server:
+            for path, status in HEADS:
+                with self.subTest(path):
+                    head = told(sent(server.metrics, b"HEAD %s HTTP/1.1\r\nHost: a\r\n\r\n" % path), without_body=True)
+                    whole = told(sent(server.metrics, b"GET %s HTTP/1.1\r\nHost: a\r\n\r\n" % path))
+                    self.assertEqual((status, status), (head.status, whole.status))
+                    self.assertEqual(whole.fields["content-type"], head.fields["content-type"])
+                    # the numbers of two pages may differ in a few digits
+                    self.assertAlmostEqual(len(whole.body), int(head.fields["content-length"]), delta=len(whole.body) / 100)
+
+    def test_the_first_page_has_links(self):
+        """To what there is, and each of them is answered."""
+        with MetricsServer() as server:
+            page = told(sent(server.metrics, b"GET / HTTP/1.1\r\nHost: a\r\n\r\n"))
+            self.assertEqual("text/html; charset=utf-8", page.fields["content-type"])
+            links = re.findall(rb'<a href="([^"]*)">', page.body)
+            self.assertEqual([b"/metrics", b"/healthz"], links)
+            for link in links:
+                self.assertEqual(200, told(sent(server.metrics, b"GET %s HTTP/1.1\r\nHost: a\r\n\r\n" % link)).status)
 
     def test_one_that_comes_byte_by_byte(self):
         with MetricsServer() as server, socket.create_connection((HOST, server.metrics), timeout=SOON) as link:

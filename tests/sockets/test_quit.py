@@ -11,11 +11,45 @@ from tests.lib.scrape import MetricsServer, sent, told
 from tests.lib.server import HOST, free_port
 from tests.lib.wait import until
 
-POST = b"POST /quit HTTP/1.1\r\nHost: mcserver\r\nContent-Length: 0\r\n\r\n"
+POST = b"POST /quit HTTP/1.1\r\nHost: localhost\r\nContent-Length: 0\r\n\r\n"
 GET = b"GET /quit HTTP/1.1\r\nHost: mcserver\r\n\r\n"
 # Open connections have so many seconds at most; where none is open, or none has anything to do, it ends so soon.
 AT_MOST, EMPTY, IDLE, MORE = 5, 1, 4, 3
 BLOCK = b"b" * 1000000
+
+
+# Fields of a request that ends the server, if a peer of this machine sends it, and of one that may be a page's of another site.
+GRANTED = [
+    b"",
+    b"Host: localhost\r\n",
+    b"host: LocalHost:9150\r\n",
+    b"Host: 127.0.0.1\r\n",
+    b"Host: 127.0.0.1:9150\r\n",
+    b"Host:\t127.255.0.3:80 \r\n",
+    b"Host: [::1]\r\n",
+    b"HOST: [::1]:9150\r\n",
+    b"X-Origin: http://example.org\r\nHost: localhost\r\nReferer: http://example.org/\r\n",
+]
+REFUSED = [
+    b"Host: localhost\r\nOrigin: http://localhost\r\n",
+    b"Host: localhost\r\norigin:\r\n",
+    b"ORIGIN: null\r\nHost: 127.0.0.1\r\n",
+    b"Host: mcserver\r\n",
+    b"Host:\r\n",
+    b"Host: example.org:9150\r\n",
+    b"Host: localhost.example.org\r\n",
+    b"Host: example.localhost\r\n",
+    b"Host: 127.0.0.1.example.org\r\n",
+    b"Host: 127.example.org\r\n",
+    b"Host: 10.0.0.1\r\n",
+    b"Host: 1270.0.0.1\r\n",
+    b"Host: 0.0.0.0\r\n",
+    b"Host: [::2]:9150\r\n",
+    b"Host: [::1].example.org\r\n",
+    b"Host: ::1\r\n",
+    b"Host: localhost\r\nHost: example.org\r\n",
+    b"Host: localhost\r\n" + b"A: b\r\n" * 62 + b"Origin: a\r\n",
+]
 
 
 class Quitting(ProgramCase):
@@ -114,14 +148,29 @@ class Quitting(ProgramCase):
 
 
 class Answers(ProgramCase):
+    def test_pages_of_other_sites_do_not_end_it(self):
+        with MetricsServer("--allow-quit") as server:
+            for fields in REFUSED:
+                with self.subTest(fields[:60]):
+                    answer = told(sent(server.metrics, b"POST /quit HTTP/1.1\r\n%s\r\n" % fields))
+                    self.assertEqual(403, answer.status)
+            self.assertTrue(server.runs())
+
+    def test_each_name_of_the_loopback_ends_it(self):
+        for fields in GRANTED:
+            with self.subTest(fields[:60]), MetricsServer("--allow-quit") as server:
+                answer = told(sent(server.metrics, b"POST /quit?a=1 HTTP/1.1\r\n%s\r\n" % fields))
+                self.assertEqual((200, b"stopping\n"), (answer.status, answer.body))
+                self.assertEqual(0, server.process.wait(IDLE))
+
     def test_other_methods(self):
         with MetricsServer("--allow-quit") as server:
             for method in (b"GET", b"PUT", b"DELETE", b"post", b"HEAD"):
-                answer = told(sent(server.metrics, method + GET[3:]))
+                answer = told(sent(server.metrics, method + GET[3:]), without_body=method == b"HEAD")
                 self.assertEqual((405, "POST"), (answer.status, answer.fields["allow"]), method)
-            for target in (b"/quit/", b"/quit?now", b"/", b"/QUIT"):
+            for target in (b"/quit/", b"/?quit", b"/", b"/QUIT"):
                 answer = told(sent(server.metrics, POST.replace(b"/quit", target)))
-                self.assertEqual((405, "GET"), (answer.status, answer.fields["allow"]), target)
+                self.assertEqual((405, "GET, HEAD"), (answer.status, answer.fields["allow"]), target)
             self.assertEqual(200, told(sent(server.metrics, b"GET /healthz HTTP/1.1\r\n\r\n")).status)
             self.assertTrue(server.runs())
 

@@ -8,6 +8,7 @@ from tests.lib.abuse import ANSWERED
 from tests.lib.case import ProgramCase
 from tests.lib.listening import Listener
 from tests.lib.peer import answers
+from tests.lib.scrape import sent
 from tests.lib.server import HOST, MOMENT, free_port
 from tests.lib.threads import fail_listener
 
@@ -42,10 +43,10 @@ def reset(link):
 # What a client does, and how the line that tells of its end ends.
 PARTINGS = [
     (close, b"the client closed it"),
-    (quit, b"quit, a line too long, or out of memory"),
-    (send_a_line_too_long, b"quit, a line too long, or out of memory"),
+    (quit, b"quit, or out of memory"),
+    (send_a_line_too_long, b"a line was too long"),
     (reset, b"read fault"),
-    (say_nothing, b"nothing was heard of it for as long as --idle-timeout allows"),
+    (say_nothing, b"idle for as long as --idle-timeout allows"),
 ]
 
 
@@ -92,6 +93,20 @@ class Told(ProgramCase):
         self.assertEqual("mcserver: read fault", lines.pop())
         reasons = collections.Counter(line.partition(" closed: ")[2] for line in lines)
         self.assertEqual({"the listener failed": count}, reasons)
+
+    def test_an_orderly_end(self):
+        """Connections that it ends are told of as ended so, with and without a limit for idle ones."""
+        for options in ((), ("--idle-timeout", "3600")):
+            metrics = free_port()
+            with self.subTest(options), self.started("-v", "--metrics", str(metrics), "--allow-quit", *options) as started:
+                with self.connected() as link:
+                    link.sendall(b"get a\r\n")
+                    self.assertEqual(b"END\r\n", link.recv(100))
+                    sent(metrics, b"POST /quit HTTP/1.1\r\nHost: localhost\r\n\r\n")
+                    self.assertEqual(b"", link.recv(100))
+                status, said = started.end()
+                self.assertEqual(0, status)
+                self.assertIn(b"connection 1 closed: the program was asked to end", said)
 
     def test_nothing_without_being_asked(self):
         with self.started() as started:

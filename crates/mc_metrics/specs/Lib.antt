@@ -1,3 +1,4 @@
+pub mod Access
 pub mod Pages
 pub mod Places
 pub mod Scrapes

@@ -1,5 +1,5 @@
 -- The page of metrics.
-use Rattle.std.specs.Prelude.{ℕ, ◌+◌, ◌*◌, ◌-◌, ◌%◌, ◌^◌, min, sum_by, List, [], ◌++◌, Option, Some, None, slice_get, codes, decimal}
+use Rattle.std.specs.Prelude.{ℕ, ◌+◌, ◌*◌, ◌-◌, ◌/◌, ◌%◌, ◌^◌, min, sum_by, List, [], ◌++◌, Option, Some, None, slice_get, codes, decimal}
 use Rattle.std.specs.Borrow.{Bor}
 use Rattle.std.specs.List.{flat_map}
 use Rattle.mc_metrics.specs.Places.{place_of}
@@ -9,12 +9,16 @@ use Rattle.mc_metrics.specs.declared.family.Family.{Family}
 use Rattle.mc_metrics.specs.declared.family.Kind.{Kind}
 use Rattle.mc_metrics.specs.declared.family.Kind.TheVariants.{Counter, Gauge}
 use Rattle.mc_metrics.specs.declared.family.Samples.{Samples}
-use Rattle.mc_metrics.specs.declared.family.Samples.TheVariants.{One, Each, Slabs}
+use Rattle.mc_metrics.specs.declared.family.Samples.TheVariants.{One, Each, Slabs, Refused, Process, Hundredths}
 use Rattle.mc_metrics.specs.declared.reading.Reading.{Reading}
 use Rattle.mc_metrics.specs.declared.reading.SlabReading.{SlabReading}
 use Rattle.mc_metrics.specs.declared.reading.TablesReading.{TablesReading}
 use Rattle.mc_metrics.specs.declared.reading.Figure.{Figure}
 use Rattle.mc_metrics.specs.declared.reading.Figure.TheVariants as figure
+use Rattle.mc_metrics.specs.declared.reading.ProcessReading.{ProcessReading}
+use Rattle.mc_metrics.specs.declared.reading.ProcessFigure.{ProcessFigure}
+use Rattle.mc_metrics.specs.declared.reading.ProcessFigure.TheVariants as process
+use Rattle.mc_metrics.specs.declared.reading.RefusedReading.{RefusedReading}
 use Rattle.mc_metrics.specs.declared.reading.SlabFigure.{SlabFigure}
 use Rattle.mc_metrics.specs.declared.reading.SlabFigure.TheVariants as slab
 
@@ -38,6 +42,7 @@ bytes_of slabs = min (sum_by (λ class. class.used * class.size) slabs) (2 ^ 64 
 -- a number that is told
 abbrev pub figure_of : Reading → Figure → ℕ
 figure_of reading figure.One = 1
+figure_of reading figure.Zero = 0
 figure_of reading figure.Uptime = reading.uptime
 figure_of reading (figure.Count counted) = number_at reading.counts (place_of counted)
 figure_of reading figure.Sets = both reading.counts SetStored SetNotStored
@@ -80,6 +85,15 @@ slab_figure_of reading slab.Chunks = reading.chunks
 slab_figure_of reading slab.Used = reading.used
 slab_figure_of reading slab.Free = reading.free
 
+-- a number that the system reports of the process, if it does
+abbrev pub process_figure_of : ProcessReading → ProcessFigure → Option ℕ
+process_figure_of reading process.Resident = reading.resident
+process_figure_of reading process.VirtualSize = reading.virtual_size
+process_figure_of reading process.Cpu = reading.cpu
+process_figure_of reading process.Started = reading.started
+process_figure_of reading process.OpenFds = reading.open_fds
+process_figure_of reading process.MostFds = reading.most_fds
+
 -- the name of a kind, as it stands at the end of a line
 abbrev pub kind_name : Kind → List ℕ
 kind_name Counter = codes " counter\n"
@@ -109,11 +123,41 @@ abbrev pub slabs_text : SlabFigure → (name : List ℕ) → List SlabReading �
 slabs_text told name slabs =
     flat_map (λ class. slab_text name class.number (slab_figure_of class told)) slabs
 
+-- a line for each class: its refused steps
+abbrev pub refused_text : (name : List ℕ) → List RefusedReading → List ℕ
+refused_text name rows = flat_map (λ row. slab_text name row.class row.count) rows
+
+-- the line of a number, if there is one
+abbrev pub known_text : (name : List ℕ) → Option ℕ → List ℕ
+known_text name None = []
+known_text name (Some number) = sample_text name [] number
+
+-- two decimals at the end of a line
+abbrev pub fraction_text : (tenths hundredths : ℕ) → List ℕ
+fraction_text tenths hundredths = codes "." ++ decimal tenths ++ decimal hundredths ++ codes "\n"
+
+-- the line of a number with two decimals
+abbrev pub decimals_line : (name : List ℕ) → (whole tenths hundredths : ℕ) → List ℕ
+decimals_line name whole tenths hundredths =
+    name ++ codes " " ++ decimal whole ++ fraction_text tenths hundredths
+
+-- the line of a number of hundredths, as a number with two decimals
+abbrev pub hundredths_line : (name : List ℕ) → (number : ℕ) → List ℕ
+hundredths_line name number = decimals_line name (number / 100) (number / 10 % 10) (number % 10)
+
+-- the same, if there is one
+abbrev pub hundredths_text : (name : List ℕ) → Option ℕ → List ℕ
+hundredths_text name None = []
+hundredths_text name (Some number) = hundredths_line name number
+
 -- the samples of a family
 abbrev pub samples_text : Reading → (name : List ℕ) → Samples → List ℕ
 samples_text reading name (One told) = sample_text name [] (figure_of reading told)
 samples_text reading name (Each rows) = each_text reading name rows.now
 samples_text reading name (Slabs told) = slabs_text told name reading.slabs.items
+samples_text reading name Refused = refused_text name reading.refused.items
+samples_text reading name (Process told) = known_text name (process_figure_of reading.process told)
+samples_text reading name (Hundredths told) = hundredths_text name (process_figure_of reading.process told)
 
 -- a family
 abbrev pub family_text : Reading → Family → List ℕ

@@ -1,6 +1,14 @@
 //! The answers over HTTP.
-ghost use Rattle.std.specs.Prelude.{◌≡◌, IfOk};
-ghost use Rattle.mc_metrics.specs.Scrapes.{response_text, status_line_of, fields_of};
+ghost use Rattle.std.specs.Prelude.{◌≡◌, ◌++◌, IfOk, OnOk};
+ghost use Rattle.mc_metrics.specs.Scrapes.{
+  body_of,
+  methods_of,
+  response_text,
+  sent_of,
+  status_line_of,
+  type_of,
+  whole,
+};
 
 use itoa::Buffer;
 use std::alloc::{AllocError, Global};
@@ -12,13 +20,15 @@ pub const NO_MEMORY: &[u8] =
 /// The answer to a request.
 #[derive(Clone, Copy)]
 pub enum Answer {
+    /// The page with links to the others.
+    Index,
     /// The page of metrics.
     Metrics,
     /// It serves.
     Healthy,
     /// There is no such page.
     NotFound,
-    /// The method isn't `GET`.
+    /// The method is neither `GET` nor `HEAD`.
     NotAllowed,
     /// The server is about to end.
     Stopping,
@@ -38,13 +48,35 @@ pub enum Answer {
     NoMemory,
 }
 
+/// The reply to a request.
+#[derive(Clone, Copy)]
+pub struct Reply {
+    pub answer: Answer,
+    /// Whether its body isn't sent, as the request was a `HEAD`.
+    pub is_head: bool,
+}
+
+impl Reply {
+    /// Returns a reply with its body.
+    pub fn whole(answer: Answer) -> Reply
+        ensures { result ≡ whole answer }
+    {
+        Reply {
+            answer,
+            is_head: false,
+        }
+    }
+}
+
 impl Answer {
     /// Returns the status line.
     fn status_line(self) -> &'static [u8]
         ensures { result.now ≡ status_line_of self }
     {
         match self {
-            Answer::Metrics | Answer::Healthy | Answer::Stopping => b"HTTP/1.1 200 OK\r\n",
+            Answer::Index | Answer::Metrics | Answer::Healthy | Answer::Stopping => {
+                b"HTTP/1.1 200 OK\r\n"
+            }
             Answer::NotFound => b"HTTP/1.1 404 Not Found\r\n",
             Answer::Forbidden => b"HTTP/1.1 403 Forbidden\r\n",
             Answer::NotAllowed | Answer::NotPosted => b"HTTP/1.1 405 Method Not Allowed\r\n",
@@ -55,40 +87,85 @@ impl Answer {
         }
     }
 
-    /// Returns the fields that it has besides the common ones.
-    fn fields(self) -> &'static [u8]
-        ensures { result.now ≡ fields_of self }
+    /// Returns the type of its body.
+    fn content_type(self) -> &'static [u8]
+        ensures { result.now ≡ type_of self }
     {
         match self {
+            Answer::Index => b"Content-Type: text/html; charset=utf-8\r\n",
             Answer::Metrics => b"Content-Type: text/plain; version=0.0.4; charset=utf-8\r\n",
-            Answer::Healthy | Answer::Stopping => b"Content-Type: text/plain; charset=utf-8\r\n",
-            Answer::NotAllowed => b"Allow: GET\r\n",
+            _ => b"Content-Type: text/plain; charset=utf-8\r\n",
+        }
+    }
+
+    /// Returns the methods that it names, if another one was used.
+    fn methods(self) -> &'static [u8]
+        ensures { result.now ≡ methods_of self }
+    {
+        match self {
+            Answer::NotAllowed => b"Allow: GET, HEAD\r\n",
             Answer::NotPosted => b"Allow: POST\r\n",
             _ => b"",
+        }
+    }
+
+    /// Returns its body. That of `Metrics` is the page.
+    fn body<'a>(self, page: &'a [u8]) -> &'a [u8]
+        ensures { result.now ≡ body_of self page.now }
+    {
+        match self {
+            Answer::Index => {
+                b"<!DOCTYPE html>\n<title>mcserver</title>\n<p><a href=\"/metrics\">/metrics</a> has the numbers.\n<p><a href=\"/healthz\">/healthz</a> returns 200 while the server runs.\n"
+            }
+            Answer::Metrics => page,
+            Answer::Healthy => b"ok\n",
+            Answer::NotFound => b"not found: there are /, /metrics and /healthz\n",
+            Answer::Stopping => b"stopping\n",
+            Answer::Forbidden => {
+                b"forbidden: only a client of this machine's loopback may end the server, and no page\n"
+            }
+            Answer::NotPosted => b"method not allowed: POST ends the server\n",
+            Answer::NotAllowed => b"method not allowed: GET or HEAD\n",
+            Answer::Bad => b"bad request: it isn't HTTP/1.1, or has more than 64 fields\n",
+            Answer::TooSlow => b"request timeout: it wasn't complete after 2 seconds\n",
+            Answer::TooLong => b"request too long: at most 8192 bytes\n",
+            Answer::CannotStop => b"the server can't be asked to end\n",
+            Answer::NoMemory => b"no memory for the page\n",
         }
     }
 
     /// Returns whether the client may have sent more than was read.
     pub fn may_leave_input(self) -> bool {
         match self {
-            Answer::Metrics | Answer::Healthy | Answer::NoMemory => false,
+            Answer::Index | Answer::Metrics | Answer::Healthy | Answer::NoMemory => false,
             _ => true,
         }
     }
 }
 
-/// Returns the text of an answer with this body, after which the connection is closed.
+/// Returns the text of a reply, after which the connection is closed. `page` is the page of
+/// metrics, and isn't used for another answer.
 ///
 /// The only error is a refused allocation.
-pub fn response(alloc: Global, answer: Answer, body: &[u8]) -> Result<Vec<u8>, AllocError>
-    ensures { IfOk result (λ text. text.items ≡ response_text answer body.now) }
+pub fn response(alloc: Global, reply: Reply, page: &[u8]) -> Result<Vec<u8>, AllocError>
+    ensures { IfOk result (λ text. text.items ≡ response_text reply page.now) }
 {
+    let Reply { answer, is_head } = reply;
+    let body = answer.body(page);
     let mut buffer = Buffer::new();
     let mut text = Vec::from_slice(alloc, answer.status_line())?;
-    text.extend_from_slice(answer.fields())?;
+    text.extend_from_slice(answer.content_type())?;
+    text.extend_from_slice(answer.methods())?;
     text.extend_from_slice(b"Connection: close\r\nContent-Length: ")?;
     text.extend_from_slice(buffer.format(body.len()).as_bytes())?;
     text.extend_from_slice(b"\r\n\r\n")?;
-    text.extend_from_slice(body)?;
+    text.extend_from_slice(sent_of(is_head, body))?;
     Ok(text)
+}
+
+/// Returns what is sent of a body.
+fn sent_of(without: bool, body: &[u8]) -> &[u8]
+    ensures { result.now ≡ sent_of without body.now }
+{
+    if without { b"" } else { body }
 }

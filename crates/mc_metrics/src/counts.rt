@@ -49,6 +49,10 @@ impl Counted {
 /// The number of counters.
 pub const COUNTED: usize = 19;
 
+/// The number of counters of refused steps: one for each class of chunks at its number, and one at
+/// 0 for steps whose class isn't known.
+pub const REFUSED: usize = 41;
+
 /// The words between the counters of two workers: a cache line.
 const APART: usize = 8;
 
@@ -59,6 +63,7 @@ const APART: usize = 8;
 pub struct Counts {
     _before: [u64; APART],
     cells: [AtomicU64; COUNTED],
+    refused: [AtomicU64; REFUSED],
     _behind: [u64; APART],
 }
 
@@ -68,6 +73,7 @@ impl Counts {
         Counts {
             _before: [0; APART],
             cells: array::from_fn(|_at| AtomicU64::new(0)),
+            refused: array::from_fn(|_at| AtomicU64::new(0)),
             _behind: [0; APART],
         }
     }
@@ -82,6 +88,21 @@ impl Counts {
     /// Returns the counter at an index, modulo 2^64, and 0 if there is none.
     pub fn at(&self, place: usize) -> u64 {
         match self.cells.get(place) {
+            Some(cell) => cell.load(Ordering::SeqCst),
+            None => 0,
+        }
+    }
+
+    /// Counts a step that was refused for want of a chunk of the class with this number.
+    pub fn refuse(&self, class: usize) {
+        if let Some(cell) = self.refused.get(class) {
+            cell.fetch_add(1, Ordering::SeqCst);
+        }
+    }
+
+    /// Returns the refused steps of a class, modulo 2^64, and 0 if there is no such class.
+    pub fn refused_at(&self, class: usize) -> u64 {
+        match self.refused.get(class) {
             Some(cell) => cell.load(Ordering::SeqCst),
             None => 0,
         }

@@ -1,6 +1,6 @@
 //! Families of samples.
 
-use crate::reading::{Figure, SlabFigure};
+use crate::reading::{Figure, ProcessFigure, SlabFigure};
 
 /// Whether a number only grows.
 #[derive(Clone, Copy)]
@@ -18,6 +18,12 @@ pub enum Samples {
     Each(&'static [(&'static str, Figure)]),
     /// One sample for each class of chunks that has a page.
     Slabs(SlabFigure),
+    /// One sample for each class of chunks: its refused steps.
+    Refused,
+    /// One sample without labels, if the system reports the number.
+    Process(ProcessFigure),
+    /// The same in hundredths, as a number with two decimals.
+    Hundredths(ProcessFigure),
 }
 
 /// A family of samples: its kind, its name, its help, and its samples.

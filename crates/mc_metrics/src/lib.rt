@@ -7,22 +7,23 @@
 //!
 //! [`Counts`] are the counters of one worker, each a [`Counted`]: only the worker writes them, so
 //! counting is one addition. A [`Reading`] has the values for one page, and a [`Family`] is a name
-//! with its samples; [`page_of`] makes the page of both. [`request_of`] reads a request of a
-//! connection within a limit of time and of bytes, [`read_request`] returns its answer
-//! ([`Answer`]), [`response`] makes the text, and [`send`] sends it. A peer on the same machine may
-//! be allowed to end the server by `POST /quit` ([`QuitAccess`]).
+//! with its samples; [`page_of`] makes the page of both. [`read_request`] returns the reply to a
+//! request ([`Reply`]), and [`response`] makes its text. A peer on the same machine may be allowed
+//! to end the server by `POST /quit`.
 //!
-//! Contracts state that an answer is a function of the method and the target of the request's head,
-//! as the grammar of HTTP/1.1 (`httparse`) reads it; that the page is a function of the families
-//! and of the reading; and that sums stop at 2^64 - 1. No contract states that counters have
+//! Contracts state that a reply is a function of whether the server may be ended, of the peer's
+//! address and of the request's head, as the grammar of HTTP/1.1 (`httparse`) reads it; that
+//! exactly a trusted `POST /quit` ends the server, where that is allowed; that the page is a
+//! function of the families and of the reading; and that sums stop at 2^64 - 1. No contract states that counters have
 //! counted what happened, since threads share them: tests over sockets check that.
 //!
-//! Begin with `specs/Pages.antt`, `src/page.rt` and `src/reading.rt`; then `specs/Scrapes.antt` and
-//! `src/request.rt`.
+//! Begin with `specs/Pages.antt`, `src/page.rt` and `src/reading.rt`; then `specs/Scrapes.antt`,
+//! `specs/Access.antt` and `src/request.rt`.
 //!
 //! Tests: mc_server_tests, src/telemetry_tests.rt.
 #![tactic(auto)]
 
+mod access;
 mod answer;
 mod counts;
 mod family;
@@ -30,9 +31,12 @@ mod page;
 mod reading;
 mod request;
 
-pub use answer::{Answer, NO_MEMORY, response};
-pub use counts::{COUNTED, Counted, Counts};
+pub use answer::{Answer, NO_MEMORY, Reply, response};
+pub use counts::{COUNTED, Counted, Counts, REFUSED};
 pub use family::{Family, Kind, Samples};
 pub use page::page_of;
-pub use reading::{Figure, Reading, SlabFigure, SlabReading, TablesReading, bytes_of, number_at};
-pub use request::{QuitAccess, read_request};
+pub use reading::{
+    Figure, ProcessFigure, ProcessReading, Reading, RefusedReading, SlabFigure, SlabReading,
+    TablesReading, bytes_of, number_at,
+};
+pub use request::read_request;

@@ -7,13 +7,19 @@ ghost use Rattle.mc_metrics.specs.Pages.{
   kind_name,
   each_text,
   slabs_text,
+  refused_text,
+  known_text,
+  fraction_text,
+  decimals_line,
+  hundredths_line,
+  hundredths_text,
   samples_text,
   family_text,
   families_text,
 };
 
 use crate::family::{Family, Kind, Samples};
-use crate::reading::{Figure, Reading, SlabFigure, SlabReading};
+use crate::reading::{Figure, Reading, RefusedReading, SlabFigure, SlabReading};
 use itoa::Buffer;
 use std::alloc::{AllocError, Global};
 
@@ -66,6 +72,9 @@ fn put_samples(
         Samples::One(figure) => put_sample(page, name, "", reading.figure(figure)),
         Samples::Each(rows) => put_each(page, name, rows, reading),
         Samples::Slabs(figure) => put_slabs(page, name, figure, reading.slabs.as_slice()),
+        Samples::Refused => put_refused(page, name, reading.refused.as_slice()),
+        Samples::Process(figure) => put_known(page, name, reading.process.figure(figure)),
+        Samples::Hundredths(figure) => put_hundredths(page, name, reading.process.figure(figure)),
     }
 }
 
@@ -99,6 +108,73 @@ fn put_slabs(
         put_slab(page, name, slab.number, slab.figure(figure))?;
     }
     Ok(())
+}
+
+/// Appends a sample for each class of chunks: its refused steps.
+fn put_refused(page: &mut Vec<u8>, name: &str, rows: &[RefusedReading]) -> Result<(), AllocError>
+    ensures { OnOk result (page.new.items ≡ page.old.items ++ refused_text name.now rows.now) }
+{
+    for row in rows {
+        put_slab(page, name, row.class, row.count)?;
+    }
+    Ok(())
+}
+
+/// Appends a sample without labels, if there is a number.
+fn put_known(page: &mut Vec<u8>, name: &str, number: Option<u64>) -> Result<(), AllocError>
+    ensures { OnOk result (page.new.items ≡ page.old.items ++ known_text name.now number) }
+{
+    match number {
+        Some(number) => put_sample(page, name, "", number),
+        None => Ok(()),
+    }
+}
+
+/// Appends a sample of hundredths, if there is a number.
+fn put_hundredths(page: &mut Vec<u8>, name: &str, number: Option<u64>) -> Result<(), AllocError>
+    ensures { OnOk result (page.new.items ≡ page.old.items ++ hundredths_text name.now number) }
+{
+    match number {
+        Some(number) => put_hundredths_line(page, name, number),
+        None => Ok(()),
+    }
+}
+
+/// Appends the line of a number of hundredths.
+fn put_hundredths_line(page: &mut Vec<u8>, name: &str, number: u64) -> Result<(), AllocError>
+    ensures { OnOk result (page.new.items ≡ page.old.items ++ hundredths_line name.now number) }
+{
+    put_decimals(page, name, number / 100, number / 10 % 10, number % 10)
+}
+
+/// Appends the line of a number with two decimals.
+fn put_decimals(
+    page: &mut Vec<u8>,
+    name: &str,
+    whole: u64,
+    tenths: u64,
+    hundredths: u64,
+) -> Result<(), AllocError>
+    ensures { OnOk result (page.new.items
+        ≡ page.old.items ++ decimals_line name.now whole tenths hundredths) }
+{
+    let mut buffer = Buffer::new();
+    page.extend_from_slice(name.as_bytes())?;
+    page.extend_from_slice(b" ")?;
+    page.extend_from_slice(buffer.format(whole).as_bytes())?;
+    put_fraction(page, tenths, hundredths)
+}
+
+/// Appends two decimals, at the end of a line.
+fn put_fraction(page: &mut Vec<u8>, tenths: u64, hundredths: u64) -> Result<(), AllocError>
+    ensures { OnOk result (page.new.items
+        ≡ page.old.items ++ fraction_text tenths hundredths) }
+{
+    let mut buffer = Buffer::new();
+    page.extend_from_slice(b".")?;
+    page.extend_from_slice(buffer.format(tenths).as_bytes())?;
+    page.extend_from_slice(buffer.format(hundredths).as_bytes())?;
+    page.extend_from_slice(b"\n")
 }
 
 /// Appends the head of a family.

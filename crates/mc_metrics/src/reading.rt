@@ -27,6 +27,34 @@ pub struct Reading {
     pub shelves: u64,
     /// The classes of chunks that have a page, from the smallest up.
     pub slabs: Vec<SlabReading>,
+    /// The refused steps of each class.
+    pub refused: Vec<RefusedReading>,
+    pub process: ProcessReading,
+}
+
+/// The steps refused for want of a chunk of a class.
+#[derive(Clone, Copy)]
+pub struct RefusedReading {
+    /// The number of the class, and 0 for steps whose class isn't known.
+    pub class: u8,
+    pub count: u64,
+}
+
+/// What the system reports of the process; `None` is what it doesn't.
+#[derive(Clone, Copy)]
+pub struct ProcessReading {
+    /// The bytes in memory.
+    pub resident: Option<u64>,
+    /// The bytes of the address space.
+    pub virtual_size: Option<u64>,
+    /// The CPU time in hundredths of a second.
+    pub cpu: Option<u64>,
+    /// The start, in seconds since 1970.
+    pub started: Option<u64>,
+    /// The open descriptors.
+    pub open_fds: Option<u64>,
+    /// The limit of descriptors.
+    pub most_fds: Option<u64>,
 }
 
 /// The size of the tables by which items are found.
@@ -84,6 +112,8 @@ pub enum Figure {
     Bytes,
     Limit,
     Shelves,
+    /// 0.
+    Zero,
     /// The homes of all tables.
     Homes,
     Growths,
@@ -92,6 +122,18 @@ pub enum Figure {
     /// The entries that growths still have to move.
     Left,
     Strays,
+}
+
+/// A number that the system reports of the process.
+#[derive(Clone, Copy)]
+pub enum ProcessFigure {
+    Resident,
+    VirtualSize,
+    /// In hundredths of a second.
+    Cpu,
+    Started,
+    OpenFds,
+    MostFds,
 }
 
 /// A number of a sample for each class of chunks.
@@ -112,6 +154,7 @@ impl Reading {
     {
         match figure {
             Figure::One => 1,
+            Figure::Zero => 0,
             Figure::Uptime => self.uptime,
             Figure::Count(counted) => number_at(&self.counts, counted.place()),
             Figure::Sets => self.both(Counted::SetStored, Counted::SetNotStored),
@@ -170,6 +213,35 @@ impl TablesReading {
             running: self.running.saturating_add(others.running),
             left: self.left.saturating_add(others.left),
             strays: self.strays.saturating_add(others.strays),
+        }
+    }
+}
+
+impl ProcessReading {
+    ghost use Rattle.std.specs.Prelude.{◌≡◌};
+    ghost use Rattle.mc_metrics.specs.Pages.{process_figure_of};
+
+    /// A system that reports nothing.
+    pub const NONE: ProcessReading = ProcessReading {
+        resident: None,
+        virtual_size: None,
+        cpu: None,
+        started: None,
+        open_fds: None,
+        most_fds: None,
+    };
+
+    /// Returns a number, if the system reports it.
+    pub fn figure(&self, figure: ProcessFigure) -> Option<u64>
+        ensures { result ≡ process_figure_of self.now figure }
+    {
+        match figure {
+            ProcessFigure::Resident => self.resident,
+            ProcessFigure::VirtualSize => self.virtual_size,
+            ProcessFigure::Cpu => self.cpu,
+            ProcessFigure::Started => self.started,
+            ProcessFigure::OpenFds => self.open_fds,
+            ProcessFigure::MostFds => self.most_fds,
         }
     }
 }

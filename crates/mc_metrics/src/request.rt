@@ -1,20 +1,29 @@
-//! Requests over HTTP, and their answers.
+//! Requests over HTTP, and their replies.
 //!
-//! `httparse` parses a request and its contract is a grammar, so the answer is a function of method
-//! and target. What a refused client still sends is read before its connection is closed: otherwise
-//! the system would discard the answer.
-ghost use Rattle.std.specs.Prelude.{◌≡◌, ◌⊎◌, ◌≤◌, ℕ, List, length, IfSome, Some, None, if◌then◌else◌};
+//! `httparse` parses a request and its contract is a grammar, so the reply is a function of whether
+//! the server may be ended, of the peer's address, and of the request's head. What a refused client
+//! still sends is read before its connection is closed: otherwise the system would discard the
+//! answer.
+ghost use Rattle.std.specs.Prelude.{◌≡◌, ◌⊎◌, ◌↔◌, ◌≤◌, ℕ, List, length, IfSome, Some, None, if◌then◌else◌, codes, IsTrue};
 ghost use Rattle.httparse.specs.Grammar.{RequestHead, ReadsRequest, HasNoRequest};
 ghost use Rattle.httparse.specs.Spans.{RequestOverflows};
 ghost use Rattle.mc_metrics.specs.Scrapes.{
-  answer_to,
-  quit_answer,
+  Ends,
+  IsAskedToEnd,
+  MayEnd,
+  answer_at,
+  is_head,
   is_post,
-  page_at,
   most_fields,
+  page_at,
+  path_of,
+  quit_answer,
+  reply_to,
+  whole,
 };
 
-use crate::answer::Answer;
+use crate::access::{is_trusted, up_to};
+use crate::answer::{Answer, Reply};
 use httparse::Status;
 use httparse::spans::{EMPTY_HEADER_SPAN, parse_request};
 use std::net::IpAddr;
@@ -22,110 +31,113 @@ use std::net::IpAddr;
 /// The most fields of a request.
 const MOST_FIELDS: usize = 64;
 
-/// Whether a peer may end the server, by a request for the path `/quit`.
-#[derive(Clone, Copy)]
-pub enum QuitAccess {
-    /// There is no such path.
-    Unoffered,
-    /// The peer may not.
-    Refused,
-    Granted,
-}
-
-impl QuitAccess {
-    ghost use Rattle.std.specs.Prelude.{◌≡◌, ◌↔◌, true, false};
-    ghost use Rattle.std.specs.Net.Addr.{MatchIp, IsLoopbackV4, IsLoopbackV6};
-
-    /// Returns the access of a peer at this address, which is in its canonical form.
-    ///
-    /// Without the path it is `Unoffered` for every peer; with it a peer may end the server if its
-    /// address is of this machine's loopback.
-    pub fn of(is_offered: bool, peer: IpAddr) -> QuitAccess
-        ensures unoffered { result ≡ QuitAccess.Unoffered ↔ is_offered ≡ false }
-        ensures granted { result ≡ QuitAccess.Granted
-            ↔ (is_offered ≡ true) × MatchIp peer IsLoopbackV4 IsLoopbackV6 }
-    {
-        if !is_offered {
-            return QuitAccess::Unoffered;
-        }
-        if peer.is_loopback() {
-            QuitAccess::Granted
-        } else {
-            QuitAccess::Refused
-        }
-    }
-}
-
-/// Returns the answer to the request at the front of `bytes`, or `None` if it isn't complete.
+/// Returns the reply to the request at the front of `bytes`, or `None` if it isn't complete.
 ///
-/// `access` is the peer's. Bytes that can't begin a request, and a request with more than 64
-/// fields, get `Bad`.
-pub fn read_request(bytes: &[u8], access: QuitAccess) -> Option<Answer>
+/// `may_quit` is whether the server may be ended by `POST /quit`, and `peer` the client's address.
+/// Bytes that can't begin a request, and a request with more than 64 fields, get `Bad`.
+pub fn read_request(may_quit: bool, peer: IpAddr, bytes: &[u8]) -> Option<Reply>
     ensures found { (head : RequestHead) (rest : List ℕ) → ReadsRequest bytes.now head rest
+        → length head.fields ≤ most_fields → result ≡ Some (reply_to may_quit peer head) }
+    ensures stops { (head : RequestHead) (rest : List ℕ) → ReadsRequest bytes.now head rest
         → length head.fields ≤ most_fields
-        → result ≡ Some (answer_to access head.method head.target) }
-    ensures whole { IfSome result (λ answer. (answer ≡ Answer.Bad)
+        → (result ≡ Some (whole Answer.Stopping)) ↔ MayEnd may_quit peer head }
+    ensures granted { IfSome result (λ reply. reply.answer ≡ Answer.Stopping
+        → IsAskedToEnd may_quit peer bytes.now) }
+    ensures known { IfSome result (λ reply. (reply ≡ whole Answer.Bad)
         ⊎ ((head : RequestHead) × (rest : List ℕ) × ReadsRequest bytes.now head rest
-        × (answer ≡ answer_to access head.method head.target))) }
-    ensures bad { result ≡ Some Answer.Bad → RequestOverflows most_fields bytes.now }
+        × (reply ≡ reply_to may_quit peer head))) }
+    ensures bad { result ≡ Some (whole Answer.Bad) → RequestOverflows most_fields bytes.now }
     ensures unfinished { result ≡ None → HasNoRequest bytes.now }
 {
     let mut fields = [EMPTY_HEADER_SPAN; MOST_FIELDS];
     match parse_request(bytes, &mut fields) {
-        Ok(Status::Complete(head)) => Some(answer_to(
-            access,
-            head.method.of(bytes),
-            head.path.of(bytes),
-        )),
+        Ok(Status::Complete(head)) => {
+            let (fields, _) = fields.split_at(head.headers);
+            let trusted = is_trusted(peer, bytes, fields);
+            Some(reply_to(
+                may_quit,
+                trusted,
+                head.method.of(bytes),
+                head.path.of(bytes),
+            ))
+        }
         Ok(Status::Partial) => None,
-        Err(_) => Some(Answer::Bad),
+        Err(_) => Some(Reply::whole(Answer::Bad)),
     }
 }
 
-/// Returns the answer to a request with this method and target.
-fn answer_to(access: QuitAccess, method: &[u8], target: &[u8]) -> Answer
-    ensures { result ≡ answer_to access method.now target.now }
+/// Returns the reply to a request with this method and target.
+fn reply_to(may_quit: bool, trusted: bool, method: &[u8], target: &[u8]) -> Reply
+    ensures answer { result.answer ≡ answer_at may_quit trusted method.now (path_of target.now) }
+    ensures head { result.is_head ≡ is_head method.now }
+    ensures granted { result.answer ≡ Answer.Stopping
+        → Ends may_quit trusted method.now target.now }
+    ensures stops { Ends may_quit trusted method.now target.now → result ≡ whole Answer.Stopping }
 {
-    if target == b"/quit".as_slice() {
-        return quit_answer(access, method);
+    Reply {
+        answer: answer_at(may_quit, trusted, method, up_to(b'?', target)),
+        is_head: is_head(method),
     }
-    if method == b"GET".as_slice() {
-        page_at(target)
+}
+
+/// Returns the answer to a request with this method for a path.
+fn answer_at(may_quit: bool, trusted: bool, method: &[u8], path: &[u8]) -> Answer
+    ensures value { result ≡ answer_at may_quit trusted method.now path.now }
+    ensures granted { result ≡ Answer.Stopping → (path.now ≡ codes "/quit") × IsTrue may_quit
+        × (method.now ≡ codes "POST") × IsTrue trusted }
+{
+    if path == b"/quit".as_slice() {
+        quit_answer(may_quit, trusted, method)
+    } else if method == b"GET".as_slice() || is_head(method) {
+        page_at(path)
     } else {
         Answer::NotAllowed
     }
 }
 
 /// Returns the answer to a request with this method for the path by which the server ends.
-fn quit_answer(access: QuitAccess, method: &[u8]) -> Answer
-    ensures { result ≡ quit_answer access method.now }
+fn quit_answer(may_quit: bool, trusted: bool, method: &[u8]) -> Answer
+    ensures value { result ≡ quit_answer may_quit trusted method.now }
+    ensures granted { result ≡ Answer.Stopping → IsTrue may_quit × (method.now ≡ codes "POST")
+        × IsTrue trusted }
 {
-    match access {
-        QuitAccess::Unoffered => Answer::NotFound,
-        QuitAccess::Refused => posted_or(method, Answer::Forbidden),
-        QuitAccess::Granted => posted_or(method, Answer::Stopping),
-    }
-}
-
-/// Returns the answer if the method is `POST`, and `NotPosted` if it isn't.
-fn posted_or(method: &[u8], answer: Answer) -> Answer
-    ensures { result ≡ if is_post method.now then answer else Answer.NotPosted }
-{
-    if method == b"POST".as_slice() {
-        answer
-    } else {
+    if !may_quit {
+        Answer::NotFound
+    } else if !is_post(method) {
         Answer::NotPosted
+    } else if trusted {
+        Answer::Stopping
+    } else {
+        Answer::Forbidden
     }
 }
 
-/// Returns the answer to a `GET` of a target.
-fn page_at(target: &[u8]) -> Answer
-    ensures { result ≡ page_at target.now }
+/// Returns whether a method is the one by which the server ends.
+fn is_post(method: &[u8]) -> bool
+    ensures value { result ≡ is_post method.now }
+    ensures is { IsTrue result ↔ (method.now ≡ codes "POST") }
 {
-    if target == b"/metrics".as_slice() {
+    method == b"POST".as_slice()
+}
+
+/// Returns whether a method asks for the head of the answer alone.
+fn is_head(method: &[u8]) -> bool
+    ensures { result ≡ is_head method.now }
+{
+    method == b"HEAD".as_slice()
+}
+
+/// Returns the answer to a `GET` of a path.
+fn page_at(path: &[u8]) -> Answer
+    ensures value { result ≡ page_at path.now }
+    ensures goes_on { result ≡ Answer.Stopping → ⊥ }
+{
+    if path == b"/metrics".as_slice() {
         Answer::Metrics
-    } else if target == b"/healthz".as_slice() {
+    } else if path == b"/healthz".as_slice() {
         Answer::Healthy
+    } else if path == b"/".as_slice() {
+        Answer::Index
     } else {
         Answer::NotFound
     }

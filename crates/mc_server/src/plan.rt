@@ -7,7 +7,7 @@ use mc_host::{Door, Listeners, Wanting, look_for_descriptors, most_descriptors, 
 use mc_metrics::Counts;
 use mc_options::Options;
 use mc_sockets::{Arrivals, Crowd, EVENTS, Inbox, Log, Share, WAKER};
-use mc_telemetry::{MetricsServer, Notice, Observer, Outlet};
+use mc_telemetry::{MetricsServer, Notice, Observer, Outlet, process_start};
 use mio::{Events, Poll, Waker};
 use std::alloc::{AllocError, AllocGlobal, Global};
 use std::fs::Files;
@@ -97,7 +97,7 @@ pub fn make_plan<'a, R: Net + Files + AllocGlobal + Clock>(
 }
 
 /// Returns the plan of a server with these workers, and what its threads borrow.
-fn plan_with<'a, R: AllocGlobal + Clock>(
+fn plan_with<'a, R: AllocGlobal + Files + Clock>(
     rt: &R,
     notice: Notice<'a>,
     outlet: Outlet,
@@ -111,7 +111,7 @@ fn plan_with<'a, R: AllocGlobal + Clock>(
     } = workers;
     let common = make_common(rt, notice.options, &bound.listeners, inboxes)?;
     let crowd = make_crowd(rt.alloc(), notice.options, &common.log)?;
-    let metrics = make_metrics(rt, notice.options, bound.door, &crowd, counts)?;
+    let metrics = make_metrics(rt, notice, bound.door, &crowd, counts)?;
     let Listeners { first, others } = bound.listeners;
     let threads = ThreadPlan {
         workers: plans,
@@ -151,9 +151,9 @@ fn make_crowd(alloc: Global, options: &Options, log: &Arc<Log>) -> Result<Arc<Cr
 
 /// Returns the metrics server, if there is a listener for scrapes. The one error is a refused
 /// allocation.
-fn make_metrics<R: AllocGlobal + Clock>(
+fn make_metrics<R: AllocGlobal + Files + Clock>(
     rt: &R,
-    options: &Options,
+    notice: Notice<'_>,
     door: Option<Door>,
     crowd: &Arc<Crowd>,
     counts: Vec<Arc<Counts>>,
@@ -164,10 +164,12 @@ fn make_metrics<R: AllocGlobal + Clock>(
     let observer = Observer {
         crowd: crowd.clone().map_err(|_| AllocError)?,
         counts,
-        pages: options.settings.pages,
+        pages: notice.options.settings.pages,
         since: Instant::now(rt).ok(),
+        started: process_start(rt),
+        most_fds: notice.descriptors,
     };
-    let server = MetricsServer::new(rt.alloc(), door, observer, options.may_quit);
+    let server = MetricsServer::new(rt.alloc(), door, observer, notice.options.may_quit);
     Ok(Some(server))
 }
 

@@ -39,6 +39,7 @@ fn a_scrape_adds_up_workers(rt: HostRuntime) -> Result<(), Fail> {
     for hits in [3, 4] {
         let worker = Arc::new(alloc, Counts::new())?;
         worker.add(Counted::GetHit, hits);
+        worker.refuse(40);
         counts.push(worker)?;
     }
     let observer = Observer {
@@ -46,6 +47,8 @@ fn a_scrape_adds_up_workers(rt: HostRuntime) -> Result<(), Fail> {
         counts,
         pages: 64,
         since: None,
+        started: Some(7),
+        most_fds: Some(9),
     };
     let reading = observer.read(&rt, alloc, &mut FixedStats)?;
     let hits = number_at(&reading.counts, Counted::GetHit.place());
@@ -58,6 +61,12 @@ fn a_scrape_adds_up_workers(rt: HostRuntime) -> Result<(), Fail> {
     let found = (reading.limit, reading.shelves, reading.tables.items);
     assert!(rt; found == (67_108_864, 4, 5));
     assert!(rt; reading.uptime == 0);
+    let process = reading.process;
+    assert!(rt; (process.started, process.most_fds) == (Some(7), Some(9)));
+    let Some(last) = reading.refused.get(40) else {
+        return Err(Fail::new("no number of the last class"));
+    };
+    assert!(rt; (reading.refused.len(), last.class, last.count) == (41, 40, 2));
     Ok(())
 }
 
@@ -69,6 +78,8 @@ fn a_scrape_has_the_classes_with_a_page(rt: HostRuntime) -> Result<(), Fail> {
         counts: Vec::new(alloc),
         pages: 1,
         since: None,
+        started: None,
+        most_fds: None,
     };
     let reading = observer.read(&rt, alloc, &mut FixedStats)?;
     assert_eq!(rt; reading.slabs.len(), 1);

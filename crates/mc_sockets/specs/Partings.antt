@@ -15,3 +15,5 @@ parting_place parting.SessionOver = 6
 parting_place parting.Idle = 7
 parting_place parting.ListenerFailed = 8
 parting_place parting.Hoarding = 9
+parting_place parting.LineTooLong = 10
+parting_place parting.Stopped = 11

@@ -227,6 +227,8 @@ impl Wire {
         if !self.goes_on().writes {
             return Err(self.later());
         }
+        let end = if second.is_empty() { first } else { second };
+        self.connection.note_output(end);
         match self.send_again(first, second) {
             Ok(count) => {
                 let all = first.len().saturating_add(second.len());

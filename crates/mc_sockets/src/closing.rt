@@ -38,7 +38,7 @@ impl<'a, R: Wait + Clock> Links<SocketLink> for ClosingLinks<'a, R> {
     fn next(&mut self) -> Next<SocketLink> {
         if !self.is_closing && self.arrivals.is_closing() {
             self.is_closing = true;
-            self.links.close_idle(QUIET);
+            self.links.stop_idle(QUIET);
         }
         self.links.next()
     }

@@ -32,7 +32,7 @@ pub enum Parting {
     Ended,
     ReadFault,
     WriteFault,
-    /// Its session closed it, or had no memory.
+    /// Its session closed it by `quit`, or had no memory.
     SessionOver,
     /// It was idle for the idle timeout.
     Idle,
@@ -40,10 +40,17 @@ pub enum Parting {
     ListenerFailed,
     /// It held much memory and was slow while others waited for memory.
     Hoarding,
+    /// Its session closed it, because a line was too long.
+    LineTooLong,
+    /// The program was asked to end.
+    Stopped,
 }
 
 /// The number of reasons.
-pub const PARTINGS: usize = 10;
+pub const PARTINGS: usize = 12;
+
+/// The reply to a line that is too long. Nothing is sent behind it.
+const TOO_LONG: &[u8] = b"CLIENT_ERROR line too long\r\n";
 
 impl Parting {
     ghost use Rattle.std.specs.Prelude.{◌≡◌};
@@ -65,10 +72,12 @@ impl Parting {
             Parting::Ended => "the client closed it",
             Parting::ReadFault => "read fault",
             Parting::WriteFault => "write fault",
-            Parting::SessionOver => "quit, a line too long, or out of memory",
-            Parting::Idle => "nothing was heard of it for as long as --idle-timeout allows",
+            Parting::SessionOver => "quit, or out of memory",
+            Parting::Idle => "idle for as long as --idle-timeout allows",
             Parting::ListenerFailed => "the listener failed",
             Parting::Hoarding => "it held much and was slow while others waited for memory",
+            Parting::LineTooLong => "a line was too long",
+            Parting::Stopped => "the program was asked to end",
         }
     }
 }
@@ -194,6 +203,18 @@ impl Connection {
     /// Notes the reason for which it will be closed, if it is closed next.
     pub fn note(&mut self, parting: Parting) {
         self.parting = parting;
+    }
+
+    /// Notes the end of the output that is to be sent: the reply to a line that is too long is a
+    /// session's last. What the system didn't take of it comes once more.
+    pub fn note_output(&mut self, end: &[u8]) {
+        match self.parting {
+            Parting::SessionOver if end.ends_with(TOO_LONG) => self.parting = Parting::LineTooLong,
+            Parting::LineTooLong if !(end.ends_with(TOO_LONG) || TOO_LONG.ends_with(end)) => {
+                self.parting = Parting::SessionOver;
+            }
+            _ => {}
+        }
     }
 }
 

@@ -102,6 +102,8 @@ pub struct SocketLinks<'a, R: Wait + Clock> {
     gave: bool,
     /// Finds idle connections; `None` without an idle timeout.
     watch: Option<Watch>,
+    /// The reason for which idle connections are closed.
+    quiet: Parting,
     /// The time in ticks of 0.25 s.
     ticks: u64,
     /// When a tick was last counted.
@@ -136,6 +138,7 @@ impl<'a, R: Wait + Clock> SocketLinks<'a, R> {
             asked: 0,
             gave: false,
             watch: None,
+            quiet: Parting::Idle,
             ticks: 0,
             ticked: None,
             unheard: Watch::new(UNHEARD),
@@ -146,6 +149,12 @@ impl<'a, R: Wait + Clock> SocketLinks<'a, R> {
     /// Closes connections that were idle for `seconds`. 0 disables it.
     pub fn close_idle(&mut self, seconds: u32) {
         self.watch = Watch::new(seconds);
+    }
+
+    /// Closes connections that were idle for `seconds`, because the program was asked to end.
+    pub fn stop_idle(&mut self, seconds: u32) {
+        self.watch = Watch::new(seconds);
+        self.quiet = Parting::Stopped;
     }
 
     /// Polls the system for events, and waits at most `timeout` for the first.
@@ -212,12 +221,12 @@ impl<'a, R: Wait + Clock> SocketLinks<'a, R> {
         let Ok(now) = Instant::now(self.rt) else {
             return;
         };
-        let places = self.places.len();
+        let (places, quiet) = (self.places.len(), self.quiet);
         for _one in 0..watch.due(places, now) {
             let at = watch.turn(places);
             if let Some(place) = self.places.get_mut(at)
                 && place.has_waited(watch.limit(), before, now)
-                && place.end(Parting::Idle, &mut self.named)
+                && place.end(quiet, &mut self.named)
                 && let Some(common) = &self.common
             {
                 common.send_rest(at);
@@ -330,8 +339,13 @@ impl<'a, R: Wait + Clock> SocketLinks<'a, R> {
         if gave {
             return Next::Later;
         }
+        let parting = if self.arrivals.is_over_as_asked() {
+            Parting::Stopped
+        } else {
+            Parting::ListenerFailed
+        };
         for place in self.places.iter_mut() {
-            place.end(Parting::ListenerFailed, &mut self.named);
+            place.end(parting, &mut self.named);
         }
         Next::Closed
     }

@@ -19,7 +19,7 @@ pub enum Wanted {
 
 impl Wanted {
     /// Returns what the step needed.
-    fn of(step: &KeyStep<'_>) -> Wanted {
+    pub fn of(step: &KeyStep<'_>) -> Wanted {
         match step {
             KeyStep::Store {
                 verb: Verb::Set | Verb::Add | Verb::Replace,

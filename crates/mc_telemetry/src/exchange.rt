@@ -1,11 +1,17 @@
 //! A request over HTTP and its answer, on a connection that doesn't block.
+//!
+//! Contracts state that a request ends the server only if `read_request` grants it to this peer for
+//! the bytes that came.
+ghost use Rattle.std.specs.Prelude.{◌≡◌, IfOk, IfSome};
+ghost use Rattle.mc_metrics.specs.Scrapes.{IsAskedToEnd};
+ghost use Rattle.mc_telemetry.specs.Exchanges.{come, EndsRightly, EndsNothing};
 
-use mc_metrics::{Answer, NO_MEMORY, QuitAccess, read_request};
+use mc_metrics::{Answer, NO_MEMORY, Reply, read_request};
 use mio::net::TcpStream;
 use std::alloc::{AllocError, Global};
 use std::io::{self, ErrorKind, Read, Write};
 use std::mem;
-use std::net::Shutdown;
+use std::net::{IpAddr, Shutdown};
 use std::time::{Clock, Duration, Instant};
 
 /// The greatest size of a request, in bytes.
@@ -37,7 +43,7 @@ pub enum Due {
     /// It is to be asked to go on.
     More,
     /// Its request is to be answered.
-    Answer(Answer),
+    Answer(Reply),
     /// Its connection is to be closed.
     Close,
 }
@@ -46,8 +52,9 @@ pub enum Due {
 #[derive(Drop)]
 pub struct Exchange {
     stream: TcpStream,
-    /// Whether its peer may end the program.
-    access: QuitAccess,
+    /// Whether peers of this machine may end the program.
+    may_quit: bool,
+    peer: IpAddr,
     stage: Stage,
     /// When this stage began, if the clock can be read.
     since: Option<Instant>,
@@ -67,11 +74,16 @@ impl Exchange {
         rt: &R,
         alloc: Global,
         stream: TcpStream,
-        access: QuitAccess,
-    ) -> Result<Exchange, AllocError> {
+        may_quit: bool,
+        peer: IpAddr,
+    ) -> Result<Exchange, AllocError>
+        ensures { IfOk result (λ exchange. (exchange.may_quit ≡ may_quit)
+            × (exchange.peer ≡ peer)) }
+    {
         Ok(Exchange {
             stream,
-            access,
+            may_quit,
+            peer,
             stage: Stage::Reading,
             since: Instant::now(rt).ok(),
             request: vec![in alloc; 0u8; LONGEST]?,
@@ -83,7 +95,11 @@ impl Exchange {
     }
 
     /// Reads or writes as far as that goes without waiting, and returns what is due.
-    pub fn go_on<R: Clock>(&mut self, rt: &R) -> Due {
+    pub fn go_on<R: Clock>(&mut self, rt: &R) -> Due
+        ensures ends { EndsRightly self.new.may_quit self.new.peer
+            (come self.new.came self.new.request.items) result }
+        ensures same { (self.new.may_quit ≡ self.old.may_quit) × (self.new.peer ≡ self.old.peer) }
+    {
         match self.stage {
             Stage::Reading => self.read_on(rt),
             Stage::Sending => self.send_on(rt),
@@ -109,49 +125,64 @@ impl Exchange {
     }
 
     /// Begins a stage.
-    fn enter<R: Clock>(&mut self, rt: &R, stage: Stage) {
+    fn enter<R: Clock>(&mut self, rt: &R, stage: Stage)
+        ensures same { (self.new.may_quit ≡ self.old.may_quit) × (self.new.peer ≡ self.old.peer) }
+    {
         self.stage = stage;
         self.since = Instant::now(rt).ok();
     }
 
     /// Reads the request, and returns its answer if it is whole.
-    fn read_on<R: Clock>(&mut self, rt: &R) -> Due {
+    fn read_on<R: Clock>(&mut self, rt: &R) -> Due
+        ensures ends { EndsRightly self.new.may_quit self.new.peer
+            (come self.new.came self.new.request.items) result }
+        ensures same { (self.new.may_quit ≡ self.old.may_quit) × (self.new.peer ≡ self.old.peer) }
+    {
         for _call in 0..CALLS {
             match self.read_piece() {
                 Ok(0) if self.came == 0 => return Due::Close,
-                Ok(0) => return Due::Answer(Answer::Bad),
+                Ok(0) => return Due::Answer(Reply::whole(Answer::Bad)),
                 Ok(count) => self.came = self.came.saturating_add(count),
                 Err(error) if error.kind() == ErrorKind::Interrupted => {}
-                Err(error) => return self.awaited(rt, &error, Due::Answer(Answer::TooSlow)),
+                Err(error) => return self.awaited(rt, &error, true),
             }
-            if let Some(answer) = self.whole_request() {
-                return Due::Answer(answer);
+            if let Some(reply) = self.whole_request() {
+                return Due::Answer(reply);
             }
         }
         Due::More
     }
 
     /// Reads behind what has come of the request.
-    fn read_piece(&mut self) -> io::Result<usize> {
+    fn read_piece(&mut self) -> io::Result<usize>
+        ensures same { (self.new.may_quit ≡ self.old.may_quit) × (self.new.peer ≡ self.old.peer) }
+    {
         let at = self.came.min(self.request.len());
         let (_, room) = self.request.as_mut_slice().split_at_mut(at);
         self.stream.read(room)
     }
 
     /// Returns how the request is answered, if it is whole or can't be.
-    fn whole_request(&self) -> Option<Answer> {
+    fn whole_request(&self) -> Option<Reply>
+        ensures { IfSome result (λ reply. reply.answer ≡ Answer.Stopping
+            → IsAskedToEnd self.now.may_quit self.now.peer
+            (come self.now.came self.now.request.items)) }
+    {
         let (front, room) = self
             .request
             .as_slice()
             .split_at(self.came.min(self.request.len()));
-        match read_request(front, self.access) {
-            None if room.is_empty() => Some(Answer::TooLong),
-            answer => answer,
+        match read_request(self.may_quit, self.peer, front) {
+            None if room.is_empty() => Some(Reply::whole(Answer::TooLong)),
+            reply => reply,
         }
     }
 
     /// Sends the answer, and then ends the stream.
-    fn send_on<R: Clock>(&mut self, rt: &R) -> Due {
+    fn send_on<R: Clock>(&mut self, rt: &R) -> Due
+        ensures ends { EndsNothing result }
+        ensures same { (self.new.may_quit ≡ self.old.may_quit) × (self.new.peer ≡ self.old.peer) }
+    {
         for _call in 0..CALLS {
             let (_, rest) = self
                 .answer
@@ -164,7 +195,7 @@ impl Exchange {
                 Ok(0) => return Due::Close,
                 Ok(count) => self.sent = self.sent.saturating_add(count),
                 Err(error) if error.kind() == ErrorKind::Interrupted => {}
-                Err(error) => return self.awaited(rt, &error, Due::Close),
+                Err(error) => return self.awaited(rt, &error, false),
             }
         }
         Due::More
@@ -172,7 +203,10 @@ impl Exchange {
 
     /// Ends the stream. If the client may have sent more it is read first: the system would else
     /// drop the answer with it.
-    fn end_stream<R: Clock>(&mut self, rt: &R) -> Due {
+    fn end_stream<R: Clock>(&mut self, rt: &R) -> Due
+        ensures ends { EndsNothing result }
+        ensures same { (self.new.may_quit ≡ self.old.may_quit) × (self.new.peer ≡ self.old.peer) }
+    {
         let _ = self.stream.shutdown(Shutdown::Write);
         if !self.may_leave_input {
             return Due::Close;
@@ -182,13 +216,16 @@ impl Exchange {
     }
 
     /// Reads what still comes, and drops it.
-    fn drop_on<R: Clock>(&mut self, rt: &R) -> Due {
+    fn drop_on<R: Clock>(&mut self, rt: &R) -> Due
+        ensures ends { EndsNothing result }
+        ensures same { (self.new.may_quit ≡ self.old.may_quit) × (self.new.peer ≡ self.old.peer) }
+    {
         for _call in 0..CALLS {
             match self.stream.read(self.request.as_mut_slice()) {
                 Ok(0) => return Due::Close,
                 Ok(_) => {}
                 Err(error) if error.kind() == ErrorKind::Interrupted => {}
-                Err(error) => return self.awaited(rt, &error, Due::Close),
+                Err(error) => return self.awaited(rt, &error, false),
             }
         }
         if self.is_late(rt) {
@@ -199,12 +236,20 @@ impl Exchange {
     }
 
     /// Returns what is due where a call failed: nothing if it would have to wait and the stage has
-    /// time left, `late` if it has none, and else the end.
-    fn awaited<R: Clock>(&self, rt: &R, error: &io::Error, late: Due) -> Due {
+    /// time left, and else the end. A request that is late is answered so first.
+    fn awaited<R: Clock>(&self, rt: &R, error: &io::Error, reads: bool) -> Due
+        ensures { EndsNothing result }
+    {
         if error.kind() != ErrorKind::WouldBlock {
             return Due::Close;
         }
-        if self.is_late(rt) { late } else { Due::Nothing }
+        if !self.is_late(rt) {
+            Due::Nothing
+        } else if reads {
+            Due::Answer(Reply::whole(Answer::TooSlow))
+        } else {
+            Due::Close
+        }
     }
 
     /// Returns whether the stage takes longer than it may, or the clock can't be read.

@@ -1,11 +1,11 @@
 //! The table of metrics. Where a metric means the same as one of Prometheus' exporter for
-//! memcached, it has that one's name.
+//! memcached, or of its client libraries, it has that one's name.
 
 use Counted as C;
 use Figure::{Closed, Count};
 use Kind::{Counter, Gauge};
-use Samples::{Each, One, Slabs};
-use mc_metrics::{Counted, Family, Figure, Kind, Samples, SlabFigure};
+use Samples::{Each, Hundredths, One, Process, Refused, Slabs};
+use mc_metrics::{Counted, Family, Figure, Kind, ProcessFigure, Samples, SlabFigure};
 use mc_sockets::Parting;
 
 /// The program's own version, as `--version` prints it.
@@ -64,86 +64,109 @@ const REASONS: &[(&str, Figure)] = &[
         Closed(Parting::ListenerFailed as usize),
     ),
     (r#"{reason="hoarding"}"#, Closed(Parting::Hoarding as usize)),
+    (
+        r#"{reason="line_too_long"}"#,
+        Closed(Parting::LineTooLong as usize),
+    ),
+    (r#"{reason="stopped"}"#, Closed(Parting::Stopped as usize)),
 ];
 
 /// The metrics of a page, in this order.
-pub const FAMILIES: [Family; 27] = [
+pub const FAMILIES: [Family; 37] = [
     Family(
         Gauge,
         "memcached_up",
-        "Whether it serves.",
+        "1 while the server answers.",
         One(Figure::One),
     ),
     Family(
         Gauge,
         "memcached_version",
-        "The version of the program.",
+        "The version of the program, as a label.",
+        Each(VERSION),
+    ),
+    Family(
+        Gauge,
+        "mcserver_build_info",
+        "The version of the program, as a label.",
         Each(VERSION),
     ),
     Family(
         Gauge,
         "memcached_uptime_seconds",
-        "Seconds since it began to serve.",
+        "Seconds since the server began to serve.",
         One(Figure::Uptime),
     ),
     Family(
         Counter,
         "memcached_commands_total",
-        "Commands on keys, by how they came out.",
+        "Commands on keys, by command and result.",
         Each(COMMANDS),
     ),
     Family(
         Gauge,
         "memcached_current_connections",
-        "Connections that are open.",
+        "Open client connections.",
         One(Figure::Connections),
     ),
     Family(
         Counter,
         "memcached_connections_total",
-        "Connections that were accepted.",
+        "Accepted client connections.",
         One(Figure::Accepted),
+    ),
+    Family(
+        Counter,
+        "memcached_connections_rejected_total",
+        "Connections closed because -c was reached.",
+        One(Closed(Parting::OneTooMany as usize)),
     ),
     Family(
         Gauge,
         "memcached_max_connections",
-        "Connections that may be open at once.",
+        "Limit of open client connections, -c.",
         One(Figure::Most),
     ),
     Family(
         Gauge,
         "memcached_current_items",
-        "Items that stand.",
+        "Items in the store, with expired ones that are not freed yet.",
         One(Figure::Items),
     ),
     Family(
         Counter,
         "memcached_items_total",
-        "Items that were stored.",
+        "Items that commands stored.",
         One(Figure::Stored),
+    ),
+    Family(
+        Counter,
+        "memcached_items_evicted_total",
+        "Items removed to make room: always 0, since a full store refuses.",
+        One(Figure::Zero),
     ),
     Family(
         Gauge,
         "memcached_current_bytes",
-        "Bytes of the chunks that items lie in.",
+        "Bytes of the chunks that hold items.",
         One(Figure::Bytes),
     ),
     Family(
         Gauge,
         "memcached_limit_bytes",
-        "Bytes of all pages that there may be.",
+        "Bytes of all pages that items may use, -m.",
         One(Figure::Limit),
     ),
     Family(
         Gauge,
         "memcached_slab_chunk_size_bytes",
-        "Bytes of a chunk.",
+        "Bytes of a chunk of the class.",
         Slabs(SlabFigure::Size),
     ),
     Family(
         Gauge,
         "memcached_slab_chunks_per_page",
-        "Chunks of a page.",
+        "Chunks of a page of the class.",
         Slabs(SlabFigure::ChunksAPage),
     ),
     Family(
@@ -155,79 +178,121 @@ pub const FAMILIES: [Family; 27] = [
     Family(
         Gauge,
         "memcached_slab_current_chunks",
-        "Chunks of its pages.",
+        "Chunks of the class.",
         Slabs(SlabFigure::Chunks),
     ),
     Family(
         Gauge,
         "memcached_slab_chunks_used",
-        "Chunks that items lie in.",
+        "Chunks of the class that hold items.",
         Slabs(SlabFigure::Used),
     ),
     Family(
         Gauge,
         "memcached_slab_chunks_free",
-        "Chunks that no item lies in.",
+        "Chunks of the class that hold no item.",
         Slabs(SlabFigure::Free),
     ),
     Family(
         Counter,
+        "memcached_slab_items_outofmemory_total",
+        "Commands refused for want of a chunk, by the class they needed; 0 if unknown.",
+        Refused,
+    ),
+    Family(
+        Counter,
         "memcached_read_bytes_total",
-        "Bytes read of connections.",
+        "Bytes received from clients.",
         One(Count(C::Received)),
     ),
     Family(
         Counter,
         "memcached_written_bytes_total",
-        "Bytes written to connections.",
+        "Bytes sent to clients.",
         One(Count(C::Sent)),
     ),
     Family(
         Counter,
         "mcserver_refusals_total",
-        "Commands refused for want of a chunk.",
+        "Commands refused for want of a chunk: the store is full.",
         One(Count(C::Refused)),
     ),
     Family(
         Gauge,
         "mcserver_shelves",
-        "Shelves that keys lie on.",
+        "Shelves of the store, --shelves.",
         One(Figure::Shelves),
     ),
     Family(
         Gauge,
         "mcserver_table_homes",
-        "Homes of the tables that keys come to.",
+        "Home buckets of all hash tables.",
         One(Figure::Homes),
     ),
     Family(
         Counter,
         "mcserver_growths_total",
-        "Growths of tables to twice their homes.",
+        "Times that a hash table doubled.",
         One(Figure::Growths),
     ),
     Family(
         Gauge,
         "mcserver_growths_running",
-        "Growths that run.",
+        "Hash tables that are growing.",
         One(Figure::Running),
     ),
     Family(
         Gauge,
         "mcserver_growth_entries_left",
-        "Entries that growths have still to move.",
+        "Entries that growing hash tables have still to move.",
         One(Figure::Left),
     ),
     Family(
         Gauge,
         "mcserver_stray_entries",
-        "Entries in no bucket near their homes.",
+        "Hash table entries without a bucket near their home.",
         One(Figure::Strays),
     ),
     Family(
         Counter,
         "mcserver_connections_closed_total",
-        "Connections that were closed.",
+        "Closed client connections, by reason.",
         Each(REASONS),
+    ),
+    Family(
+        Gauge,
+        "process_resident_memory_bytes",
+        "Resident memory of the process in bytes.",
+        Process(ProcessFigure::Resident),
+    ),
+    Family(
+        Gauge,
+        "process_virtual_memory_bytes",
+        "Virtual memory of the process in bytes.",
+        Process(ProcessFigure::VirtualSize),
+    ),
+    Family(
+        Counter,
+        "process_cpu_seconds_total",
+        "User and system CPU time of the process in seconds.",
+        Hundredths(ProcessFigure::Cpu),
+    ),
+    Family(
+        Gauge,
+        "process_start_time_seconds",
+        "Start of the process in seconds since 1970.",
+        Process(ProcessFigure::Started),
+    ),
+    Family(
+        Gauge,
+        "process_open_fds",
+        "Open file descriptors of the process.",
+        Process(ProcessFigure::OpenFds),
+    ),
+    Family(
+        Gauge,
+        "process_max_fds",
+        "Limit of open file descriptors of the process.",
+        Process(ProcessFigure::MostFds),
     ),
 ];

@@ -7,14 +7,15 @@
 //!
 //! A worker counts its steps by a [`WorkerTally`] (`tally.rt`), each by the counter [`counted_as`]
 //! returns (`counting.rt`). For a scrape an [`Observer`] reads the counters, the connections and
-//! the store (`observer.rt`), the table of families lists what is printed (`families.rt`), and a
+//! the store (`observer.rt`), the figures of the process (`process.rt`), the table of families lists what is printed (`families.rt`), and a
 //! [`MetricsServer`] answers over HTTP (`scrape.rt`). [`write_lines`] writes to standard error in a
 //! thread of its own (`logger.rt`): where the server listens, which connections open and close,
 //! and, once a minute, that the store is full (`full.rt`).
 //!
-//! Contracts state which counter each step with its outcome raises. The look of an answer and of a
-//! page is proved in `mc_metrics`. No contract states that counters count what happened, and that a
-//! line is written: tests over sockets check that (tests/sockets).
+//! Contracts state which counter each step with its outcome raises, and that a request ends the
+//! server only if `mc_metrics` grants it. The look of an answer and of a page is proved there. No
+//! contract states that counters count what happened, what the system reports of the process, and
+//! that a line is written: tests over sockets check that (tests/sockets).
 //!
 //! Begin with `specs/Counting.antt` and `src/stats.rt`, then `src/scrape.rt` and `src/logger.rt`.
 //!
@@ -28,6 +29,7 @@ mod full;
 mod logger;
 mod observer;
 mod outlet;
+mod process;
 mod scrape;
 mod stats;
 mod tally;
@@ -36,6 +38,7 @@ pub use counting::counted_as;
 pub use logger::{Notice, write_lines};
 pub use observer::Observer;
 pub use outlet::Outlet;
+pub use process::process_start;
 pub use scrape::MetricsServer;
 pub use stats::StoreStats;
 pub use tally::WorkerTally;

@@ -1,10 +1,12 @@
 //! Reads the values of one scrape.
 
+use crate::process::read_process;
 use crate::stats::StoreStats;
-use mc_metrics::{COUNTED, Counts, Reading, SlabReading};
+use mc_metrics::{COUNTED, Counts, ProcessReading, REFUSED, Reading, RefusedReading, SlabReading};
 use mc_slab::class_of;
 use mc_sockets::{Crowd, PARTINGS};
-use std::alloc::{AllocError, Global};
+use std::alloc::{AllocError, AllocGlobal, Global};
+use std::fs::Files;
 use std::sync::{Arc, Wait};
 use std::time::{Clock, Instant};
 
@@ -25,12 +27,16 @@ pub struct Observer {
     pub pages: u32,
     /// When the server began; nothing if there was no clock.
     pub since: Option<Instant>,
+    /// The start of the process in seconds since 1970, if it is known.
+    pub started: Option<u64>,
+    /// The limit of descriptors, if there is one and it is known.
+    pub most_fds: Option<u64>,
 }
 
 impl Observer {
     /// Returns all values of one scrape. The store's shelves are held one after another, and then
     /// what they share for each class of chunks. The one error is a refused allocation.
-    pub fn read<R: Wait + Clock, S: StoreStats>(
+    pub fn read<R: AllocGlobal + Files + Wait + Clock, S: StoreStats>(
         &self,
         rt: &R,
         alloc: Global,
@@ -49,6 +55,12 @@ impl Observer {
             limit: u64::from(self.pages) * PAGE,
             shelves: u64::from(stats.shelves()),
             slabs,
+            refused: self.refused_counts(alloc)?,
+            process: ProcessReading {
+                started: self.started,
+                most_fds: self.most_fds,
+                ..read_process(rt)
+            },
         })
     }
 
@@ -61,6 +73,27 @@ impl Observer {
             }
         }
         sums
+    }
+
+    /// Returns the refused steps of each class, over all workers.
+    fn refused_counts(&self, alloc: Global) -> Result<Vec<RefusedReading>, AllocError> {
+        let mut rows = Vec::with_capacity(alloc, REFUSED)?;
+        for class in 0..REFUSED {
+            rows.push(RefusedReading {
+                class: class as u8,
+                count: self.refused_of(class),
+            })?;
+        }
+        Ok(rows)
+    }
+
+    /// Returns the refused steps of a class, over all workers.
+    fn refused_of(&self, class: usize) -> u64 {
+        let mut sum = 0u64;
+        for counts in &self.counts {
+            sum = sum.wrapping_add(counts.refused_at(class));
+        }
+        sum
     }
 
     /// Returns how many connections were closed for each reason.

@@ -5,10 +5,11 @@ use crate::families::FAMILIES;
 use crate::observer::Observer;
 use crate::stats::StoreStats;
 use mc_host::Door;
-use mc_metrics::{Answer, QuitAccess, page_of, response};
+use mc_metrics::{Answer, Reply, page_of, response};
 use mc_sockets::Arrivals;
 use mio::net::TcpStream;
 use std::alloc::{AllocError, AllocGlobal, Global};
+use std::fs::Files;
 use std::net::SocketAddr;
 use std::sync::Wait;
 use std::time::{Clock, Duration};
@@ -45,7 +46,7 @@ impl MetricsServer {
     /// client that sends nothing, or reads nothing, keeps no other one waiting: its connection is
     /// closed after 2 seconds for its request and 2 for its answer, or sooner if 64 newer ones are
     /// open.
-    pub fn answer_all<R: AllocGlobal + Wait + Clock, S: StoreStats>(
+    pub fn answer_all<R: AllocGlobal + Files + Wait + Clock, S: StoreStats>(
         &mut self,
         rt: &R,
         arrivals: &Arrivals,
@@ -88,8 +89,8 @@ impl MetricsServer {
     /// Opens an exchange with a peer, in place of the oldest if there are too many. Without memory
     /// the connection is closed.
     fn open<R: AllocGlobal + Clock>(&mut self, rt: &R, stream: TcpStream, peer: SocketAddr) {
-        let access = QuitAccess::of(self.may_quit, peer.ip().to_canonical());
-        if let Ok(exchange) = Exchange::new(rt, rt.alloc(), stream, access) {
+        let opened = Exchange::new(rt, rt.alloc(), stream, self.may_quit, peer.ip());
+        if let Ok(exchange) = opened {
             if self.exchanges.len() >= MOST {
                 drop(self.exchanges.remove(0));
             }
@@ -99,7 +100,7 @@ impl MetricsServer {
 
     /// Lets each exchange go on, and closes those that are over. Returns whether one may go on at
     /// once.
-    fn go_on_all<R: AllocGlobal + Wait + Clock, S: StoreStats>(
+    fn go_on_all<R: AllocGlobal + Files + Wait + Clock, S: StoreStats>(
         &mut self,
         rt: &R,
         arrivals: &Arrivals,
@@ -125,41 +126,46 @@ impl MetricsServer {
 }
 
 /// Lets an exchange go on, and answers its request if that is due. Returns what is due then.
-fn go_on<R: AllocGlobal + Wait + Clock, S: StoreStats>(
+fn go_on<R: AllocGlobal + Files + Wait + Clock, S: StoreStats>(
     rt: &R,
     exchange: &mut Exchange,
     observer: &Observer,
     arrivals: &Arrivals,
     stats: &mut S,
 ) -> Due {
-    let answer = match exchange.go_on(rt) {
-        Due::Answer(Answer::Stopping) if !arrivals.ask_to_close() => Answer::CannotStop,
-        Due::Answer(answer) => answer,
+    let reply = match exchange.go_on(rt) {
+        Due::Answer(reply) => stopped_by(arrivals, reply),
         due => return due,
     };
-    match text_of(rt, answer, observer, stats) {
-        Ok(text) => exchange.answer(rt, text, answer.may_leave_input()),
+    match text_of(rt, reply, observer, stats) {
+        Ok(text) => exchange.answer(rt, text, reply.answer.may_leave_input()),
         Err(AllocError) => exchange.answer_without_memory(rt),
     }
     exchange.go_on(rt)
 }
 
-/// Returns the text of an answer. The one error is a refused allocation.
-fn text_of<R: AllocGlobal + Wait + Clock, S: StoreStats>(
+/// Asks the server to end if a reply answers so. Returns the reply, or that it can't be asked.
+fn stopped_by(arrivals: &Arrivals, reply: Reply) -> Reply {
+    match reply.answer {
+        Answer::Stopping if !arrivals.ask_to_close() => Reply::whole(Answer::CannotStop),
+        _ => reply,
+    }
+}
+
+/// Returns the text of a reply. The one error is a refused allocation.
+fn text_of<R: AllocGlobal + Files + Wait + Clock, S: StoreStats>(
     rt: &R,
-    answer: Answer,
+    reply: Reply,
     observer: &Observer,
     stats: &mut S,
 ) -> Result<Vec<u8>, AllocError> {
     let alloc = rt.alloc();
-    match answer {
+    match reply.answer {
         Answer::Metrics => {
             let reading = observer.read(rt, alloc, stats)?;
             let page = page_of(alloc, &FAMILIES, &reading)?;
-            response(alloc, answer, page.as_slice())
+            response(alloc, reply, page.as_slice())
         }
-        Answer::Healthy => response(alloc, answer, b"ok\n"),
-        Answer::Stopping => response(alloc, answer, b"stopping\n"),
-        _ => response(alloc, answer, b""),
+        _ => response(alloc, reply, b""),
     }
 }

@@ -7,7 +7,8 @@ use crate::counting::counted_as;
 use mc_guests::{Outcome, Tally};
 use mc_metrics::Counts;
 use mc_protocol::KeyStep;
-use mc_sockets::Refusals;
+use mc_slab::need_of;
+use mc_sockets::{Refusals, Wanted};
 
 /// Counts a worker's steps, and notes in the log each step that is refused for want of a chunk.
 #[derive(Clone, Copy)]
@@ -23,6 +24,22 @@ impl Tally for WorkerTally<'_> {
         if let Some(counted) = counted_as(step, outcome) {
             self.counts.add(counted, 1);
         }
+        if let Outcome::NoChunk = outcome {
+            self.counts.refuse(class_wanted(step));
+        }
         self.refusals.took(step, outcome);
+    }
+}
+
+/// Returns the number of the class of chunks that a refused step wanted, or 0 if the step alone
+/// doesn't have the item's size.
+fn class_wanted(step: &KeyStep<'_>) -> usize {
+    let need = match Wanted::of(step) {
+        Wanted::Size(size) => need_of(size),
+        Wanted::Growth => None,
+    };
+    match need {
+        Some(need) => usize::from(need.class().number()),
+        None => 0,
     }
 }
