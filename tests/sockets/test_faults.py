@@ -39,7 +39,7 @@ ROWS = [
     ("close", "close", 1, [errno.EINTR, errno.EIO], False, ANSWERED),
     ("standard error", "write", 2, [errno.EAGAIN, errno.EIO, errno.EINTR], False, ANSWERED),
 ]
-POST = b"POST /quit HTTP/1.1\r\nHost: mcserver\r\nContent-Length: 0\r\n\r\n"
+POST = b"POST /quit HTTP/1.1\r\nHost: localhost\r\nContent-Length: 0\r\n\r\n"
 # So long calls fail in a row of the above, in seconds.
 STORM = 1.5
 # At each of so many calls alone a call fails.
