@@ -2,8 +2,9 @@
 //!
 //! Options follow memcached, so that its command lines can be reused. An unsupported option is
 //! refused, and the error names the alternative (`src/unserved.rt`): ignoring it would leave the
-//! operator with less than was requested. The supported options are a table too (`src/served.rt`).
-//! `clap` reads the words, and makes the texts of help and mistakes.
+//! operator with less than was requested. The supported options are a table too (`src/served.rt`),
+//! with the values that fit each (`src/value.rt`). `clap` reads the words and makes the help. All
+//! faults of a line are named at once, each in one line (`src/faults.rt`).
 //!
 //! [`parse_options`] turns words into [`Options`], or returns why not ([`Unfit`]). In between is
 //! [`Asked`], exactly what `clap` found: each number if it was given. [`Asked::settings`] makes the
@@ -11,8 +12,9 @@
 //! listens, by `-l` and `-p`. So each default is in the code once.
 //!
 //! Contracts state for each number that it is the given one, if that is in range, and the default
-//! if none was given; so no caller checks a range again. Which word sets which field, and what
-//! `clap` prints, is tested (tests/rows); docs/PROTOCOL.md and the manual have the table.
+//! if none was given; so no caller checks a range again. `--stdin` and `--allow-quit` are set if
+//! `clap` found them, and only then. Which word sets which other field, and the texts, are tested
+//! (tests/rows); docs/PROTOCOL.md and the manual have the table.
 //!
 //! Begin with `specs/Asked.antt` and `src/options.rt`.
 //!
@@ -20,9 +22,11 @@
 #![tactic(auto)]
 
 mod endpoints;
+mod faults;
 mod options;
 mod served;
 mod unserved;
+mod value;
 
 pub use endpoints::{AskedAddress, Endpoint, Endpoints};
 pub use options::{Asked, AskedPlace, Options, Unfit, parse_options};

@@ -1,5 +1,5 @@
 //! The options of the command line.
-ghost use Rattle.std.specs.Prelude.{◌≡◌, ◌≤◌, ◌^◌, min, option_map, IfOk, IfSome, None};
+ghost use Rattle.std.specs.Prelude.{◌≡◌, ◌≤◌, ◌^◌, min, option_map, IfOk, IfSome, None, codes};
 ghost use Rattle.mc_options.specs.Asked.{
   IsUpTo,
   IsAskedFor,
@@ -8,10 +8,13 @@ ghost use Rattle.mc_options.specs.Asked.{
   AsksNoShelfCount,
   IsScrapePlaceFor,
 };
+ghost use Rattle.mc_options.specs.Flags.{IsFlagOf};
 
 use crate::endpoints::{AskedAddress, Endpoint, Endpoints, address_of};
+use crate::faults::{faults_in, mistake_line};
 use crate::served::{SERVED, with_served};
-use crate::unserved::{UNSERVED, Unserved, with_unserved};
+use crate::unserved::{UNSERVED, with_unserved};
+use crate::value::{self, place_of};
 use clap::error::ErrorKind;
 use clap::{ArgMatches, Command, Error};
 use mc_shelf::Settings;
@@ -49,27 +52,14 @@ const PAGES: u32 = 64;
 /// The default number of shelves of a store.
 const SHELVES: u32 = 64;
 
-/// The error for a UDP port.
-const NO_UDP: &str = "'-U' ('--udp-port') takes 0 alone: there is no UDP; clients reach it by TCP";
-
-/// The error for a bad place of scrapes.
-const NO_PLACE: &str = "a port, 1 to 65535, before which an IP address may stand, \
-as in 9150, 10.0.0.5:9150 and [::1]:9150";
-
-/// The error for a bad address.
-const NO_ADDRESS: &str =
-    "invalid IP address syntax; names aren't looked up, and a port may follow, \
-as in 10.0.0.5, ::1, 10.0.0.5:11211 and [::1]:11211";
-
-/// The error for a bad greatest charge of an item.
-const NO_SIZE: &str = "1048576 to 8388608 bytes, as in 2097152, 2048k and 2m";
-
 /// The text below the options in the help.
 const STATUSES: &str = "\
 Exit status:
-  0  the input is at its end, or the session was closed by quit or by a line that is too long;
-     or it was asked to end, where --allow-quit lets it
-  1  a read or a write failed, memory ran out, or it can't listen
+  0  the input is at its end, or the session was closed by quit or by a line
+     that is too long; or the server was asked to end (--allow-quit); or it
+     accepted to end (--quit)
+  1  a read or a write failed, memory ran out, or it can't listen; or the
+     server didn't accept to end (--quit)
   2  the command line is bad";
 
 /// What `clap` found on the command line.
@@ -97,11 +87,13 @@ pub struct Asked {
     pub scrapes: Option<AskedPlace>,
     /// `--allow-quit` is there.
     pub may_quit: bool,
+    /// The place of `--quit`.
+    pub quit: Option<AskedPlace>,
     /// `-v` is there.
     pub verbose: bool,
 }
 
-/// Where scrapes are answered, as on the command line.
+/// The place of `--metrics` or `--quit`, as on the command line.
 #[derive(Clone, Copy)]
 pub struct AskedPlace {
     pub address: Option<IpAddr>,
@@ -131,6 +123,8 @@ pub struct Options {
     pub scrapes: Option<Endpoint>,
     /// Peers on this machine may end it, where scrapes are answered.
     pub may_quit: bool,
+    /// Where the server answers scrapes that it is to ask to end. It serves nothing itself then.
+    pub quit: Option<Endpoint>,
     /// It logs each connection that opens or closes.
     pub verbose: bool,
 }
@@ -138,15 +132,17 @@ pub struct Options {
 /// Why the command line has no options.
 #[derive(Drop)]
 pub enum Unfit {
-    /// The error of `clap`; help and the version are errors too.
+    /// Help or the version, or want of memory: errors of `clap`.
     Told(Error),
+    /// The faults of the command line, a line each, without the program's name.
+    Faults(String),
     /// The number of shelves isn't a power of two.
     Shelves,
 }
 
-impl From<Error> for Unfit {
-    fn from(error: Error) -> Unfit {
-        Unfit::Told(error)
+impl From<AllocError> for Unfit {
+    fn from(refused: AllocError) -> Unfit {
+        Unfit::Told(Error::from(refused))
     }
 }
 
@@ -186,6 +182,7 @@ impl Options {
         ensures buffers { IsAskedFor asked.buffers 64 65536 result.buffers }
         ensures scrapes { IsScrapePlaceFor asked.scrapes result.scrapes }
         ensures may_quit { result.may_quit ≡ asked.may_quit }
+        ensures quit { IsScrapePlaceFor asked.quit result.quit }
         ensures verbose { result.verbose ≡ asked.verbose }
     {
         Options {
@@ -199,12 +196,13 @@ impl Options {
             buffers: asked_or_usual(asked.buffers, BUFFERS, MOST_BUFFERS),
             scrapes: scrape_place(asked.scrapes),
             may_quit: asked.may_quit,
+            quit: scrape_place(asked.quit),
             verbose: asked.verbose,
         }
     }
 }
 
-/// Returns where scrapes are answered, or `None`; without an address it is 127.0.0.1.
+/// Returns the place of `--metrics` or `--quit`, or `None`; without an address it is 127.0.0.1.
 fn scrape_place(asked: Option<AskedPlace>) -> Option<Endpoint>
     ensures { IsScrapePlaceFor asked result }
 {
@@ -264,175 +262,84 @@ pub fn parse_options(alloc: Global, words: &[String]) -> Result<Options, Unfit>
 }
 
 /// Reads what is given and where to listen, from the words of the command line.
-fn read_words(alloc: Global, words: &[String]) -> Result<(Asked, Endpoints), Error> {
+fn read_words(alloc: Global, words: &[String]) -> Result<(Asked, Endpoints), Unfit> {
     let mut command = command(alloc)?;
-    let matches = command.try_get_matches_from_mut(words)?;
-    read_matches(alloc, &mut command, &matches)
+    match command.try_get_matches_from_mut(words) {
+        Ok(matches) => read_matches(alloc, &matches),
+        Err(error) => Err(unfit_of(alloc, error)),
+    }
+}
+
+/// Returns why the command line has no options, if `clap` returns an error.
+fn unfit_of(alloc: Global, error: Error) -> Unfit {
+    if error.kind() == ErrorKind::OutOfMemory || !error.use_stderr() {
+        return Unfit::Told(error);
+    }
+    match mistake_line(alloc, &error) {
+        Ok(line) => Unfit::Faults(line),
+        Err(refused) => Unfit::from(refused),
+    }
 }
 
 /// Reads what is given and where to listen, from what `clap` found.
-fn read_matches(
-    alloc: Global,
-    command: &mut Command<'_>,
-    matches: &ArgMatches<'_>,
-) -> Result<(Asked, Endpoints), Error> {
-    refuse_unserved(alloc, command, matches, &UNSERVED)?;
-    refuse_udp(command, matches)?;
-    let endpoints = endpoints_in(alloc, command, matches)?;
-    let asked = asked_in(alloc, command, matches)?;
-    Ok((asked, endpoints))
+fn read_matches(alloc: Global, matches: &ArgMatches<'_>) -> Result<(Asked, Endpoints), Unfit> {
+    let faults = faults_in(alloc, matches)?;
+    if !faults.as_str().is_empty() {
+        return Err(Unfit::Faults(faults));
+    }
+    let endpoints = endpoints_in(alloc, matches)?;
+    Ok((asked_of(matches), endpoints))
 }
 
-/// Reads what is given, except where to listen.
-fn asked_in(
-    alloc: Global,
-    command: &mut Command<'_>,
-    matches: &ArgMatches<'_>,
-) -> Result<Asked, Error> {
-    let scrapes = scrapes_in(alloc, command, matches)?;
-    let greatest = greatest_in(alloc, command, matches)?;
-    Ok(asked_of(matches, scrapes, greatest))
-}
-
-/// Returns what is given; the place for scrapes and the greatest charge were read before.
-fn asked_of(matches: &ArgMatches<'_>, scrapes: Option<AskedPlace>, greatest: Option<u64>) -> Asked {
+/// Returns what is given, except where to listen. A value that isn't fit was refused before, and
+/// counts as not given.
+fn asked_of(matches: &ArgMatches<'_>) -> Asked
+    ensures stdin { IsFlagOf matches.now (codes "stdin") result.stdin }
+    ensures may_quit { IsFlagOf matches.now (codes "allow-quit") result.may_quit }
+{
     Asked {
         stdin: matches.get_flag("stdin"),
         now: matches.get_one::<u64>("now"),
         pages: matches.get_one::<u32>("memory-limit"),
-        greatest,
+        greatest: greatest_in(matches),
         shelves: matches.get_one::<u32>("shelves"),
         workers: matches.get_one::<u32>("threads"),
         connections: matches.get_one::<u32>("conn-limit"),
         idle_timeout: matches.get_one::<u32>("idle-timeout"),
         buffers: matches.get_one::<u32>("buffer-limit"),
-        scrapes,
+        scrapes: place_in(matches, "metrics"),
         may_quit: matches.get_flag("allow-quit"),
+        quit: place_in(matches, "quit"),
         verbose: matches.get_count("verbose") > 0,
     }
 }
 
-/// Refuses an unsupported option of memcached, with an error that names the alternative.
-fn refuse_unserved(
-    alloc: Global,
-    command: &mut Command<'_>,
-    matches: &ArgMatches<'_>,
-    unserved: &[Unserved],
-) -> Result<(), Error> {
-    for option in unserved {
-        if option.is_in(matches) {
-            let (short, long, instead) = (option.short, option.long, option.instead);
-            let message = format!(in alloc; "'-{short}' ('--{long}') isn't served: {instead}")?;
-            return Err(command.error(ErrorKind::UnknownArgument, message.as_str())?);
-        }
-    }
-    Ok(())
-}
-
-/// Refuses a UDP port other than 0.
-fn refuse_udp(command: &mut Command<'_>, matches: &ArgMatches<'_>) -> Result<(), Error> {
-    match matches.get_one::<u32>("udp-port") {
-        None | Some(0) => Ok(()),
-        Some(_port) => Err(command.error(ErrorKind::ValueValidation, NO_UDP)?),
-    }
-}
-
-/// Reads where to listen, from `-l` and `-p`.
-fn endpoints_in(
-    alloc: Global,
-    command: &mut Command<'_>,
-    matches: &ArgMatches<'_>,
-) -> Result<Endpoints, Error> {
+/// Reads where to listen, from `-l` and `-p`. The only error is a refused allocation.
+fn endpoints_in(alloc: Global, matches: &ArgMatches<'_>) -> Result<Endpoints, AllocError> {
     let mut addresses = Vec::new(alloc);
     for text in matches.get_strs("listen").unwrap_or(&[]) {
-        let Some(address) = AskedAddress::of(text) else {
-            let message = format!(in alloc;
-                "invalid value '{text}' for '--listen <ADDR>': {NO_ADDRESS}"
-            )?;
-            return Err(command.error(ErrorKind::ValueValidation, message.as_str())?);
-        };
-        addresses.push(address)?;
-    }
-    let port = matches.get_one::<u16>("port");
-    Ok(Endpoints::new(alloc, addresses.as_slice(), port)?)
-}
-
-/// Reads where scrapes are answered, from `--metrics`.
-fn scrapes_in(
-    alloc: Global,
-    command: &mut Command<'_>,
-    matches: &ArgMatches<'_>,
-) -> Result<Option<AskedPlace>, Error> {
-    let text = match matches.get_str("metrics") {
-        None => return Ok(None),
-        Some(text) => text,
-    };
-    match scrapes_of(text) {
-        Some(place) => Ok(Some(place)),
-        None => {
-            let message = format!(in alloc;
-                "invalid value '{text}' for '--metrics <[ADDR:]PORT>': it takes {NO_PLACE}"
-            )?;
-            Err(command.error(ErrorKind::ValueValidation, message.as_str())?)
+        if let Some(address) = AskedAddress::of(text) {
+            addresses.push(address)?;
         }
     }
+    let port = matches.get_one::<u16>("port");
+    Endpoints::new(alloc, addresses.as_slice(), port)
+}
+
+/// Reads the place of an option, if it is given.
+fn place_in(matches: &ArgMatches<'_>, option: &str) -> Option<AskedPlace> {
+    place_of(matches.get_str(option)?)
 }
 
 /// Reads the greatest charge of an item, from `-I`.
-fn greatest_in(
-    alloc: Global,
-    command: &mut Command<'_>,
-    matches: &ArgMatches<'_>,
-) -> Result<Option<u64>, Error> {
-    let text = match matches.get_str("max-item-size") {
-        None => return Ok(None),
-        Some(text) => text,
-    };
-    match bytes_of(text) {
-        Some(bytes) if Settings::GREATEST <= bytes && bytes <= Settings::MOST_GREATEST => {
-            Ok(Some(bytes))
-        }
-        _ => {
-            let message = format!(in alloc;
-                "invalid value '{text}' for '--max-item-size <BYTES>': it takes {NO_SIZE}"
-            )?;
-            Err(command.error(ErrorKind::ValueValidation, message.as_str())?)
-        }
-    }
-}
-
-/// Reads a number of bytes, or of KiB or MiB if it ends with `k` or `m`: `2097152`, `2048k`, `2m`.
-fn bytes_of(text: &str) -> Option<u64> {
-    if let Some(number) = text.strip_suffix('k').or(text.strip_suffix('K')) {
-        return number.parse::<u64>().ok()?.checked_mul(1 << 10);
-    }
-    if let Some(number) = text.strip_suffix('m').or(text.strip_suffix('M')) {
-        return number.parse::<u64>().ok()?.checked_mul(1 << 20);
-    }
-    text.parse::<u64>().ok()
-}
-
-/// Reads a port, alone or behind an address: `80`, `10.0.0.5:80`, `[::1]:80`.
-fn scrapes_of(text: &str) -> Option<AskedPlace> {
-    if let Ok(port) = text.parse::<u16>()
-        && port > 0
-    {
-        return Some(AskedPlace {
-            address: None,
-            port,
-        });
-    }
-    let place = AskedAddress::of(text)?;
-    Some(AskedPlace {
-        address: Some(place.address),
-        port: place.port?,
-    })
+fn greatest_in(matches: &ArgMatches<'_>) -> Option<u64> {
+    value::greatest_of(matches.get_str("max-item-size")?)
 }
 
 /// Returns the command with all options.
-fn command<'a>(alloc: Global) -> Result<Command<'a>, Error> {
+fn command<'a>(alloc: Global) -> Result<Command<'a>, AllocError> {
     let command = with_served(alloc, described(alloc)?, &SERVED)?;
-    Ok(with_unserved(alloc, command, &UNSERVED)?)
+    with_unserved(alloc, command, &UNSERVED)
 }
 
 /// Returns the command without options.

@@ -1,7 +1,7 @@
 //! The options that this program supports.
 
 use crate::options::{LONGEST_TIMEOUT, MOST_BUFFERS, MOST_CONNECTIONS, MOST_WORKERS};
-use clap::builder::ValueParser;
+use crate::value::Kind;
 use clap::{Arg, ArgAction, Command};
 use mc_shelf::Settings;
 use mc_time::Moment;
@@ -13,123 +13,216 @@ pub struct Served {
     /// Its long name, by which its value is read too.
     pub long: &'static str,
     pub takes: Takes,
-    /// Its line in the help.
+    /// Its text in the help, with `{n}` at the end of each line of at most 48 columns.
     pub help: &'static str,
 }
 
-/// The value of an option. The first text of a word or number is its name in the help.
+/// What follows an option.
 pub enum Takes {
-    /// None: the option is there, or it isn't.
-    Nothing,
-    /// None, and the named option must be there too.
+    /// Nothing: the option is there, or it isn't. It is an option for tests.
+    NothingInTests,
+    /// Nothing, and the named option must be there too.
     NothingBeside(&'static str),
-    /// None, and the option is counted.
+    /// Nothing, and the option is counted.
     NothingCounted,
-    /// A word, which is read later.
-    Word(&'static str),
-    /// Words separated by commas, which are read later.
-    Words(&'static str),
-    /// A number in a range.
-    Number(&'static str, ValueParser<'static>),
+    /// Nothing: the option changes nothing.
+    Nothing,
+    /// A value.
+    One(Value),
+    /// A value of an option for tests.
+    OneInTests(Value),
+    /// Values with commas between them. A repeated option adds to them.
+    Many(Value),
 }
 
+/// The value of an option.
+#[derive(Clone, Copy)]
+pub struct Value {
+    /// Its name in the help.
+    pub name: &'static str,
+    pub kind: Kind,
+    /// What is fit, behind a value that isn't.
+    pub rule: &'static str,
+}
+
+impl Takes {
+    /// Returns the value, if there is one.
+    pub fn value(&self) -> Option<Value> {
+        match self {
+            Takes::One(value) | Takes::OneInTests(value) | Takes::Many(value) => Some(*value),
+            _ => None,
+        }
+    }
+
+    /// Returns whether the option is for tests.
+    fn is_for_tests(&self) -> bool {
+        matches!(self, Takes::NothingInTests | Takes::OneInTests(_))
+    }
+}
+
+/// The heading of the options for tests.
+const FOR_TESTS: &str = "For tests";
+
 /// The supported options, in the order of the help.
-pub const SERVED: [Served; 16] = [
-    Served {
-        short: None,
-        long: "stdin",
-        takes: Takes::Nothing,
-        help: "Serve one session over standard input and output",
-    },
-    Served {
-        short: None,
-        long: "now",
-        takes: Takes::Number("N", ValueParser::Unsigned(0, Moment::LATEST)),
-        help: "Let the clock stand at N seconds after 1970 [default: the system's clock]",
-    },
-    Served {
-        short: Some('m'),
-        long: "memory-limit",
-        takes: Takes::Number("N", ValueParser::Signed(1, Settings::MOST_PAGES as i64)),
-        help: "Keep items in at most N pages of 1 MiB, 1 to 65536 [default: 64]",
-    },
-    Served {
-        short: Some('I'),
-        long: "max-item-size",
-        takes: Takes::Word("BYTES"),
-        help: "Take items of at most BYTES with key and header, 1m to 8m [default: 1m]",
-    },
-    Served {
-        short: None,
-        long: "shelves",
-        takes: Takes::Number("N", ValueParser::Signed(1, Settings::MOST_SHELVES as i64)),
-        help: "Keep keys on N shelves, a power of two, 1 to 256 [default: 64]",
-    },
+pub const SERVED: [Served; 17] = [
     Served {
         short: Some('l'),
         long: "listen",
-        takes: Takes::Words("ADDR"),
-        help: "Listen at the IP addresses ADDR, with commas between, each alone or with a port [default: 127.0.0.1]",
+        takes: Takes::Many(Value {
+            name: "ADDR",
+            kind: Kind::Address,
+            rule: "an IP address, alone or with a port, as in 10.0.0.5, ::1, 10.0.0.5:11211 \
+and [::1]:11211; names aren't looked up",
+        }),
+        help: "Listen at these IP addresses, with commas{n}between them, each alone or with a port{n}\
+[default: 127.0.0.1]",
     },
     Served {
         short: Some('p'),
         long: "port",
-        takes: Takes::Number("N", ValueParser::Signed(1, 65535)),
-        help: "Listen at TCP port N, 1 to 65535 [default: 11211]",
+        takes: Takes::One(Value {
+            name: "PORT",
+            kind: Kind::Number(1, 65535),
+            rule: "a TCP port, 1 to 65535",
+        }),
+        help: "Listen at this TCP port, 1 to 65535{n}[default: 11211]",
     },
     Served {
         short: Some('t'),
         long: "threads",
-        takes: Takes::Number("N", ValueParser::Signed(1, MOST_WORKERS as i64)),
-        help: "Serve connections by N workers, 1 to 64 [default: 4]",
+        takes: Takes::One(Value {
+            name: "N",
+            kind: Kind::Number(1, MOST_WORKERS as u64),
+            rule: "a number of workers, 1 to 64",
+        }),
+        help: "Serve connections by N workers, 1 to 64{n}[default: 4]",
     },
     Served {
         short: Some('c'),
         long: "conn-limit",
-        takes: Takes::Number("N", ValueParser::Signed(1, MOST_CONNECTIONS as i64)),
-        help: "Have at most N connections open, 1 to 65536 [default: 1024]",
+        takes: Takes::One(Value {
+            name: "N",
+            kind: Kind::Number(1, MOST_CONNECTIONS as u64),
+            rule: "a number of connections, 1 to 65536",
+        }),
+        help: "Have at most N connections open, 1 to 65536{n}[default: 1024]",
     },
     Served {
         short: None,
         long: "idle-timeout",
-        takes: Takes::Number("SECONDS", ValueParser::Signed(0, LONGEST_TIMEOUT as i64)),
-        help: "Close connections that are idle for so long, 1 to 2592000; with 0 none [default: 0]",
+        takes: Takes::One(Value {
+            name: "SECONDS",
+            kind: Kind::Number(0, LONGEST_TIMEOUT as u64),
+            rule: "a number of seconds without a unit, 0 to 2592000, as in 300; 0 closes none",
+        }),
+        help: "Close connections that are idle for SECONDS,{n}1 to 2592000; 0 closes none [default: 0]",
     },
     Served {
         short: None,
         long: "buffer-limit",
-        takes: Takes::Number("N", ValueParser::Signed(1, MOST_BUFFERS as i64)),
-        help: "Hold N MiB of what connections send and are told, 1 to 65536 [default: 64]",
-    },
-    Served {
-        short: None,
-        long: "metrics",
-        takes: Takes::Word("[ADDR:]PORT"),
-        help: "Tell Prometheus what is counted, by HTTP at this port [default: not at all]",
-    },
-    Served {
-        short: None,
-        long: "allow-quit",
-        takes: Takes::NothingBeside("metrics"),
-        help: "End by 'POST /quit' at that port, where it comes of this machine",
+        takes: Takes::One(Value {
+            name: "MIB",
+            kind: Kind::Number(1, MOST_BUFFERS as u64),
+            rule: "a number of MiB (megabytes) without a unit, 1 to 65536, as in 64",
+        }),
+        help: "Hold at most this many MiB of input and output{n}of connections, 1 to 65536 [default: 64]",
     },
     Served {
         short: Some('v'),
         long: "verbose",
         takes: Takes::NothingCounted,
-        help: "Tell of each connection that opens or closes, on standard error",
+        help: "Log each connection that opens or closes, on{n}standard error",
+    },
+    Served {
+        short: None,
+        long: "metrics",
+        takes: Takes::One(Value {
+            name: "[ADDR:]PORT",
+            kind: Kind::Place,
+            rule: "a port, 1 to 65535, before which an IP address may stand, \
+as in 9150, 10.0.0.5:9150 and [::1]:9150",
+        }),
+        help: "Answer Prometheus by HTTP at this port of{n}127.0.0.1 or of ADDR [default: not at all]",
+    },
+    Served {
+        short: None,
+        long: "allow-quit",
+        takes: Takes::NothingBeside("metrics"),
+        help: "End by 'POST /quit' at that port, if the{n}request comes from this machine",
+    },
+    Served {
+        short: None,
+        long: "quit",
+        takes: Takes::One(Value {
+            name: "[ADDR:]PORT",
+            kind: Kind::Place,
+            rule: "the port of --metrics of the server, before which its IP address may stand, \
+as in 9150 and 127.0.0.1:9150",
+        }),
+        help: "Don't serve: ask the server whose --metrics is{n}this to end, and wait at most 5 seconds for{n}\
+its answer",
+    },
+    Served {
+        short: Some('m'),
+        long: "memory-limit",
+        takes: Takes::One(Value {
+            name: "MIB",
+            kind: Kind::Number(1, Settings::MOST_PAGES as u64),
+            rule: "a number of MiB (megabytes) without a unit, 1 to 65536, as in 64",
+        }),
+        help: "Keep items in at most this many pages of 1 MiB,{n}1 to 65536 [default: 64]",
+    },
+    Served {
+        short: Some('I'),
+        long: "max-item-size",
+        takes: Takes::One(Value {
+            name: "BYTES",
+            kind: Kind::Bytes,
+            rule: "1048576 to 8388608 bytes, as in 2097152, 2048k and 2m",
+        }),
+        help: "Take items of at most BYTES with key and{n}header, 1m to 8m [default: 1m]",
+    },
+    Served {
+        short: None,
+        long: "shelves",
+        takes: Takes::One(Value {
+            name: "N",
+            kind: Kind::Number(1, Settings::MOST_SHELVES as u64),
+            rule: "a number of shelves, a power of two, 1 to 256",
+        }),
+        help: "Keep keys on N shelves, a power of two,{n}1 to 256 [default: 64]",
     },
     Served {
         short: Some('M'),
         long: "disable-evictions",
         takes: Takes::Nothing,
-        help: "Change nothing: nothing is ever evicted, and a full store refuses",
+        help: "Change nothing: nothing is ever evicted, and a{n}full store refuses",
     },
     Served {
         short: Some('U'),
         long: "udp-port",
-        takes: Takes::Number("0", ValueParser::Signed(0, 4294967295)),
-        help: "Change nothing: there is no UDP, and 0 is all that is taken",
+        takes: Takes::One(Value {
+            name: "0",
+            kind: Kind::Number(0, 0),
+            rule: "only 0: there is no UDP; clients reach it by TCP",
+        }),
+        help: "Change nothing: there is no UDP, and only 0 is{n}accepted",
+    },
+    Served {
+        short: None,
+        long: "stdin",
+        takes: Takes::NothingInTests,
+        help: "Serve one session over standard input and{n}output",
+    },
+    Served {
+        short: None,
+        long: "now",
+        takes: Takes::OneInTests(Value {
+            name: "SECONDS",
+            kind: Kind::Number(0, Moment::LATEST),
+            rule: "a number of seconds after 1970, 0 to 4611686018427387904",
+        }),
+        help: "Stop the clock at SECONDS after 1970{n}[default: the system's clock]",
     },
 ];
 
@@ -151,7 +244,10 @@ fn argument_of<'a>(alloc: Global, option: &Served) -> Result<Arg<'a>, AllocError
     let argument = Arg::new(alloc, option.long)
         .long(option.long)
         .help(option.help);
-    taking(named(argument, option.short), &option.takes)
+    taking(
+        headed(named(argument, option.short), &option.takes),
+        &option.takes,
+    )
 }
 
 /// Returns an argument with its short name, if there is one.
@@ -162,24 +258,29 @@ fn named<'a>(argument: Arg<'a>, short: Option<char>) -> Arg<'a> {
     }
 }
 
-/// Returns an argument that takes its option's value.
+/// Returns an argument below the heading for tests, if its option is for tests.
+fn headed<'a>(argument: Arg<'a>, takes: &Takes) -> Arg<'a> {
+    if takes.is_for_tests() {
+        argument.help_heading(FOR_TESTS)
+    } else {
+        argument
+    }
+}
+
+/// Returns an argument that takes what follows its option.
 fn taking<'a>(argument: Arg<'a>, takes: &Takes) -> Result<Arg<'a>, AllocError> {
     match takes {
-        Takes::Nothing => Ok(argument.action(ArgAction::SetTrue)),
+        Takes::Nothing | Takes::NothingInTests => Ok(argument.action(ArgAction::SetTrue)),
         Takes::NothingBeside(other) => argument.action(ArgAction::SetTrue).requires_arg(*other),
         Takes::NothingCounted => Ok(argument.action(ArgAction::Count)),
-        Takes::Word(name) => Ok(argument.action(ArgAction::Set).value_name(*name)),
-        Takes::Words(name) => Ok(
+        Takes::One(value) | Takes::OneInTests(value) => {
+            Ok(argument.action(ArgAction::Set).value_name(value.name))
+        }
+        Takes::Many(value) => Ok(
             argument
                 .action(ArgAction::Append)
-                .value_name(*name)
+                .value_name(value.name)
                 .value_delimiter(','),
-        ),
-        Takes::Number(name, range) => Ok(
-            argument
-                .action(ArgAction::Set)
-                .value_name(*name)
-                .value_parser(*range),
         ),
     }
 }

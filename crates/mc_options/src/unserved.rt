@@ -137,7 +137,7 @@ pub const UNSERVED: [Unserved; 26] = [
         short: 'A',
         long: "enable-shutdown",
         takes_value: false,
-        instead: "end it by SIGTERM",
+        instead: "start it with '--metrics PORT --allow-quit', and end it by 'mcserver --quit PORT'",
     },
     Unserved {
         short: 'X',

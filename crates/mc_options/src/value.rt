@@ -1,0 +1,71 @@
+//! Which texts are fit as the value of an option.
+
+use crate::endpoints::AskedAddress;
+use crate::options::AskedPlace;
+use mc_shelf::Settings;
+
+/// Which texts are fit as the value of an option.
+#[derive(Clone, Copy)]
+pub enum Kind {
+    /// A number from the first to the second.
+    Number(u64, u64),
+    /// The greatest charge of an item, in bytes, KiB or MiB.
+    Bytes,
+    /// An IP address, alone or with a port.
+    Address,
+    /// A port, alone or behind an IP address.
+    Place,
+}
+
+impl Kind {
+    /// Returns whether a text is fit.
+    pub fn takes(self, text: &str) -> bool {
+        match self {
+            Kind::Number(least, most) => match text.parse::<u64>() {
+                Ok(number) => least <= number && number <= most,
+                Err(_) => false,
+            },
+            Kind::Bytes => greatest_of(text).is_some(),
+            Kind::Address => AskedAddress::of(text).is_some(),
+            Kind::Place => place_of(text).is_some(),
+        }
+    }
+}
+
+/// Reads the greatest charge of an item, if it is one of 1 to 8 pages.
+pub fn greatest_of(text: &str) -> Option<u64> {
+    let bytes = bytes_of(text)?;
+    if Settings::GREATEST <= bytes && bytes <= Settings::MOST_GREATEST {
+        Some(bytes)
+    } else {
+        None
+    }
+}
+
+/// Reads a number of bytes, or of KiB or MiB if it ends with `k` or `m`: `2097152`, `2048k`, `2m`.
+fn bytes_of(text: &str) -> Option<u64> {
+    if let Some(number) = text.strip_suffix('k').or(text.strip_suffix('K')) {
+        return number.parse::<u64>().ok()?.checked_mul(1 << 10);
+    }
+    if let Some(number) = text.strip_suffix('m').or(text.strip_suffix('M')) {
+        return number.parse::<u64>().ok()?.checked_mul(1 << 20);
+    }
+    text.parse::<u64>().ok()
+}
+
+/// Reads a port, alone or behind an address: `80`, `10.0.0.5:80`, `[::1]:80`.
+pub fn place_of(text: &str) -> Option<AskedPlace> {
+    if let Ok(port) = text.parse::<u16>()
+        && port > 0
+    {
+        return Some(AskedPlace {
+            address: None,
+            port,
+        });
+    }
+    let place = AskedAddress::of(text)?;
+    Some(AskedPlace {
+        address: Some(place.address),
+        port: place.port?,
+    })
+}
