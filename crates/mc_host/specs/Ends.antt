@@ -2,8 +2,10 @@
 use Rattle.std.specs.Prelude.{◌≡◌, ◌⊎◌, ℕ, Bool, true, List, slice_get, Option, Some, None, Ok, Err, codes}
 use Rattle.mc_session.specs.declared.serving.ServeFault.TheVariants as fault
 use Rattle.mc_host.specs.declared.end.Obstacle.{Obstacle}
-use Rattle.mc_host.specs.declared.end.Obstacle.TheVariants.{Taken, NotAllowed, NotHere, NoDescriptor, Other}
+use Rattle.mc_host.specs.declared.end.Obstacle.TheVariants.{Taken, BothVersions, NotAllowed, NotHere, NoDescriptor, Other}
 use Rattle.mc_host.specs.declared.end.Refusal.{Refusal}
+use Rattle.mc_host.specs.declared.end.Denied.{Denied}
+use Rattle.mc_host.specs.declared.end.Denied.TheVariants as denied
 use Rattle.mc_options.specs.declared.endpoints.Endpoint.{Endpoint}
 use Rattle.mc_options.specs.declared.endpoints.Endpoints.{Endpoints}
 use Rattle.mc_host.specs.declared.end.End.{End}
@@ -22,9 +24,12 @@ status_of end.Shown = 0
 status_of end.NotShown = 1
 status_of end.NoMemory = 1
 status_of end.NoThread = 1
+status_of end.SmallStack = 1
+status_of end.Accepted = 0
+status_of (end.Denied _) = 1
 
--- what is wrong; of a bad command line clap has said it, and where it can't listen the address and the
--- reason stand behind it
+-- what is wrong; the faults of a bad command line are written before; where it can't listen, and where a server doesn't
+-- end, the address and the reason stand behind it
 abbrev pub text_of : End → List ℕ
 text_of (end.Served (Ok _)) = codes ""
 text_of (end.Served (Err fault.Read)) = codes "mcserver: read fault"
@@ -34,19 +39,31 @@ text_of (end.CannotListen _) = codes "mcserver: cannot listen"
 text_of end.Stopped = codes ""
 text_of end.BadCommandLine = codes ""
 text_of end.BadShelves = codes "mcserver: shelves must be a power of two"
-text_of end.NotText = codes "error: invalid UTF-8 was detected in one or more arguments"
+text_of end.NotText = codes "mcserver: a word of the command line isn't UTF-8"
 text_of end.Shown = codes ""
 text_of end.NotShown = codes "mcserver: write fault"
 text_of end.NoMemory = codes "mcserver: out of memory"
 text_of end.NoThread = codes "mcserver: cannot start a thread (ulimit -u)"
+text_of end.SmallStack = codes "mcserver: the stack limit is below 256 KiB (ulimit -s)"
+text_of end.Accepted = codes ""
+text_of (end.Denied _) = codes "mcserver: --quit"
 
 -- why it can't listen
 abbrev pub reason_of : Obstacle → List ℕ
 reason_of Taken = codes "something listens there already"
+reason_of BothVersions = codes "-l has 0.0.0.0 and :: at this port, and :: alone listens at both"
 reason_of NotAllowed = codes "the port isn't allowed to this user"
 reason_of NotHere = codes "the address isn't one of this machine"
 reason_of NoDescriptor = codes "the system gives too few descriptors (ulimit -n)"
 reason_of Other = codes "the system refuses it"
+
+-- why a server doesn't end
+abbrev pub denial_of : Denied → List ℕ
+denial_of denied.Unreached = codes "nothing answers there"
+denial_of denied.Silent = codes "no answer came within 5 seconds"
+denial_of denied.Unoffered = codes "the server has no --allow-quit"
+denial_of denied.Forbidden = codes "the server ends only for its own machine"
+denial_of denied.Refused = codes "the server doesn't accept it"
 
 -- an obstacle for which std has no kind of error
 abbrev pub IsUnnamed : Obstacle → Type 0

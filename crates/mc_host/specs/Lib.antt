@@ -1,2 +1,5 @@
 pub mod Clocks
 pub mod Ends
+pub mod Levels
+pub mod Quits
+pub mod Stacks

@@ -14,8 +14,15 @@ const DESCRIPTORS: &str = "Max open files";
 
 /// Returns the limit of descriptors of the process, or `None` if there is none or it is unknown.
 pub fn most_descriptors<R: Files + AllocGlobal>(rt: &R) -> Option<u64> {
+    soft_limit(rt, DESCRIPTORS)
+}
+
+/// Returns the number in the line of a limit of the process that begins with these words.
+///
+/// It is `None` if there is no limit, or if the system doesn't report it.
+pub(crate) fn soft_limit<R: Files + AllocGlobal>(rt: &R, words: &str) -> Option<u64> {
     let text = fs::read_to_string(rt, LIMITS).ok()?;
-    number_behind(text.as_str(), DESCRIPTORS)
+    number_behind(text.as_str(), words)
 }
 
 /// Returns the number behind the words with which a line begins.

@@ -22,7 +22,7 @@ pub enum End {
     CannotListen(Refusal),
     /// It was asked to end, and did.
     Stopped,
-    /// The command line is bad, and `clap` has printed why.
+    /// The command line is bad, and its faults were printed.
     BadCommandLine,
     /// The number of shelves on the command line isn't a power of two.
     BadShelves,
@@ -36,6 +36,12 @@ pub enum End {
     NoMemory,
     /// The system refused a thread.
     NoThread,
+    /// The limit of the stack is below what the program needs.
+    SmallStack,
+    /// The server that was asked to end accepted.
+    Accepted,
+    /// The server that was asked to end didn't accept.
+    Denied(Denial),
 }
 
 /// The endpoint at which it can't listen, and why.
@@ -50,6 +56,8 @@ pub struct Refusal {
 pub enum Obstacle {
     /// Something listens there already.
     Taken,
+    /// This program is to listen there at 0.0.0.0 and at ::, and the second includes the first.
+    BothVersions,
     /// The port isn't allowed to this user.
     NotAllowed,
     /// The address isn't one of this machine.
@@ -58,6 +66,47 @@ pub enum Obstacle {
     NoDescriptor,
     /// Any other obstacle.
     Other,
+}
+
+/// The server that was asked to end and didn't accept, and why.
+#[derive(Clone, Copy, Debug, Drop)]
+pub struct Denial {
+    /// Its port of metrics.
+    pub endpoint: Endpoint,
+    pub why: Denied,
+}
+
+/// Why a server doesn't end.
+#[derive(Clone, Copy, Debug, Drop)]
+pub enum Denied {
+    /// Nothing listens there, or nothing takes the request.
+    Unreached,
+    /// No answer came in time, or none that is whole.
+    Silent,
+    /// It has no such page.
+    Unoffered,
+    /// It ends for requests of its own machine only.
+    Forbidden,
+    /// It answered otherwise.
+    Refused,
+}
+
+impl Denied {
+    ghost use Rattle.std.specs.Prelude.{◌≡◌};
+    ghost use Rattle.mc_host.specs.Ends.{denial_of};
+
+    /// Returns its text, which follows the address.
+    pub fn reason(self) -> &'static str
+        ensures { result.now ≡ denial_of self }
+    {
+        match self {
+            Denied::Unreached => "nothing answers there",
+            Denied::Silent => "no answer came within 5 seconds",
+            Denied::Unoffered => "the server has no --allow-quit",
+            Denied::Forbidden => "the server ends only for its own machine",
+            Denied::Refused => "the server doesn't accept it",
+        }
+    }
 }
 
 /// The system's errors for a missing descriptor: `ENFILE` and `EMFILE`.
@@ -97,6 +146,8 @@ impl Obstacle {
     {
         match self {
             Obstacle::Taken => "something listens there already",
+            Obstacle::BothVersions =>
+                "-l has 0.0.0.0 and :: at this port, and :: alone listens at both",
             Obstacle::NotAllowed => "the port isn't allowed to this user",
             Obstacle::NotHere => "the address isn't one of this machine",
             Obstacle::NoDescriptor => "the system gives too few descriptors (ulimit -n)",
@@ -188,25 +239,24 @@ impl End {
 
     /// Returns the program's status and its text on standard error, which may be empty.
     ///
-    /// For an end that can't listen, the address and the obstacle follow the text. It takes no
-    /// memory.
+    /// For an end that can't listen, and for a server that doesn't end, the address and the reason
+    /// follow the text. It takes no memory.
     pub fn ending(&self) -> (u8, &'static str)
         ensures status { result.0 ≡ status_of self.now }
         ensures text { result.1.now ≡ text_of self.now }
     {
         match self {
             End::Served(answer) => ending(answer),
-            End::Shown | End::Stopped => (0, ""),
+            End::Shown | End::Stopped | End::Accepted => (0, ""),
             End::CannotListen(_) => (1, "mcserver: cannot listen"),
             End::BadCommandLine => (2, ""),
             End::BadShelves => (2, "mcserver: shelves must be a power of two"),
-            End::NotText => (
-                2,
-                "error: invalid UTF-8 was detected in one or more arguments",
-            ),
+            End::NotText => (2, "mcserver: a word of the command line isn't UTF-8"),
             End::NotShown => ending(&Err(ServeFault::Write)),
             End::NoMemory => ending(&Err(ServeFault::NoMemory)),
             End::NoThread => (1, "mcserver: cannot start a thread (ulimit -u)"),
+            End::SmallStack => (1, "mcserver: the stack limit is below 256 KiB (ulimit -s)"),
+            End::Denied(_) => (1, "mcserver: --quit"),
         }
     }
 }

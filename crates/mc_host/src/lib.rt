@@ -1,4 +1,4 @@
-//! The program's listeners, its clock, its limit of descriptors, and how it ends.
+//! The program's listeners, its clock, its limits, the client of `--quit`, and how it ends.
 //!
 //! A start mostly fails because of the machine: a port is taken, an address isn't its own, there
 //! are too few descriptors, or no memory. Each of these ends the program with a status and a line
@@ -10,11 +10,14 @@
 //! [`Listeners`], one for each endpoint. [`sockets_of`] returns streams of them, whose shutdown
 //! wakes the threads that accept. [`look_for_descriptors`] checks that there are enough to begin
 //! with. A [`Door`] is a listener for scrapes. [`AskedClock`] is the clock of the command line: it
-//! stands at `--now`, or is the system's.
+//! stands at `--now`, or is the system's. [`Diagnostics`] is standard error, with the [`Level`] of
+//! each line in the journal of systemd. [`ask_server`] is the client of `--quit`: [`ask_to_end`]
+//! over a socket. [`has_small_stack`] reads the limit of the stack.
 //!
 //! Contracts state each end's status and text exactly, which end follows from the command line and
 //! from a served session, that there is a listener for each endpoint, and which ends a failure may
-//! have. No contract states what the system does with a listener.
+//! have; what `--quit` sends, and which answers accept. No contract states what the system does
+//! with a listener.
 //!
 //! Begin with `specs/Ends.antt` and `src/end.rt`, then `src/binding.rt`.
 //!
@@ -24,11 +27,17 @@
 mod binding;
 mod clock;
 mod descriptors;
+mod diagnostics;
 mod door;
 mod end;
+mod quit;
+mod stack;
 
 pub use binding::{Listeners, Wanting, bind_listener, bound_all, look_for_descriptors, sockets_of};
 pub use clock::AskedClock;
 pub use descriptors::most_descriptors;
+pub use diagnostics::{Diagnostics, Level};
 pub use door::{Door, open_door};
-pub use end::{End, Obstacle, Refusal, ending};
+pub use end::{Denial, Denied, End, Obstacle, Refusal, ending};
+pub use quit::{ask_server, ask_to_end};
+pub use stack::has_small_stack;
