@@ -1,2 +1,3 @@
+pub mod Crowds
 pub mod Partings
 pub mod Remedies

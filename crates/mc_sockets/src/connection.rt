@@ -97,8 +97,14 @@ pub struct Crowd {
 }
 
 impl Crowd {
+    ghost use Rattle.std.specs.Prelude.{◌≡◌, IfOk};
+    ghost use Rattle.std.specs.Arc.{arc_value};
+    ghost use Rattle.mc_sockets.specs.Crowds.{most_of};
+
     /// Creates the connection counter. The only error is a refused allocation.
-    pub fn new(alloc: Global, most: u32, log: Option<Arc<Log>>) -> Result<Arc<Crowd>, AllocError> {
+    pub fn new(alloc: Global, most: u32, log: Option<Arc<Log>>) -> Result<Arc<Crowd>, AllocError>
+        ensures { IfOk result (λ crowd. most_of (arc_value crowd) ≡ most) }
+    {
         let crowd = Crowd {
             most,
             open: AtomicU32::new(0),
@@ -110,7 +116,9 @@ impl Crowd {
     }
 
     /// Returns the limit of open connections.
-    pub fn most(&self) -> u32 {
+    pub fn most(&self) -> u32
+        ensures { result ≡ most_of self.now }
+    {
         self.most
     }
 

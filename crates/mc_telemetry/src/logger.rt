@@ -6,6 +6,7 @@
 use crate::full::{Full, Stock};
 use crate::outlet::Outlet;
 use crate::stats::StoreStats;
+use mc_host::{Diagnostics, Level};
 use mc_options::{Endpoints, Options};
 use mc_slab::need_of;
 use mc_sockets::{Line, Log, Waiting, Wanted};
@@ -20,7 +21,7 @@ const QUIET: u64 = 60;
 /// What the first lines report.
 #[derive(Clone, Copy, Drop)]
 pub struct Notice<'a> {
-    pub stderr: Stderr,
+    pub diagnostics: Diagnostics,
     pub options: &'a Options,
     /// How many descriptors the process may have, if the system reports it.
     pub descriptors: Option<u64>,
@@ -40,7 +41,7 @@ pub fn write_lines<R: Wait + Clock, S: StoreStats>(
     let settings = notice.options.settings;
     let mut logger = Logger {
         log,
-        stderr: notice.stderr,
+        diagnostics: notice.diagnostics,
         pages: settings.pages,
         most: pages_of(settings.greatest),
         turn: 0,
@@ -75,7 +76,7 @@ pub fn write_lines<R: Wait + Clock, S: StoreStats>(
 #[derive(Drop)]
 struct Logger<'a> {
     log: &'a Log,
-    stderr: Stderr,
+    diagnostics: Diagnostics,
     /// The number of pages that items may take.
     pages: u32,
     /// The number of pages that one item may take.
@@ -97,7 +98,7 @@ impl Logger<'_> {
         };
         self.turn = turn.wrapping_add(1);
         self.tell_dropped(dropped);
-        if write_line(self.stderr, line).is_err() {
+        if write_line(self.diagnostics, line).is_err() {
             log.drop_line();
         }
         true
@@ -105,10 +106,10 @@ impl Logger<'_> {
 
     /// Writes how many lines were dropped, if any were.
     fn tell_dropped(&self, count: u64) {
-        let stderr = self.stderr;
         if count > 0 {
+            let (stderr, level) = at_level(self.diagnostics, Level::Warning);
             let _ = eprintln!(stderr;
-                "mcserver: lines dropped, as standard error wasn't read in time: {count}"
+                "{level}mcserver: lines dropped, as standard error wasn't read in time: {count}"
             );
         }
     }
@@ -124,8 +125,8 @@ impl Logger<'_> {
             pages: self.pages,
             most: self.most,
         };
-        let stderr = self.stderr;
-        let _ = eprintln!(stderr; "mcserver: full: {full} (told once a minute)");
+        let (stderr, level) = at_level(self.diagnostics, Level::Warning);
+        let _ = eprintln!(stderr; "{level}mcserver: full: {full} (told once a minute)");
     }
 
     /// Sleeps until there may be a line, or a full store may be reported again.
@@ -166,28 +167,43 @@ fn pages_of(bytes: u64) -> u32 {
     }
 }
 
+/// Returns standard error, and what its lines of this level begin with.
+fn at_level(diagnostics: Diagnostics, level: Level) -> (Stderr, &'static str) {
+    (diagnostics.stderr, diagnostics.prefix(level))
+}
+
+/// Returns the level of a line.
+fn level_of(line: Line) -> Level {
+    match line {
+        Line::Opened { .. } | Line::Closed { .. } => Level::Info,
+        Line::Warned(_) => Level::Warning,
+    }
+}
+
 /// Writes a line.
-fn write_line(stderr: Stderr, line: Line) -> io::Result<()> {
+fn write_line(diagnostics: Diagnostics, line: Line) -> io::Result<()> {
+    let (stderr, level) = at_level(diagnostics, level_of(line));
     match line {
         Line::Opened { number, peer } => {
-            eprintln!(stderr; "mcserver: connection {number} from {peer} opened")
+            eprintln!(stderr; "{level}mcserver: connection {number} from {peer} opened")
         }
         Line::Closed { number, parting } => {
             let why = parting.text();
-            eprintln!(stderr; "mcserver: connection {number} closed: {why}")
+            eprintln!(stderr; "{level}mcserver: connection {number} closed: {why}")
         }
         Line::Warned(warning) => {
             let text = warning.text();
-            eprintln!(stderr; "mcserver: warning: {text} (reported once a minute)")
+            eprintln!(stderr; "{level}mcserver: warning: {text} (reported once a minute)")
         }
     }
 }
 
 /// Writes a warning if other machines can reach the address.
-fn warn(stderr: Stderr, address: IpAddr) {
+fn warn(diagnostics: Diagnostics, address: IpAddr) {
     if !address.to_canonical().is_loopback() {
+        let (stderr, level) = at_level(diagnostics, Level::Warning);
         let _ = eprintln!(stderr;
-            "mcserver: warning: the protocol has no passwords, and {address} isn't this machine's alone"
+            "{level}mcserver: warning: the protocol has no passwords, and {address} isn't this machine's alone"
         );
     }
 }
@@ -195,38 +211,42 @@ fn warn(stderr: Stderr, address: IpAddr) {
 /// Writes where the server listens, its pages and workers, and warnings.
 fn say(notice: Notice<'_>) {
     let Notice {
-        stderr,
+        diagnostics,
         options,
         descriptors,
     } = notice;
     let workers = options.workers;
     let pages = options.settings.pages;
     let places = &options.endpoints;
+    let (stderr, level) = at_level(diagnostics, Level::Info);
     // if standard error is closed the server runs all the same
-    let _ = eprintln!(stderr; "mcserver: listening on {places}, {pages} pages, {workers} workers");
-    warn_all(stderr, places);
+    let _ = eprintln!(stderr;
+        "{level}mcserver: listening on {places}, {pages} pages, {workers} workers"
+    );
+    warn_all(diagnostics, places);
     if let Some(endpoint) = options.scrapes {
-        let _ = eprintln!(stderr; "mcserver: metrics at http://{endpoint}/metrics");
+        let _ = eprintln!(stderr; "{level}mcserver: metrics at http://{endpoint}/metrics");
     }
     if let Some(most) = descriptors {
-        warn_of_descriptors(stderr, options.connections, most);
+        warn_of_descriptors(diagnostics, options.connections, most);
     }
 }
 
 /// Writes a warning for each endpoint that other machines can reach.
-fn warn_all(stderr: Stderr, endpoints: &Endpoints) {
+fn warn_all(diagnostics: Diagnostics, endpoints: &Endpoints) {
     let Endpoints { first, others } = endpoints;
-    warn(stderr, first.address);
+    warn(diagnostics, first.address);
     for other in others {
-        warn(stderr, other.address);
+        warn(diagnostics, other.address);
     }
 }
 
 /// Writes a warning if fewer descriptors than connections are allowed.
-fn warn_of_descriptors(stderr: Stderr, connections: u32, most: u64) {
+fn warn_of_descriptors(diagnostics: Diagnostics, connections: u32, most: u64) {
     if u64::from(connections) > most {
+        let (stderr, level) = at_level(diagnostics, Level::Warning);
         let _ = eprintln!(stderr;
-            "mcserver: warning: -c allows {connections} connections, and the system {most} descriptors (ulimit -n)"
+            "{level}mcserver: warning: -c allows {connections} connections, and the system {most} descriptors (ulimit -n)"
         );
     }
 }
