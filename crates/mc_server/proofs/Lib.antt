@@ -1,2 +1,3 @@
+pub mod PlanLemmas
 pub mod RunLemmas
 pub mod Sent

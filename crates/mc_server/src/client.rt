@@ -21,7 +21,7 @@ use std::time;
 /// The homes of a shelf's first table. Each growth doubles them.
 const FIRST_HOMES: u64 = 64;
 
-/// A caller of a store, with the store.
+/// A caller of a store, with the store. Contracts see the settings that the store began with.
 #[derive(Drop)]
 pub struct StoreClient<'a> {
     shared: &'a Shared<Fnv>,
@@ -30,10 +30,11 @@ pub struct StoreClient<'a> {
 
 impl<'a> Model for StoreClient<'a> {
     ghost use Rattle.std.specs.Prelude.{◌≡◌};
+    ghost use Rattle.mc_shelf.specs.declared.settings.Settings.{Settings};
 
-    ghost Value = { Unit {0} };
+    ghost Value = { Settings };
 
-    ghost view = { λ _. tt };
+    ghost view = { λ a. a.shared.now.began.settings };
 
     ghost invariant = { λ a. a.caller.table ≡ a.shared.now.table };
 }
@@ -42,12 +43,16 @@ impl<'a> StoreClient<'a> {
     /// Returns a client over this store and one of its callers.
     pub fn new(shared: &'a Shared<Fnv>, caller: Caller) -> StoreClient<'a>
         requires { caller.table ≡ shared.now.table }
+        ensures { result ≡ shared.now.began.settings }
     {
         StoreClient { shared, caller }
     }
 
     /// Returns another client of the same store. It takes no memory.
-    pub fn another(&mut self) -> StoreClient<'a> {
+    pub fn another(&mut self) -> StoreClient<'a>
+        ensures another { result ≡ self.old }
+        ensures same { self.new ≡ self.old }
+    {
         StoreClient {
             shared: self.shared,
             caller: self.shared.caller(&mut self.caller),

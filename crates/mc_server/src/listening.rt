@@ -3,19 +3,20 @@
 //! Each listener has a thread that accepts. Shutting a listener's socket down ends its wait, so no
 //! thread polls. One descriptor is kept spare: it is freed to accept and close a connection when
 //! the system has none left.
-ghost use Rattle.std.specs.Prelude.{◌≡◌};
+ghost use Rattle.std.specs.Prelude.{◌≡◌, IfOk};
+ghost use Rattle.mc_protocol.specs.Plain.{opening};
 ghost use Rattle.mc_host.specs.Ends.{EndsListening};
 
 use crate::client::StoreClient;
 use crate::plan::{Bound, make_plan};
 use crate::threads::serve;
 use mc_hop::Fnv;
-use mc_host::{AskedClock, End, Refusal, Wanting, bound_all, open_door};
+use mc_host::{AskedClock, Diagnostics, End, Refusal, Wanting, bound_all, open_door};
 use mc_options::Options;
 use mc_session::ServeFault;
-use mc_shared::Shared;
+use mc_shared::{Caller, Shared};
 use mc_time::Clock;
-use std::alloc::{AllocGlobal, Global};
+use std::alloc::{AllocError, AllocGlobal, Global};
 use std::fs::Files;
 use std::io::{Stderr, Write};
 use std::net::Net;
@@ -30,7 +31,12 @@ const LARGE: usize = 5_242_880;
 ///
 /// It uses the clock of the options, and answers scrapes if that is an option. It ends at once if
 /// it can't listen at an endpoint, or memory is refused.
-pub fn listen<R, S>(rt: &R, stderr: Stderr, options: Options, clock: &AskedClock<S>) -> End
+pub fn listen<R, S>(
+    rt: &R,
+    diagnostics: Diagnostics,
+    options: Options,
+    clock: &AskedClock<S>,
+) -> End
 where
     R: Net + Files + AllocGlobal + Wait + Threads + time::Clock + Sync,
     S: Clock + Sync,
@@ -46,7 +52,7 @@ where
         Err(end) => return end,
     };
     let endpoint = options.endpoints.first;
-    match begin(rt, stderr, &options, Bound { listeners, door }, clock) {
+    match begin(rt, diagnostics, &options, Bound { listeners, door }, clock) {
         Ok(true) if options.may_quit => End::Stopped,
         Ok(_) => End::Served(Err(ServeFault::Read)),
         Err(Wanting::Descriptor(why)) => End::CannotListen(Refusal { endpoint, why }),
@@ -58,7 +64,7 @@ where
 /// Makes the store and serves. Returns whether the server was asked to end, or what was wanting.
 fn begin<R, C>(
     rt: &R,
-    stderr: Stderr,
+    diagnostics: Diagnostics,
     options: &Options,
     bound: Bound,
     clock: &C,
@@ -67,16 +73,29 @@ where
     R: Net + Files + AllocGlobal + Wait + Threads + time::Clock + Sync,
     C: Clock + Sync,
 {
-    keep_memory(rt.alloc(), stderr);
-    let (shared, caller) = Shared::new(rt.alloc(), options.settings, Fnv)?;
+    keep_memory(rt.alloc(), diagnostics.stderr);
+    let (shared, caller) = make_store(rt.alloc(), options)?;
     let client = StoreClient::new(&shared, caller);
-    serve_over(rt, stderr, options, bound, client, clock)
+    serve_over(rt, diagnostics, options, bound, client, clock)
 }
 
-/// Serves over a store. Returns whether the server was asked to end, or what was wanting.
+/// Makes the store that the options ask for, and its first caller. It is empty.
+///
+/// The only error is a refused allocation.
+fn make_store(alloc: Global, options: &Options) -> Result<(Shared<Fnv>, Caller), AllocError>
+    ensures settings { IfOk result (λ made. made.0.began.settings ≡ options.entry.now.settings) }
+    ensures empty { IfOk result (λ made. made.0.began.plain
+        ≡ opening options.entry.now.settings.pages options.entry.now.settings.greatest) }
+    ensures caller { IfOk result (λ made. made.1.table ≡ made.0.table) }
+{
+    Shared::new(alloc, options.settings, Fnv)
+}
+
+/// Serves over a store that the options ask for. Returns whether the server was asked to end, or
+/// what was wanting.
 fn serve_over<R, C>(
     rt: &R,
-    stderr: Stderr,
+    diagnostics: Diagnostics,
     options: &Options,
     bound: Bound,
     client: StoreClient<'_>,
@@ -85,8 +104,9 @@ fn serve_over<R, C>(
 where
     R: Net + Files + AllocGlobal + Wait + Threads + time::Clock + Sync,
     C: Clock + Sync,
+    requires { client ≡ options.now.settings }
 {
-    let (plan, common) = make_plan(rt, stderr, options, bound)?;
+    let (plan, common) = make_plan(rt, diagnostics, options, bound)?;
     match serve(rt, plan, client, &common, clock) {
         Ok(()) => Ok(common.arrivals.is_over_as_asked()),
         Err(wanting) => Err(wanting),

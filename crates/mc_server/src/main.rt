@@ -33,28 +33,49 @@ mod serving;
 mod threads;
 
 use clap::error::ErrorKind;
-use mc_host::{End, Refusal};
+use mc_host::{Denial, Diagnostics, End, Level, Refusal, ask_server, has_small_stack};
 use mc_options::{Options, Unfit};
 use running::run;
 use std::process::ExitCode;
 use std::{env, io};
 
 fn main(rt: HostRuntime) -> ExitCode {
-    let end = match read_options(&rt) {
-        Ok(options) => run(&rt, rt.stderr(), options, &mut rt.stdin(), &mut rt.stdout()),
+    let diagnostics = Diagnostics::new(&rt, rt.stderr());
+    if has_small_stack(&rt) {
+        return tell_end(diagnostics, &End::SmallStack);
+    }
+    let end = match read_options(&rt, diagnostics) {
+        Ok(options) => match options.quit {
+            Some(endpoint) => ask_server(&rt, endpoint),
+            None => run(&rt, diagnostics, options, &mut rt.stdin(), &mut rt.stdout()),
+        },
         Err(end) => end,
     };
-    tell_end(&rt, &end)
+    tell_end(diagnostics, &end)
 }
 
 /// Returns what the command line asks for, or how the program ends without that.
-fn read_options(rt: &HostRuntime) -> Result<Options, End> {
+fn read_options(rt: &HostRuntime, diagnostics: Diagnostics) -> Result<Options, End> {
     let words = words(rt)?;
     match mc_options::parse_options(rt.alloc(), words.as_slice()) {
         Ok(options) => Ok(options),
         Err(Unfit::Told(error)) => Err(End::of_options(&error, &print_fault(rt, &error))),
+        Err(Unfit::Faults(lines)) => Err(tell_faults(diagnostics, lines.as_str())),
         Err(Unfit::Shelves) => Err(End::BadShelves),
     }
+}
+
+/// Prints the faults of the command line, a line each, and returns the end for them.
+fn tell_faults(diagnostics: Diagnostics, lines: &str) -> End
+    ensures { result ≡ End.BadCommandLine }
+{
+    let Diagnostics { stderr, .. } = diagnostics;
+    let level = diagnostics.prefix(Level::Error);
+    for line in lines.lines() {
+        // if standard error is closed only the status is left
+        let _ = eprintln!(stderr; "{level}mcserver: {line}");
+    }
+    End::BadCommandLine
 }
 
 /// Returns the words of the command line, which begin with the program's name.
@@ -65,9 +86,7 @@ fn words(rt: &HostRuntime) -> Result<Vec<String>, End> {
     Ok(words.collect(rt.alloc())?)
 }
 
-/// Prints the text of `clap`: help to standard output, a mistake to standard error.
-///
-/// It prints nothing if memory is refused.
+/// Prints help or the version to standard output. It prints nothing if memory is refused.
 fn print_fault(rt: &HostRuntime, error: &clap::Error) -> io::Result<()> {
     if error.kind() == ErrorKind::OutOfMemory {
         return Ok(());
@@ -76,19 +95,30 @@ fn print_fault(rt: &HostRuntime, error: &clap::Error) -> io::Result<()> {
 }
 
 /// Prints why the program ends, and returns its status.
-fn tell_end(rt: &HostRuntime, end: &End) -> ExitCode
+fn tell_end(diagnostics: Diagnostics, end: &End) -> ExitCode
     ensures { exit_status result ≡ status_of end.now }
 {
     let (status, text) = end.ending();
-    // if standard error is closed too, only the status is left
-    let _ = if let End::CannotListen(refusal) = end {
-        let Refusal { endpoint, why } = *refusal;
-        let reason = why.reason();
-        eprintln!(rt; "{text} on {endpoint}: {reason}")
-    } else if text.is_empty() {
-        Ok(())
-    } else {
-        eprintln!(rt; "{text}")
-    };
+    if !text.is_empty() {
+        tell_why(diagnostics, end, text);
+    }
     ExitCode::from(status)
+}
+
+/// Prints the text of an end, and the endpoint and the reason if it has them.
+fn tell_why(diagnostics: Diagnostics, end: &End, text: &str) {
+    let Diagnostics { stderr, .. } = diagnostics;
+    let level = diagnostics.prefix(Level::Error);
+    // if standard error is closed too, only the status is left
+    let _ = match end {
+        End::CannotListen(Refusal { endpoint, why }) => {
+            let reason = why.reason();
+            eprintln!(stderr; "{level}{text} on {endpoint}: {reason}")
+        }
+        End::Denied(Denial { endpoint, why }) => {
+            let reason = why.reason();
+            eprintln!(stderr; "{level}{text} {endpoint}: {reason}")
+        }
+        _ => eprintln!(stderr; "{level}{text}"),
+    };
 }

@@ -3,7 +3,14 @@
 //! All that can be refused is requested here: descriptors, memory, polls. So a server that reports
 //! that it listens has what its threads need, but for the threads themselves.
 
-use mc_host::{Door, Listeners, Wanting, look_for_descriptors, most_descriptors, sockets_of};
+ghost use Rattle.std.specs.Prelude.{◌≡◌, ◌+◌, length, IfOk, OnOk, All};
+ghost use Rattle.std.specs.Arc.{arc_value};
+ghost use Rattle.mc_sockets.specs.Crowds.{most_of};
+ghost use Rattle.mc_server.specs.Plans.{IsPlanOf, IsWorkerOf, ArePlansOf, held_of};
+
+use mc_host::{
+    Diagnostics, Door, Listeners, Wanting, look_for_descriptors, most_descriptors, sockets_of,
+};
 use mc_metrics::Counts;
 use mc_options::Options;
 use mc_sockets::{Arrivals, Crowd, EVENTS, Inbox, Log, Share, WAKER};
@@ -11,10 +18,13 @@ use mc_telemetry::{MetricsServer, Notice, Observer, Outlet, process_start};
 use mio::{Events, Poll, Waker};
 use std::alloc::{AllocError, AllocGlobal, Global};
 use std::fs::Files;
-use std::io::{self, Stderr};
+use std::io;
 use std::net::{Net, TcpListener};
 use std::sync::Arc;
 use std::time::{Clock, Instant};
+
+/// The bytes of a MiB.
+const MIB: usize = 1_048_576;
 
 /// The sockets at which the server listens.
 #[derive(Drop)]
@@ -82,17 +92,19 @@ struct Workers {
 /// is refused, or a descriptor.
 pub fn make_plan<'a, R: Net + Files + AllocGlobal + Clock>(
     rt: &R,
-    stderr: Stderr,
+    diagnostics: Diagnostics,
     options: &'a Options,
     bound: Bound,
-) -> Result<(ServerPlan<'a>, Common), Wanting> {
+) -> Result<(ServerPlan<'a>, Common), Wanting>
+    ensures { IfOk result (λ made. IsPlanOf options.entry.now made.0) }
+{
     let workers = make_workers(rt, options)?;
     let notice = Notice {
-        stderr,
+        diagnostics,
         options,
         descriptors: most_descriptors(rt),
     };
-    let outlet = Outlet::new(rt, rt.alloc(), stderr)?;
+    let outlet = Outlet::new(rt, rt.alloc(), diagnostics.stderr)?;
     plan_with(rt, notice, outlet, bound, workers)
 }
 
@@ -103,7 +115,10 @@ fn plan_with<'a, R: AllocGlobal + Files + Clock>(
     outlet: Outlet,
     bound: Bound,
     workers: Workers,
-) -> Result<(ServerPlan<'a>, Common), Wanting> {
+) -> Result<(ServerPlan<'a>, Common), Wanting>
+    requires { ArePlansOf notice.options.now workers.plans.items }
+    ensures { IfOk result (λ made. IsPlanOf notice.entry.options.now made.0) }
+{
     let Workers {
         plans,
         inboxes,
@@ -144,7 +159,9 @@ fn make_common<R: AllocGlobal + Clock>(
 }
 
 /// Returns a counter of connections. The one error is a refused allocation.
-fn make_crowd(alloc: Global, options: &Options, log: &Arc<Log>) -> Result<Arc<Crowd>, AllocError> {
+fn make_crowd(alloc: Global, options: &Options, log: &Arc<Log>) -> Result<Arc<Crowd>, AllocError>
+    ensures { IfOk result (λ crowd. most_of (arc_value crowd) ≡ options.entry.now.connections) }
+{
     let log = log.clone().map_err(|_| AllocError)?;
     Crowd::new(alloc, options.connections, Some(log))
 }
@@ -174,7 +191,9 @@ fn make_metrics<R: AllocGlobal + Files + Clock>(
 }
 
 /// Returns the workers that the options ask for. It fails if memory is refused, or a descriptor.
-fn make_workers<R: Net + AllocGlobal>(rt: &R, options: &Options) -> Result<Workers, Wanting> {
+fn make_workers<R: Net + AllocGlobal>(rt: &R, options: &Options) -> Result<Workers, Wanting>
+    ensures { IfOk result (λ workers. ArePlansOf options.entry.now workers.plans.items) }
+{
     let alloc = rt.alloc();
     let mut workers = Workers {
         plans: Vec::new(alloc),
@@ -189,12 +208,18 @@ fn make_workers<R: Net + AllocGlobal>(rt: &R, options: &Options) -> Result<Worke
 
 impl Workers {
     /// Adds the worker with this number. It fails if memory is refused, or a descriptor.
+    #[tactic(auto, using(crate::proofs::PlanLemmas::one_more))]
     fn add<R: Net + AllocGlobal>(
         &mut self,
         rt: &R,
         options: &Options,
         worker: u32,
-    ) -> Result<(), Wanting> {
+    ) -> Result<(), Wanting>
+        ensures count { OnOk result
+            (length self.new.plans.items ≡ length self.old.plans.items + 1) }
+        ensures each { All (IsWorkerOf options.entry.now) self.old.plans.items
+            → OnOk result (All (IsWorkerOf options.entry.now) self.new.plans.items) }
+    {
         let counts = Arc::new(rt.alloc(), Counts::new()).map_err(|_| AllocError)?;
         let (plan, waker) = WorkerPlan::new(rt, options, worker, &counts)?;
         self.plans.push(plan).map_err(|_| AllocError)?;
@@ -213,7 +238,9 @@ impl WorkerPlan {
         options: &Options,
         worker: u32,
         counts: &Arc<Counts>,
-    ) -> Result<(WorkerPlan, Waker), Wanting> {
+    ) -> Result<(WorkerPlan, Waker), Wanting>
+        ensures { IfOk result (λ made. IsWorkerOf options.entry.now made.0) }
+    {
         let moved = counts.clone().map_err(|_| AllocError)?;
         let counts = counts.clone().map_err(|_| AllocError)?;
         let (poll, waker) = make_poll(rt)?;
@@ -239,8 +266,10 @@ fn first_shelf(options: &Options, worker: u32) -> u32 {
 
 /// Returns how many bytes the connections of a worker may hold: its part of seven eighths of
 /// `--buffer-limit`. The rest is for what the C library keeps between their buffers.
-fn held_of(options: &Options) -> usize {
-    let bytes = (options.buffers as usize).saturating_mul(1 << 20);
+fn held_of(options: &Options) -> usize
+    ensures { result ≡ held_of options.entry.now }
+{
+    let bytes = options.buffers as usize * MIB;
     bytes / 8 * 7 / options.workers.max(1) as usize
 }
 

@@ -6,12 +6,12 @@ ghost use Rattle.mc_server.specs.Runs.{IsSystemMoment, EndsServed};
 
 use crate::listening::listen;
 use crate::serving::serve;
-use mc_host::{AskedClock, End};
+use mc_host::{AskedClock, Diagnostics, End};
 use mc_options::Options;
 use mc_time::SteadyClock;
 use std::alloc::AllocGlobal;
 use std::fs::Files;
-use std::io::{Read, Stderr, Write};
+use std::io::{Read, Write};
 use std::net::Net;
 use std::sync::Wait;
 use std::thread::Threads;
@@ -22,7 +22,13 @@ use std::time;
 /// With `--stdin` it serves one session over the reader and the writer, by the options' clock.
 /// Without, it listens at the endpoints by that clock, answers scrapes if that is an option, and
 /// ends if it is asked to and may be; it neither reads nor writes here.
-pub fn run<H, R, W>(rt: &H, stderr: Stderr, options: Options, reader: &mut R, writer: &mut W) -> End
+pub fn run<H, R, W>(
+    rt: &H,
+    diagnostics: Diagnostics,
+    options: Options,
+    reader: &mut R,
+    writer: &mut W,
+) -> End
 where
     H: Net + Files + AllocGlobal + Wait + Threads + time::Clock + Sync,
     R: Read,
@@ -43,6 +49,6 @@ where
     if options.stdin {
         serve(rt.alloc(), options.settings, reader, writer, &clock)
     } else {
-        listen(rt, stderr, options, &clock)
+        listen(rt, diagnostics, options, &clock)
     }
 }

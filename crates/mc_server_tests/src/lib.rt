@@ -16,6 +16,8 @@ mod idle_tests;
 #[cfg(test)]
 mod lines_tests;
 #[cfg(test)]
+mod quit_tests;
+#[cfg(test)]
 mod session_tests;
 mod settings;
 #[cfg(test)]

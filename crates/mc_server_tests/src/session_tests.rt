@@ -42,6 +42,7 @@ fn served(
         buffers: None,
         scrapes: None,
         may_quit: false,
+        quit: None,
         verbose: false,
     };
     let endpoints = Endpoints::new(alloc, &[], None)?;

@@ -1,0 +1,27 @@
+-- What a server is to serve with, by its options, before its first thread starts.
+use Rattle.std.specs.Prelude.{◌≡◌, ℕ, ◌*◌, ◌/◌, max, List, length, All}
+use Rattle.std.specs.Arc.{arc_value}
+use Rattle.mc_options.specs.declared.options.Options.{Options}
+use Rattle.mc_sockets.specs.Crowds.{most_of}
+use Rattle.mc_server.specs.declared.plan.ServerPlan.{ServerPlan}
+use Rattle.mc_server.specs.declared.plan.WorkerPlan.{WorkerPlan}
+
+-- how many bytes the connections of a worker may hold: its part of seven eighths of the limit of buffers
+abbrev pub held_of : Options → ℕ
+held_of options = ((((options.buffers * 1048576) / 8) * 7) / (max options.workers 1))
+
+-- a worker has the idle timeout of the options, and its part of the limit of buffers
+pub record IsWorkerOf (options : Options) (plan : WorkerPlan) : Type 0 where
+  pub idle_timeout : plan.idle_timeout ≡ options.idle_timeout
+  pub held : plan.held ≡ held_of options
+
+-- as many workers as the options ask for, each by the options
+pub record ArePlansOf (options : Options) (plans : List WorkerPlan) : Type 0 where
+  pub count : length plans ≡ options.workers
+  pub each : All (IsWorkerOf options) plans
+
+-- a server's workers are by the options, and all its listeners count connections in one crowd of -c at most
+pub record IsPlanOf (options : Options) (plan : ServerPlan) : Type 0 where
+  pub workers : ArePlansOf options plan.threads.workers.items
+  pub connections : most_of (arc_value plan.crowd) ≡ options.connections
+  pub crowd : arc_value plan.threads.crowd ≡ arc_value plan.crowd
