@@ -197,8 +197,8 @@ class InANamespace(ProgramCase):
     def test_the_hook_ends_it_in_order(self):
         """It is what docs/CONTAINERS.md has as preStop: what was sent is answered, and it ends by itself."""
         with open(f"{ROOT}/docs/CONTAINERS.md", encoding="utf-8") as text:
-            words = re.search(r"command:\n +- (/bin/bash)\n +- (-c)\n +- (.*)\n", text.read()).groups()
-        words = in_image(self.image.folder, [word.replace("/9150", f"/{self.metrics}") for word in words])
+            words = re.search(r"command:\n +- (/bin/sh)\n +- (-c)\n +- (.*)\n", text.read()).groups()
+        words = in_image(self.image.folder, [word.replace(":9150", f":{self.metrics}") for word in words])
         with Running(self.image, self.entry(), self.port) as it, Peer(self.port) as peer:
             peer.asks(b"set a 0 0 1\r\nx\r\n", b"STORED\r\n")
             with subprocess.Popen(words) as hook:

@@ -27,5 +27,4 @@ class Ends(ProgramCase):
 
     def test_an_argument_that_is_not_text(self):
         ran = outcome(started(self.program, ["--stdin", b"\xff"]))
-        self.assertIn(b"error:", ran.stderr)
-        ran.ended(2, ran.stderr)
+        ran.ended(2, b"mcserver: a word of the command line isn't UTF-8\n")

@@ -111,6 +111,19 @@ class SeveralAddresses(ProgramCase):
         said = rb"mcserver: cannot listen on 127\.0\.0\.1:%d: something listens there already\n" % self.port
         ended(self.program, ["-p", str(self.port), "-l", HOST, "-l", OTHER, "-l", HOST], 1, said)
 
+    def test_all_of_either_version(self):
+        """Where :: is of version 4 too, it says that :: alone listens at both, whichever stands first; where it isn't, it listens at both."""
+        for words in (["-l", "0.0.0.0,::"], ["-l", "::", "-l", "0.0.0.0"]):
+            if BINDS_APART:
+                with self.subTest(words), self.started(*words) as started:
+                    started.line()
+                    self.assertTrue(answers(HOST, self.port) and answers("::1", self.port))
+                continue
+            with self.subTest(words):
+                place = rb"\[::\]" if words[1].endswith("::") and len(words) == 2 else rb"0\.0\.0\.0"
+                said = rb"mcserver: cannot listen on %s:%d: -l has 0\.0\.0\.0 and :: at this port, and :: alone listens at both\n\Z"
+                ended(self.program, ["-p", str(self.port), *words], 1, said % (place, self.port))
+
     def test_it_ends_at_all(self):
         """Asked to end, it does so with status 0, whichever of its listeners hears of it first, and leaves every port."""
         places = [(HOST, self.port), *((OTHER, free_port(OTHER)) for _ in range(4))]
