@@ -85,6 +85,34 @@ const STEPS: [(u64, &[u8], Ask<'static>); 7] = [
     (1010, b"a", Ask::Delete),
 ];
 
+/// Returns how often a caller's gate is called in a step that returns its reply.
+fn calls_of_asking<R: Wait>(
+    asking: &mut Asking<'_, R, Fnv, CallCount<'_>>,
+    alloc: Global,
+    calls: &AtomicU64,
+    (second, key, ask): (u64, &[u8], Ask<'_>),
+) -> u64 {
+    if key.len() > 250 {
+        return u64::MAX;
+    }
+    calls.store(0, Ordering::SeqCst);
+    let step = step_of(key, ask);
+    let now = Moment::from_seconds_at_most(second);
+    let _ = asking.step(alloc, &step, now);
+    calls.load(Ordering::SeqCst)
+}
+
+/// Steps on a key that is absent, and how often a caller's gate is called in each.
+///
+/// A plain read asks first whether the key is absent, and takes no shelf then. No other step asks.
+const ABSENT: [((u64, &[u8], Ask<'static>), u64); 5] = [
+    ((1010, b"none", Ask::Get), 0),
+    ((1010, b"none", Ask::Gat(10)), 1),
+    ((1010, b"none", Ask::Touch(10)), 1),
+    ((1010, b"none", Ask::Delete), 1),
+    ((1010, b"none", Ask::Get), 0),
+];
+
 #[test]
 fn a_gate_is_called_once_a_step(rt: HostRuntime) -> Result<(), Fail> {
     let alloc = rt.alloc();
@@ -109,9 +137,24 @@ fn a_gate_is_called_once_a_telling(rt: HostRuntime) -> Result<(), Fail> {
     for step in STEPS {
         assert_eq!(rt; calls_of_telling(&mut asking, alloc, &calls, step), 1);
     }
-    assert_eq!(rt;
-        calls_of_telling(&mut asking, alloc, &calls, (1010, b"none", Ask::Get)),
-        0
-    );
+    for (step, times) in ABSENT {
+        assert_eq!(rt; calls_of_telling(&mut asking, alloc, &calls, step), times);
+    }
+    Ok(())
+}
+
+#[test]
+fn a_gate_is_called_once_an_asking(rt: HostRuntime) -> Result<(), Fail> {
+    let alloc = rt.alloc();
+    let calls = AtomicU64::new(0);
+    let gate = CallCount { calls: &calls };
+    let (shared, caller) = shared_store(alloc, SOME)?;
+    let mut asking = Asking::new(&rt, &shared, caller, &gate);
+    for step in STEPS {
+        assert_eq!(rt; calls_of_asking(&mut asking, alloc, &calls, step), 1);
+    }
+    for (step, times) in ABSENT {
+        assert_eq!(rt; calls_of_asking(&mut asking, alloc, &calls, step), times);
+    }
     Ok(())
 }
