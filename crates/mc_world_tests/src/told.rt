@@ -54,7 +54,7 @@ pub(crate) fn answers_and_grows(
     Ok(())
 }
 
-/// Checks that session 2 gets this for `a`.
+/// Checks that session 2 gets this for `a`, or session 3 if session 2 is refused memory.
 pub(crate) fn second_finds(
     rt: &impl Abort,
     alloc: Global,
@@ -62,7 +62,25 @@ pub(crate) fn second_finds(
     found: &[u8],
 ) -> Result<(), Fail> {
     let get = Event::Piece(2, Bytes::of(b"get a\r\n"));
-    run(world, alloc, &[get, Event::Turn(2)])?;
-    is_told(rt, world, 2, found);
+    match world.run(alloc, &[get, Event::Turn(2)]) {
+        Ok(()) => is_told(rt, world, 2, found),
+        Err(refused) => {
+            assert!(rt; refused.session == Some(2) && world.is_closed(2));
+            third_finds(rt, alloc, world, found)?;
+        }
+    }
+    Ok(())
+}
+
+/// Opens session 3, and checks that it gets this for `a`.
+fn third_finds(
+    rt: &impl Abort,
+    alloc: Global,
+    world: &mut World<Fnv>,
+    found: &[u8],
+) -> Result<(), Fail> {
+    let get = Event::Piece(3, Bytes::of(b"get a\r\n"));
+    run(world, alloc, &[Event::Open, get, Event::Turn(3)])?;
+    is_told(rt, world, 3, found);
     Ok(())
 }

@@ -56,8 +56,15 @@ pub(crate) fn opened_with<K: KeyHash + Drop>(
     Ok(world)
 }
 
-/// The same, with session 2 open too.
+/// The same, with session 2 open too. It allocates again if memory is refused.
 pub(crate) fn opened_twice(alloc: Global) -> Result<World<Fnv>, AllocError> {
+    match opened_both(alloc) {
+        Err(_) => opened_both(alloc),
+        made => made,
+    }
+}
+
+fn opened_both(alloc: Global) -> Result<World<Fnv>, AllocError> {
     let mut world = opened(alloc, Fnv)?;
     run(&mut world, alloc, &[Event::Open])?;
     Ok(world)
