@@ -33,3 +33,5 @@ mod rows_tests;
 mod session_tests;
 #[cfg(test)]
 mod visit_tests;
+#[cfg(test)]
+mod waiting_tests;
