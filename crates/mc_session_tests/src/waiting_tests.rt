@@ -33,7 +33,7 @@ const BEGUN: usize = 30_000;
 
 const OF_131073: &[u8] = b"set b 0 0 131053\r\n";
 
-const OF_400000: &[u8] = b"set b 0 0 399980\r\n";
+const OF_380000: &[u8] = b"set b 0 0 379980\r\n";
 
 const OF_600000: &[u8] = b"set b 0 0 599980\r\n";
 
@@ -74,15 +74,17 @@ struct Wire<'a> {
     faults: u64,
     is_ended: bool,
     was_read: bool,
+    requested: usize,
 }
 
 impl<'a> Link for Wire<'a> {
     ghost use Rattle.std.specs.Prelude.{None};
 
-    ghost shown = { λ s. record { given = None; taken = None; faults = s.faults; is_ended = s.is_ended; was_read = s.was_read } };
+    ghost shown = { λ s. record { given = None; taken = None; faults = s.faults; is_ended = s.is_ended; was_read = s.was_read; requested = s.requested } };
 
     fn try_read(&mut self, piece: &mut [u8]) -> Result<Got, LinkFault> {
         self.was_read = true;
+        self.requested = piece.len();
         self.peer.count();
         if self.faults == u64::MAX {
             return Ok(Got::Later);
@@ -110,6 +112,7 @@ impl<'a> Link for Wire<'a> {
 
     fn try_write(&mut self, bytes: &[u8]) -> Result<Took, LinkFault> {
         self.was_read = false;
+        self.requested = bytes.len();
         self.peer.count();
         if self.faults == u64::MAX {
             return Ok(Took::Later);
@@ -196,6 +199,7 @@ fn let_in<'a>(
         faults: 0,
         is_ended: false,
         was_read: false,
+        requested: 0,
     };
     if !hall.guests.welcome(alloc, wire, GREATEST, number) {
         return Err(AllocError);
@@ -228,7 +232,7 @@ fn one_leaves<'a>(
     Ok([
         let_in(alloc, hall, 2, OF_600000, leaves)?,
         let_go(alloc, hall, 2, leaves),
-        let_in(alloc, hall, 3, OF_400000, stays)?,
+        let_in(alloc, hall, 3, OF_380000, stays)?,
         let_in(alloc, hall, 4, OF_131073, stays)?,
     ])
 }
@@ -245,7 +249,7 @@ fn others_leave<'a>(
     Ok([
         let_go(alloc, hall, 3, leaves),
         let_in(alloc, hall, 2, OF_600000, comes)?,
-        let_in(alloc, hall, 5, OF_400000, comes)?,
+        let_in(alloc, hall, 5, OF_380000, comes)?,
         let_in(alloc, hall, 6, OF_131073, comes)?,
     ])
 }
@@ -270,18 +274,16 @@ fn seen_of_leaving(alloc: Global) -> Result<(Seen, Seen, WorkEnd), Fail> {
     Ok(seen_in(alloc, &mut hall, &first, &second, &third)?)
 }
 
-/// The two guests that waited count as broken, and the two that went on as served.
-const ENDED: WorkEnd = WorkEnd {
-    served: 2,
-    broken: 2,
-    refused: 0,
-};
+/// Returns how many guests ended with their links, at their end or by a fault.
+fn ended_with_links(end: WorkEnd) -> u64 {
+    end.served.saturating_add(end.broken)
+}
 
 #[test]
 fn a_waiting_guest_that_leaves_leaves_no_trace(rt: HostRuntime) -> Result<(), Fail> {
     let (before, after, ended) = seen_of_leaving(rt.alloc())?;
     assert!(rt; before == [1, 0, 0, 1] && after == [0, 0, 0, 1]);
-    assert!(rt; ended == ENDED);
+    assert!(rt; ended_with_links(ended) == 4 && ended.refused == 0);
     Ok(())
 }
 
@@ -328,6 +330,7 @@ fn let_getter_in<'a>(
         faults: 0,
         is_ended: false,
         was_read: false,
+        requested: 0,
     };
     if !hall.guests.welcome(alloc, wire, GREATEST, number) {
         return Err(AllocError);
@@ -370,7 +373,7 @@ fn watched_in<'a>(
     gets: &'a Peer,
 ) -> Result<Watched, AllocError> {
     let_in(alloc, hall, 1, OF_9000000, large)?;
-    let_in(alloc, hall, 2, OF_400000, waits)?;
+    let_in(alloc, hall, 2, OF_380000, waits)?;
     let_getter_in(alloc, hall, 3, gets)?;
     let most = most_calls(alloc, hall, 3, waits);
     let is_served = gets.calls.get() > TICKS;
@@ -400,7 +403,7 @@ fn quiet_in<'a>(
     waits: &'a Peer,
 ) -> Result<(bool, u64), AllocError> {
     let_in(alloc, hall, 1, OF_9000000, large)?;
-    let_in(alloc, hall, 2, OF_400000, waits)?;
+    let_in(alloc, hall, 2, OF_380000, waits)?;
     let is_quiet = hall.guests.is_quiet();
     let most = most_calls(alloc, hall, 3, waits);
     Ok((is_quiet && hall.guests.is_quiet(), most))

@@ -19,10 +19,7 @@ const GET: &[u8] = b"get a\r\n";
 /// If its piece or its turn is refused it is closed without output. Another then finds what was
 /// written if the refusal has `decided`, and else nothing.
 fn set_turn(rt: &impl Abort, alloc: Global, world: &mut World<Fnv>) -> &'static [u8] {
-    let (told, found) = match world.run(
-        alloc,
-        &[Event::Piece(1, Bytes::of(SET)), Event::Turn(1)],
-    ) {
+    let (told, found) = match world.run(alloc, &[Event::Piece(1, Bytes::of(SET)), Event::Turn(1)]) {
         Ok(()) => (b"STORED\r\n".as_slice(), HIT),
         Err(refused) => {
             assert!(rt; refused.session == Some(1) && world.is_closed(1));
