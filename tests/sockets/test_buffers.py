@@ -16,9 +16,9 @@ LET_ON = 60
 # What an idle one may cost.
 IDLE = 8192
 # Answers that nobody reads: the length of a block, and how many of them are asked for. So many clients do so, and each may cost
-# as much beyond the limit: the first 6 KiB of a connection, 16 KiB of requests, and 16 KiB of answers in room that was doubled.
-UNREAD = [(100_000, 60), (20_000, 200), (1_000, 3000)]
-SILENT, EACH = 500, 6 * 1024 + 16 * 1024 + 2 * 16 * 1024
+# as much beyond the limit: 18 KiB of requests, an answer of 16 KiB, and 16 KiB of answers before it in room that was doubled.
+UNREAD = [(100_000, 60), (20_000, 200), (1_000, 2000)]
+SILENT, EACH = 500, 72 * 1024
 # How many pages a store of joined items has, how many workers, and how much each may have of pages that go to and fro.
 PAGES, WORKERS, EXCHANGED = 64, 4, 8 * MB
 

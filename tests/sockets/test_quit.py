@@ -18,6 +18,40 @@ AT_MOST, EMPTY, IDLE, MORE = 5, 1, 4, 3
 BLOCK = b"b" * 1000000
 
 
+# Fields of a request that ends the server, if a peer of this machine sends it, and of one that may be a page's of another site.
+GRANTED = [
+    b"",
+    b"Host: localhost\r\n",
+    b"host: LocalHost:9150\r\n",
+    b"Host: 127.0.0.1\r\n",
+    b"Host: 127.0.0.1:9150\r\n",
+    b"Host:\t127.255.0.3:80 \r\n",
+    b"Host: [::1]\r\n",
+    b"HOST: [::1]:9150\r\n",
+    b"X-Origin: http://example.org\r\nHost: localhost\r\nReferer: http://example.org/\r\n",
+]
+REFUSED = [
+    b"Host: localhost\r\nOrigin: http://localhost\r\n",
+    b"Host: localhost\r\norigin:\r\n",
+    b"ORIGIN: null\r\nHost: 127.0.0.1\r\n",
+    b"Host: mcserver\r\n",
+    b"Host:\r\n",
+    b"Host: example.org:9150\r\n",
+    b"Host: localhost.example.org\r\n",
+    b"Host: example.localhost\r\n",
+    b"Host: 127.0.0.1.example.org\r\n",
+    b"Host: 127.example.org\r\n",
+    b"Host: 10.0.0.1\r\n",
+    b"Host: 1270.0.0.1\r\n",
+    b"Host: 0.0.0.0\r\n",
+    b"Host: [::2]:9150\r\n",
+    b"Host: [::1].example.org\r\n",
+    b"Host: ::1\r\n",
+    b"Host: localhost\r\nHost: example.org\r\n",
+    b"Host: localhost\r\n" + b"A: b\r\n" * 62 + b"Origin: a\r\n",
+]
+
+
 class Quitting(ProgramCase):
     def server(self, *args, **options):
         return MetricsServer("--allow-quit", *args, **options)
