@@ -232,6 +232,8 @@ class Metrics(ProgramCase):
     def test_why_connections_were_closed(self):
         """quit and a line that is too long are told apart, however much was answered before, and what a block holds is no answer."""
         with MetricsServer() as server:
+            # the connection that waited for the start is closed, too
+            server.settle()
             before = server.scrape()
             with Peer(server.port) as peer:
                 peer.asks(b"version\r\n" + b"x" * 70000, b"VERSION 1.6.0\r\nCLIENT_ERROR line too long\r\n")
