@@ -9,8 +9,8 @@ from tests.lib.scrape import sent, told
 from tests.lib.server import HOST, free_port
 
 # The least limit, in KiB, and limits below it; a run ends so soon, in seconds.
-LEAST, BELOW, SOON = 256, (255, 192, 128), 10
-SAID = b"mcserver: the stack limit is below 256 KiB (ulimit -s)\n"
+LEAST, BELOW, SOON = 512, (511, 256, 128), 10
+SAID = b"mcserver: the stack limit is below 512 KiB (ulimit -s)\n"
 BLOCK = b"b" * 1000000
 
 

@@ -44,7 +44,7 @@ text_of end.Shown = codes ""
 text_of end.NotShown = codes "mcserver: write fault"
 text_of end.NoMemory = codes "mcserver: out of memory"
 text_of end.NoThread = codes "mcserver: cannot start a thread (ulimit -u)"
-text_of end.SmallStack = codes "mcserver: the stack limit is below 256 KiB (ulimit -s)"
+text_of end.SmallStack = codes "mcserver: the stack limit is below 512 KiB (ulimit -s)"
 text_of end.Accepted = codes ""
 text_of (end.Denied _) = codes "mcserver: --quit"
 

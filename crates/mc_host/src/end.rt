@@ -255,7 +255,7 @@ impl End {
             End::NotShown => ending(&Err(ServeFault::Write)),
             End::NoMemory => ending(&Err(ServeFault::NoMemory)),
             End::NoThread => (1, "mcserver: cannot start a thread (ulimit -u)"),
-            End::SmallStack => (1, "mcserver: the stack limit is below 256 KiB (ulimit -s)"),
+            End::SmallStack => (1, "mcserver: the stack limit is below 512 KiB (ulimit -s)"),
             End::Denied(_) => (1, "mcserver: --quit"),
         }
     }

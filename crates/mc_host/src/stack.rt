@@ -1,7 +1,7 @@
 //! The limit of the stack.
 //!
-//! It bounds the program's own thread only: each other thread has a stack of a size of its own. A
-//! thread that exceeds it is ended by a fault, so the limit is read before anything else is done.
+//! Each thread's stack is as large as it, or smaller. A thread that exceeds its stack ends the
+//! program by a fault, so the limit is read before anything else is done.
 ghost use Rattle.std.specs.Prelude.{◌≡◌};
 ghost use Rattle.mc_host.specs.Stacks.{is_small};
 
@@ -12,15 +12,15 @@ use std::fs::Files;
 /// The beginning of the line with the bytes of the stack.
 const STACK: &str = "Max stack size";
 
-/// The least limit of the stack, in bytes. The program needs about half of it.
-const LEAST: u64 = 262_144;
+/// The least limit of the stack, in bytes.
+const LEAST: u64 = 524_288;
 
-/// Returns whether the system reports a limit of the stack below 256 KiB.
+/// Returns whether the system reports a limit of the stack below 512 KiB.
 pub fn has_small_stack<R: Files + AllocGlobal>(rt: &R) -> bool {
     is_small(soft_limit(rt, STACK))
 }
 
-/// Returns whether there is a limit below 256 KiB.
+/// Returns whether there is a limit below 512 KiB.
 fn is_small(limit: Option<u64>) -> bool
     ensures { result ≡ is_small limit }
 {
