@@ -33,9 +33,10 @@ build:
 	@printf 'commit %s\ntoolchain %s\n' "$$(git describe --always --dirty 2> /dev/null)" "$$(rt version)" > $(dir $(PROGRAM))BUILD
 	@echo "$(PROGRAM) is proved and built" >&2
 
-# The program unproved, in a minute or two, to try it: out/try/mcserver. Nothing of it is proved, and it is never installed.
+# The program unproved, in a minute or two, to try it: out/try/mcserver. Nothing of it is proved, and it is never installed. With FAST=1 it is
+# optimized, and has no checks of addresses.
 try:
-	@python3 try.py
+	@python3 try.py $(if $(FAST),--fast)
 
 # The same for the program that is measured and records calls.
 bench-build:
