@@ -23,7 +23,8 @@ import style  # noqa: E402
 # The run that README.md, docs/BENCHMARKS.md and docs/tcp.svg show.
 RUN = "bench/results/2026-11-24-3394e2fc.json"
 # The workloads that README.md shows.
-SHOWN = ["get", "set", "get of 100 keys", "get, 32 deep", "set, 32 deep", "get of 10 KB", "set of 10 KB", "get of 1 MB", "set of 1 MB"]
+SHOWN = ["get", "set", "get of 100 keys", "get, 32 deep", "set, 32 deep",
+         *(f"{verb} of {size}" for size in ("10 KB", "100 KB", "1 MB", "8 MB") for verb in ("get", "set"))]
 REGION = re.compile(r"(<!-- made: ([^>]+?) -->\n)(.*?)(<!-- end -->)", re.S)
 # A link to a definition, whose line is kept right.
 PLACE = re.compile(r"\[`(\w+)`\]\(([^)#]+)#L\d+\)")
