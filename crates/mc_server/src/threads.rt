@@ -13,7 +13,6 @@ use mc_telemetry::{MetricsServer, Notice, Outlet, WorkerTally, write_lines};
 use mc_time::Clock;
 use mc_workers::{NoGate, Worker};
 use std::alloc::{AllocError, AllocGlobal};
-use std::fs::Files;
 use std::net::TcpListener;
 use std::sync::{Arc, Wait};
 use std::thread::{self, Builder, Scope, Threads};
@@ -32,7 +31,7 @@ pub fn serve<R, C>(
     clock: &C,
 ) -> Result<(), Wanting>
 where
-    R: AllocGlobal + Files + Wait + Threads + time::Clock + Sync,
+    R: AllocGlobal + Wait + Threads + time::Clock + Sync,
     C: Clock + Sync,
 {
     thread::scope(
@@ -66,7 +65,7 @@ fn start_all<'s, 'a: 's, 'b: 's, 'c: 's, 'd: 's, 'e: 's, E, R, C>(
     clock: &'e C,
 ) -> Result<(), Wanting>
 where
-    R: AllocGlobal + Files + Wait + Threads + time::Clock + Sync,
+    R: AllocGlobal + Wait + Threads + time::Clock + Sync,
     C: Clock + Sync,
 {
     let ThreadPlan {
@@ -143,7 +142,7 @@ fn start_metrics<'s, 'a: 's, 'c: 's, 'd: 's, E, R>(
     common: &'d Common,
 ) -> Result<(), Wanting>
 where
-    R: AllocGlobal + Files + Wait + Threads + time::Clock + Sync,
+    R: AllocGlobal + Wait + Threads + time::Clock + Sync,
 {
     let Some(server) = server else {
         return Ok(());
@@ -223,7 +222,7 @@ fn run_worker<R: AllocGlobal + Wait + time::Clock, C: Clock>(
 }
 
 /// Answers scrapes until the server ends.
-fn answer_scrapes<R: AllocGlobal + Files + Wait + time::Clock>(
+fn answer_scrapes<R: AllocGlobal + Wait + time::Clock>(
     rt: &R,
     server: MetricsServer,
     client: StoreClient<'_>,

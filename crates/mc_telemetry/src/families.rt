@@ -4,7 +4,7 @@
 use Counted as C;
 use Figure::{Closed, Count};
 use Kind::{Counter, Gauge};
-use Samples::{Each, Hundredths, One, Process, Refused, Slabs};
+use Samples::{Each, One, Process, Refused, Slabs};
 use mc_metrics::{Counted, Family, Figure, Kind, ProcessFigure, Samples, SlabFigure};
 use mc_sockets::Parting;
 
@@ -72,7 +72,7 @@ const REASONS: &[(&str, Figure)] = &[
 ];
 
 /// The metrics of a page, in this order.
-pub const FAMILIES: [Family; 37] = [
+pub const FAMILIES: [Family; 33] = [
     Family(
         Gauge,
         "memcached_up",
@@ -261,33 +261,9 @@ pub const FAMILIES: [Family; 37] = [
     ),
     Family(
         Gauge,
-        "process_resident_memory_bytes",
-        "Resident memory of the process in bytes.",
-        Process(ProcessFigure::Resident),
-    ),
-    Family(
-        Gauge,
-        "process_virtual_memory_bytes",
-        "Virtual memory of the process in bytes.",
-        Process(ProcessFigure::VirtualSize),
-    ),
-    Family(
-        Counter,
-        "process_cpu_seconds_total",
-        "User and system CPU time of the process in seconds.",
-        Hundredths(ProcessFigure::Cpu),
-    ),
-    Family(
-        Gauge,
         "process_start_time_seconds",
         "Start of the process in seconds since 1970.",
         Process(ProcessFigure::Started),
-    ),
-    Family(
-        Gauge,
-        "process_open_fds",
-        "Open file descriptors of the process.",
-        Process(ProcessFigure::OpenFds),
     ),
     Family(
         Gauge,

@@ -7,8 +7,9 @@
 //!
 //! A worker counts its steps by a [`WorkerTally`] (`tally.rt`), each by the counter [`counted_as`]
 //! returns (`counting.rt`). For a scrape an [`Observer`] reads the counters, the connections and
-//! the store (`observer.rt`), the figures of the process (`process.rt`), the table of families lists what is printed (`families.rt`), and a
-//! [`MetricsServer`] answers over HTTP (`scrape.rt`). [`write_lines`] writes to standard error in a
+//! the store (`observer.rt`), the table of families lists what is printed (`families.rt`), and a
+//! [`MetricsServer`] answers over HTTP (`scrape.rt`). When the process began is read at its start
+//! (`process.rt`). [`write_lines`] writes to standard error in a
 //! thread of its own (`logger.rt`): where the server listens, which connections open and close,
 //! and, once a minute, that the store is full (`full.rt`).
 //!

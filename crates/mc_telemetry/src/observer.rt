@@ -1,12 +1,10 @@
 //! Reads the values of one scrape.
 
-use crate::process::read_process;
 use crate::stats::StoreStats;
 use mc_metrics::{COUNTED, Counts, ProcessReading, REFUSED, Reading, RefusedReading, SlabReading};
 use mc_slab::class_of;
 use mc_sockets::{Crowd, PARTINGS};
-use std::alloc::{AllocError, AllocGlobal, Global};
-use std::fs::Files;
+use std::alloc::{AllocError, Global};
 use std::sync::{Arc, Wait};
 use std::time::{Clock, Instant};
 
@@ -36,7 +34,7 @@ pub struct Observer {
 impl Observer {
     /// Returns all values of one scrape. The store's shelves are held one after another, and then
     /// what they share for each class of chunks. The one error is a refused allocation.
-    pub fn read<R: AllocGlobal + Files + Wait + Clock, S: StoreStats>(
+    pub fn read<R: Wait + Clock, S: StoreStats>(
         &self,
         rt: &R,
         alloc: Global,
@@ -59,7 +57,7 @@ impl Observer {
             process: ProcessReading {
                 started: self.started,
                 most_fds: self.most_fds,
-                ..read_process(rt)
+                ..ProcessReading::NONE
             },
         })
     }

@@ -9,7 +9,6 @@ use mc_metrics::{Answer, Reply, page_of, response};
 use mc_sockets::Arrivals;
 use mio::net::TcpStream;
 use std::alloc::{AllocError, AllocGlobal, Global};
-use std::fs::Files;
 use std::net::SocketAddr;
 use std::sync::Wait;
 use std::time::{Clock, Duration};
@@ -46,7 +45,7 @@ impl MetricsServer {
     /// client that sends nothing, or reads nothing, keeps no other one waiting: its connection is
     /// closed after 2 seconds for its request and 2 for its answer, or sooner if 64 newer ones are
     /// open.
-    pub fn answer_all<R: AllocGlobal + Files + Wait + Clock, S: StoreStats>(
+    pub fn answer_all<R: AllocGlobal + Wait + Clock, S: StoreStats>(
         &mut self,
         rt: &R,
         arrivals: &Arrivals,
@@ -100,7 +99,7 @@ impl MetricsServer {
 
     /// Lets each exchange go on, and closes those that are over. Returns whether one may go on at
     /// once.
-    fn go_on_all<R: AllocGlobal + Files + Wait + Clock, S: StoreStats>(
+    fn go_on_all<R: AllocGlobal + Wait + Clock, S: StoreStats>(
         &mut self,
         rt: &R,
         arrivals: &Arrivals,
@@ -126,7 +125,7 @@ impl MetricsServer {
 }
 
 /// Lets an exchange go on, and answers its request if that is due. Returns what is due then.
-fn go_on<R: AllocGlobal + Files + Wait + Clock, S: StoreStats>(
+fn go_on<R: AllocGlobal + Wait + Clock, S: StoreStats>(
     rt: &R,
     exchange: &mut Exchange,
     observer: &Observer,
@@ -153,7 +152,7 @@ fn stopped_by(arrivals: &Arrivals, reply: Reply) -> Reply {
 }
 
 /// Returns the text of a reply. The one error is a refused allocation.
-fn text_of<R: AllocGlobal + Files + Wait + Clock, S: StoreStats>(
+fn text_of<R: AllocGlobal + Wait + Clock, S: StoreStats>(
     rt: &R,
     reply: Reply,
     observer: &Observer,
