@@ -2,14 +2,20 @@
 
 All print as they go. The last line adds up what was counted: `N passed, N failed`. The status is 0 only where something passed in each
 stage, nothing failed and all ended well.
+
+`rt ci` tries each edit of must-fail/ alone, which costs the proof of its crate. A toolchain that keeps what it proved does so once. With one
+that keeps nothing the edits are set aside in out/must-fail/ while `rt ci` runs, and judged with the wrong bodies, by one check a crate.
 """
+import contextlib
 import os
 import re
+import shutil
+import signal
 import subprocess
 import sys
 
 from tests.__main__ import run
-from tests.lib import settings
+from tests.lib import kit, settings
 
 # Which tests run on which program, and what builds that.
 STAGES = [
@@ -42,6 +48,36 @@ def command(name, words):
     return passed, failed or int(bool(status) or not passed)
 
 
+def keeps():
+    """Whether the toolchain keeps what `rt ci` proved."""
+    try:
+        return kit.toolchain().keeps
+    except kit.Stopped:
+        return True
+
+
+@contextlib.contextmanager
+def edits_aside(is_wanted):
+    """Sets the crates' folders must-fail/ aside for a while."""
+    aside = "out/must-fail"
+    put_back(aside)
+    try:
+        for crate in os.listdir("crates") if is_wanted else []:
+            if os.path.isdir(f"crates/{crate}/must-fail"):
+                os.makedirs(aside, exist_ok=True)
+                shutil.move(f"crates/{crate}/must-fail", f"{aside}/{crate}")
+        yield
+    finally:
+        put_back(aside)
+
+
+def put_back(aside):
+    """Puts back what was set aside, here or by a run that was killed."""
+    for crate in os.listdir(aside) if os.path.isdir(aside) else []:
+        if not os.path.exists(f"crates/{crate}/must-fail"):
+            shutil.move(f"{aside}/{crate}", f"crates/{crate}/must-fail")
+
+
 def tests(kind):
     """Runs the tests of a kind, and gives their counts."""
     print(f"== {kind}: python3 -m tests {kind}", flush=True)
@@ -65,12 +101,16 @@ def main():
     # else `rt ci` lets large checks wait for memory that they don't use (CONTRIBUTING.md)
     os.environ.setdefault("RT_JOBS", str(len(os.sched_getaffinity(0))))
     before = {program: written(program) for _, program, _ in STAGES}
-    counts = [command("gate", ["rt", "ci"])]
+    # as Ctrl-C does, so that what is set aside is put back
+    signal.signal(signal.SIGTERM, lambda *_: sys.exit(143))
+    are_kept = keeps()
+    with edits_aside(not are_kept):
+        counts = [command("gate", ["rt", "ci"])]
     if counts[0][1]:
         print("wrong bodies: not judged, as they stand over what the gate proves", flush=True)
         counts.append((0, 1))
     else:
-        counts.append(command("wrong bodies", [sys.executable, "-m", "tests.wrong"]))
+        counts.append(command("wrong bodies", [sys.executable, "-m", "tests.wrong", "--left", *["--edits"] * (not are_kept)]))
     counts.append(command("documents", [sys.executable, "docs/make.py", "--check"]))
     for kind, program, build in STAGES:
         # The gate leaves the programs that it proved and ran, so nothing is proved a second time for these.

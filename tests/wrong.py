@@ -1,13 +1,16 @@
-"""Judges the wrong bodies of the crates: `python3 -m tests.wrong [CRATE..] [--only NAME] [--anew]`
+"""Judges the wrong bodies of the crates: `python3 -m tests.wrong [CRATE..] [--only NAME] [--anew] [--left] [--edits]`
 
 Each crate's wrong bodies (`crates/NAME/wrong/`) are planted at once in a copy of its sources, and one check must refuse each one's function for
 a reason of its own (lib/bodies.py). Bodies that change the same function have a further check, and one that changes more than bodies of
 functions has one of its own. Each begins with the work of the one before. What was refused is kept beside the toolchain by the sums of all
-that it rests on, and is not judged again; --anew judges all. --only judges one alone. With a crate's name each reason is printed. The
+that it rests on, and is not judged again; --anew judges all. --only judges one alone. --left takes the libraries that a run of `rt ci` over
+the same sources has just left in the crates' folders, where the toolchain keeps none. --edits judges the edits of `crates/NAME/must-fail/`
+too; one that isn't refused so is tried as `rt must-fail` tries it. With a crate's name each reason is printed. The
 environment may name JOBS, how many checks run side by side: as many as there are processors, where it doesn't. The last line is
 `N passed, N failed`; the status is 0 where something passed and nothing failed.
 """
 import argparse
+import dataclasses
 import glob
 import os
 import queue
@@ -45,12 +48,22 @@ class Crate:
             try:
                 if name == file:
                     raise bodies.Unplanted("the name of a wrong body ends in .edit")
-                found.append(bodies.read(f"{folder}/{file}"))
-                self.sources.cuts(found[-1])
+                body = bodies.read(f"{folder}/{file}")
+                self.sources.cuts(body)
+                found.append(body)
             except bodies.Unplanted as error:
-                found = [it for it in found if it.name != name]
                 self.failed[name] = str(error)
         return found
+
+    def read_edits(self, folder, only):
+        """The edits of must-fail/, whose names begin with its name. One that can't be planted beside others has no changes."""
+        failed, self.failed = self.failed, {}
+        found = self.read(folder, only)
+        for name in self.failed:
+            with open(f"{folder}/{name}.edit", "rb") as it:
+                found.append(bodies.Body(name, "", (), it.read()))
+        self.failed = failed
+        return [dataclasses.replace(it, name=f"{os.path.basename(folder)}/{it.name}") for it in found]
 
 
 class Run:
@@ -99,6 +112,9 @@ class Run:
 
     def judge(self, crate, found, begin, keep):
         """Judges bodies by one check. What it can't say of each goes into further checks."""
+        if not found[0].changes:
+            self.give_up(crate, found[0], "it can't be planted", begin)
+            return
         names = dict.fromkeys(f"{crate.name}::{it.function}" for it in found)
         flags = [word for it in names for word in ("--only", it)]
         status, output = self.copy.check(crate.name, crate.sources.planted(found), [*flags, "--jobs", str(self.each)], begin, keep)
@@ -115,7 +131,7 @@ class Run:
                 if part:
                     self.add(crate, part, begin)
         else:
-            self.fail(crate, found[0], bodies.complaint(status, output))
+            self.give_up(crate, found[0], bodies.complaint(status, output), keep)
 
     def part(self, crate, found, said, begin, keep):
         """Notes which bodies a check refuses. What isn't refused beside others is tried alone, and then from nothing."""
@@ -125,10 +141,21 @@ class Run:
                 self.results.keep(crate.name, body, why)
                 with self.turn:
                     crate.refused[body.name] = why
-            elif is_refused is not None and (len(found) > 1 or begin):
+            elif is_refused is not None and (len(found) > 1 or begin and not is_edit(body)):
                 self.add(crate, [body], keep if len(found) > 1 else None)
             else:
-                self.fail(crate, body, why)
+                self.give_up(crate, body, why, keep)
+
+    def give_up(self, crate, body, why, begin):
+        """Fails a wrong body, unless it is an edit of must-fail/ that the toolchain's own rule finds refused."""
+        if is_edit(body):
+            is_refused, why = self.copy.tries_edit(crate.name, body.name, begin, tempfile.mkdtemp(dir=self.room))
+            if is_refused:
+                self.results.keep(crate.name, body, why)
+                with self.turn:
+                    crate.refused[body.name] = why
+                return
+        self.fail(crate, body, why)
 
     def fail(self, crate, body, why):
         with self.turn:
@@ -152,6 +179,8 @@ class Run:
         for name in names:
             crate = Crate(name, self.copy)
             found = crate.read(f"{self.copy.root}/crates/{name}/wrong", self.given.only)
+            if self.given.edits:
+                found += crate.read_edits(f"{self.copy.root}/crates/{name}/must-fail", self.given.only)
             for body in [] if self.given.anew or self.given.only else found:
                 why = self.results.find(name, body)
                 if why is not None:
@@ -161,7 +190,7 @@ class Run:
             if found or crate.refused or crate.failed:
                 self.crates.append(crate)
             wanted.append((crate, found))
-        self.copy.bring_libraries([crate.name for crate, found in wanted if found], self.given.jobs)
+        self.copy.bring_libraries([crate.name for crate, found in wanted if found], self.given.jobs, self.given.left)
         for crate, found in wanted:
             first, *crate.later = crate.sources.rounds(found) or [None]
             if first:
@@ -170,6 +199,10 @@ class Run:
         for crate in self.crates:
             if not crate.left:
                 self.tell(crate)
+
+
+def is_edit(body):
+    return "/" in body.name
 
 
 def halves(found):
@@ -182,6 +215,8 @@ def main(words, root=ROOT):
     parser.add_argument("crates", nargs="*", metavar="CRATE")
     parser.add_argument("--only", metavar="NAME")
     parser.add_argument("--anew", action="store_true")
+    parser.add_argument("--left", action="store_true")
+    parser.add_argument("--edits", action="store_true")
     given = parser.parse_args(words)
     if threading.current_thread() is threading.main_thread():
         # as Ctrl-C does, so that no folder stays

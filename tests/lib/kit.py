@@ -1,12 +1,14 @@
 """What the toolchain's command `rt` knows of the crates: their libraries, and what it keeps beside the toolchain.
 
-`rt` is a Python program. This takes from it, by name: how it reads crates.txt, the sums by which it keeps what it proved, the libraries that
-`rt ci` kept, and the check of a crate with other texts by which it tries must-fail edits. With a toolchain that hasn't these names it stops.
+`rt` is a Python program. This takes from it, by name: how it reads crates.txt, the check of a crate with other texts by which it tries
+must-fail edits, and, if it keeps what `rt ci` proved, the sums and libraries of that. A toolchain that keeps nothing leaves the libraries
+of `rt ci` in the crates' folders. With a toolchain that hasn't these names it stops.
 """
 import contextlib
 import hashlib
 import importlib.machinery
 import importlib.util
+import inspect
 import json
 import os
 import shutil
@@ -14,7 +16,9 @@ import signal
 import subprocess
 import tempfile
 
-NAMES = ["Crate", "Kept", "STORE", "checked", "crates_of", "handles_of", "linked", "link_or_copy", "rtlib", "stamp_of", "work_for"]
+NAMES = ["Crate", "checked", "crates_of", "handles_of", "must_fail", "rtlib"]
+# The names of a toolchain that keeps what `rt ci` proved.
+KEEPING = ["Kept", "STORE", "stamp_of", "work_for"]
 PARTS = ("src", "specs", "proofs", "c")
 
 
@@ -30,10 +34,20 @@ def toolchain():
     loader = importlib.machinery.SourceFileLoader("rt", os.path.realpath(path))
     made = importlib.util.module_from_spec(importlib.util.spec_from_loader("rt", loader))
     loader.exec_module(made)
-    lacking = [it for it in NAMES if not hasattr(made, it)]
+    made.keeps = hasattr(made, KEEPING[0])
+    lacking = [it for it in NAMES + KEEPING * made.keeps if not hasattr(made, it)]
     if lacking:
         raise Stopped(f"this toolchain's rt has no {', '.join(lacking)}: tests/lib/kit.py was written for another")
     return made
+
+
+def link_or_copy(one, other):
+    """Links a file of a library or of a proof, which `rt` replaces and doesn't write into, and copies any other."""
+    if one.endswith(".oantt") or "/out/rlib/" in one:
+        with contextlib.suppress(OSError):
+            os.link(one, other)
+            return
+    shutil.copy2(one, other)
 
 
 class Copy:
@@ -51,27 +65,26 @@ class Copy:
         os.mkdir(f"{folder}/.git")
         try:
             self.rt.Crate.allowed = self.rt.handles_of(folder)
-            self.crates = {it.name: it for it in self.rt.crates_of(folder)}
+            # the second folder is for what earlier runs left, and a copy has none of it
+            folders = inspect.signature(self.rt.crates_of).parameters
+            self.crates = {it.name: it for it in self.rt.crates_of(*[folder] * len(folders))}
         except SystemExit:
             raise Stopped("rt can't read the crates, as it says above") from None
         # what it starts ends with this process; its first call wants the main thread
         self.rt.rtlib.guarded()
         self.stamps = {}
+        # whether the libraries are those that `rt ci` left, over which no check kept work
+        self.has_left = False
 
     def lines(self, name):
         """How long a crate is."""
         crate = self.crates[name]
         return sum(self.rt.rtlib.text_of(it).count("\n") for it in self.rt.rtlib.files_of(crate.folder))
 
-    def bring_libraries(self, names, jobs):
-        """Brings the libraries below these crates: those that `rt ci` kept, or else what `rt lib` builds here."""
+    def bring_libraries(self, names, jobs, left=False):
+        """Brings the libraries below these crates: those that `rt ci` kept, or `left` in the crates' folders, or else what `rt lib` builds."""
         wanted = [it for it in self.crates.values() if any(it in self.crates[name].below() for name in names)]
-        kept = self.rt.Kept(list(self.crates.values()))
-        for crate in wanted:
-            if not kept.give(crate, False, kept.key(crate)):
-                break
-            kept.is_built(crate)
-        else:
+        if self.takes_kept(wanted) or left and self.takes_left(wanted):
             return
         for crate in wanted:
             shutil.rmtree(f"{crate.folder}/out", ignore_errors=True)
@@ -79,17 +92,38 @@ class Copy:
             ran = subprocess.run(["rt", "lib", "--jobs", str(jobs)], cwd=built, stdin=subprocess.DEVNULL, capture_output=True, text=True, errors="replace")
             if ran.returncode:
                 raise Stopped(f"{crate.name} is not proved, and stands below what is judged: {ran.stdout[-600:]}{ran.stderr[-300:]}")
-            shutil.copytree(f"{built}/out/rlib", f"{crate.folder}/out/rlib", copy_function=self.rt.link_or_copy)
+            shutil.copytree(f"{built}/out/rlib", f"{crate.folder}/out/rlib", copy_function=link_or_copy)
             if self.rt.rtlib.text_of(f"{crate.folder}/out/rlib/stamp") != crate.stamp():
                 raise Stopped(f"{crate.name} changed while it was built: run this again")
+
+    def takes_kept(self, wanted):
+        """Takes the libraries that `rt ci` kept beside the toolchain, and returns whether all were there."""
+        if not self.rt.keeps:
+            return False
+        kept = self.rt.Kept(list(self.crates.values()))
+        for crate in wanted:
+            if not kept.give(crate, False, kept.key(crate)):
+                return False
+            kept.is_built(crate)
+        return True
+
+    def takes_left(self, wanted):
+        """Takes the libraries that `rt ci` left in the crates' folders, and returns whether all were there.
+
+        They fit one another only, and `rt ci` doesn't stamp them; stamped ones are of other runs.
+        """
+        folders = [f"{self.root}/crates/{it.name}/out/rlib" for it in wanted]
+        if not all(os.path.isdir(it) and os.listdir(it) and not os.path.exists(f"{it}/stamp") for it in folders):
+            return False
+        for crate, folder in zip(wanted, folders):
+            shutil.copytree(folder, f"{crate.folder}/out/rlib", copy_function=link_or_copy)
+        self.has_left = True
+        return True
 
     def check(self, name, texts, flags, begin, keep):
         """Checks a crate with these texts in place of its own, and gives the status and the output. What it proves is kept in the folder `keep`,
         which begins with what the folder `begin` holds, if there is one."""
-        if begin:
-            with contextlib.suppress(OSError, shutil.Error):
-                self.rt.linked(begin, keep)
-        os.makedirs(keep, exist_ok=True)
+        self.begin_with(begin, keep)
         for _time in range(2):
             ran = self.rt.checked(self.crates[name], texts, flags, keep)
             # most likely for memory
@@ -97,20 +131,40 @@ class Copy:
                 break
         return ran.returncode, ran.stdout
 
+    def begin_with(self, begin, keep):
+        """Makes a folder for what a check keeps, with what another folder holds, if there is one."""
+        if begin:
+            with contextlib.suppress(OSError, shutil.Error):
+                shutil.copytree(begin, keep, copy_function=link_or_copy, dirs_exist_ok=True)
+        os.makedirs(keep, exist_ok=True)
+
+    def tries_edit(self, name, edit, begin, keep):
+        """Whether the toolchain's own rule finds an edit of must-fail/ refused, and what it says."""
+        self.begin_with(begin, keep)
+        return self.rt.must_fail(self.crates[name], f"{self.root}/crates/{name}/{edit}.edit", ["--jobs", "1"], keep)
+
     def work(self, name):
         """The folder of what earlier checks of a crate kept, which a check may begin with, or None."""
-        return self.rt.work_for(self.crates[name])
+        if self.rt.keeps:
+            return self.rt.work_for(self.crates[name])
+        kept = f"{self.root}/crates/{name}/out/incremental"
+        return kept if not self.has_left and os.path.isdir(kept) and os.listdir(kept) else None
 
     def sum(self, name):
         """A sum of all that a verdict on a crate rests on: the toolchain, its line of crates.txt, and its files and those below."""
-        return self.rt.stamp_of(self.crates[name], self.stamps)
+        if self.rt.keeps:
+            return self.rt.stamp_of(self.crates[name], self.stamps)
+        if name not in self.stamps:
+            self.stamps[name] = self.crates[name].stamp()
+        return self.stamps[name]
 
 
 class Results:
-    """What was judged on this machine, beside what `rt ci` keeps, by the sums of all that it rests on."""
+    """What was judged on this machine, by the sums of all that it rests on: beside what `rt ci` keeps, or in a cache if it keeps nothing."""
 
     def __init__(self, copy):
-        self.copy, self.folder = copy, f"{copy.rt.STORE}/wrong"
+        cache = os.environ.get("XDG_CACHE_HOME") or os.path.expanduser("~/.cache")
+        self.copy, self.folder = copy, f"{copy.rt.STORE if copy.rt.keeps else cache + '/mcserver'}/wrong"
         with open(os.path.join(os.path.dirname(os.path.realpath(__file__)), "bodies.py"), "rb") as file:
             self.judge = hashlib.sha256(file.read()).hexdigest()
 

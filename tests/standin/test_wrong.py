@@ -5,10 +5,13 @@ They are of a small crate of its own, which the toolchain checks. (No part of th
 import contextlib
 import io
 import os
+import subprocess
 import tempfile
 import unittest
+from unittest import mock
 
 from tests import wrong
+from tests.lib import kit
 
 CODE = """#![tactic(auto)]
 //! Small sums.
@@ -46,6 +49,21 @@ pub fn behind_next(number: u32) -> u32
 {
     let behind = next(number);
     next(behind)
+}
+"""
+ABOVE = """#![tactic(auto)]
+//! Sums of sums.
+
+ghost use Rattle.std.specs.Prelude.{◌≡◌, ◌+◌, ◌<◌};
+
+use mc_sums::next;
+
+/// Returns the number behind the one behind another.
+pub fn next_but_one(number: u32) -> u32
+    requires { number < 900 }
+    ensures { result ≡ number + 1 + 1 }
+{
+    next(number + 1)
 }
 """
 # Each wrong body: the function that it names, what it changes, and what must be said of it.
@@ -89,3 +107,33 @@ class WrongBodies(unittest.TestCase):
     def test_wrong_ones_alone_pass(self):
         status, lines = self.judged(["one_too_many"])
         self.assertEqual(("1 passed, 0 failed", 0), (lines[-1], status), lines)
+
+    def test_what_the_gate_left_is_taken(self):
+        with tempfile.TemporaryDirectory() as folder, contextlib.redirect_stdout(io.StringIO()) as said:
+            self.repository(folder, ["one_too_many"])
+            self.put_above(folder)
+            ran = subprocess.run(["rt", "ci"], cwd=folder, stdin=subprocess.DEVNULL, capture_output=True, text=True)
+            self.assertIn("2 passed, 0 failed", ran.stdout.splitlines()[-1:], ran.stdout)
+            with mock.patch.object(kit.subprocess, "run", self.but_no_library(kit.subprocess.run)):
+                status = wrong.main(["mc_doubles", "mc_sums", "--anew", "--left"], folder)
+        lines = said.getvalue().splitlines()
+        self.assertEqual(("2 passed, 0 failed", 0), (lines[-1], status), lines)
+
+    def put_above(self, folder):
+        """Adds a crate with a wrong body above the first one."""
+        os.makedirs(f"{folder}/crates/mc_doubles/src")
+        os.mkdir(f"{folder}/crates/mc_doubles/wrong")
+        os.mkdir(f"{folder}/.git")
+        edit = "function: next_but_one\nfile: src/lib.rt\nold:     next(number + 1)\nnew:     next(number)\n"
+        for file, text in {"crates.txt": "mc_sums:\nmc_doubles: mc_sums\n", "crates/mc_doubles/src/lib.rt": ABOVE, "crates/mc_doubles/wrong/one_too_few.edit": edit}.items():
+            with open(f"{folder}/{file}", "w", encoding="utf-8") as it:
+                it.write(text)
+
+    def but_no_library(self, run):
+        """A call of commands that builds no library."""
+
+        def call(words, **how):
+            self.assertNotEqual(["rt", "lib"], list(words[:2]))
+            return run(words, **how)
+
+        return call
