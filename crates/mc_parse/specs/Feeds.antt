@@ -65,6 +65,10 @@ HasUnit u len = (unit : ProtocolUnit) × IsSpelled u.greatest (unit, len) u.byte
 abbrev pub ReadsUnit : Unread → (len : ℕ) → Unread → Type 0
 ReadsUnit old len new = (unit : ProtocolUnit) → IsSpelled old.greatest (unit, len) old.bytes → new ≡ read old len (passed_after unit)
 
+-- the memory that an empty feed keeps, in bytes
+abbrev pub kept_in_feed : ℕ
+kept_in_feed = 65536
+
 -- What a feed keeps beside its bytes: none is unread while some are to be skipped; the cursor and
 -- what is known of the front are right.
 pub record IsKept (greatest passed : ℕ) (cursor : Option Cursor) (ahead : Ahead) (bytes : List ℕ) : Type 0 where

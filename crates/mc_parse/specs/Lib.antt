@@ -7,5 +7,3 @@ pub mod Feeds
 pub mod Cursors
 pub mod Notes
 pub mod Aheads
-pub mod Queues
-pub mod Sources

@@ -7,8 +7,7 @@
 use crate::ahead::Ahead;
 use crate::cursor::{Cursor, cursor_after};
 use crate::peek::Peek;
-use crate::queue::Queue;
-use crate::source::Source;
+use mc_bytes::{Queue, Source};
 use mc_protocol::LineFault;
 use std::alloc::{AllocError, Global};
 use std::marker::Model;
@@ -34,19 +33,19 @@ impl Model for Feed {
 
     ghost Value = { Unread };
 
-    ghost view = { λ f. record { greatest = f.greatest; passed = f.passed; bytes = f.unread } };
+    ghost view = { λ f. record { greatest = f.greatest; passed = f.passed; bytes = f.unread.bytes } };
 
-    ghost invariant = { λ f. IsKept f.greatest f.passed f.cursor f.ahead f.unread };
+    ghost invariant = { λ f. IsKept f.greatest f.passed f.cursor f.ahead f.unread.bytes };
 }
 
 impl Feed {
-    ghost use Rattle.std.specs.Prelude.{◌≡◌, ◌≤◌, ◌<◌, ◌*◌, [], length, IfSome, OnOk, OnErr, IfOk};
-    ghost use Rattle.mc_parse.specs.Sources.{Brings};
+    ghost use Rattle.std.specs.Prelude.{◌≡◌, ◌≤◌, ◌<◌, [], length, IfSome, OnOk, OnErr, IfOk};
+    ghost use Rattle.mc_bytes.specs.Sources.{Brings};
     ghost use Rattle.mc_parse.specs.Peeks.{unit_of, FindsShortKeys, StaysWhole};
     ghost use Rattle.mc_parse.specs.Cursors.{IsCursor};
     ghost use Rattle.mc_parse.specs.Feeds.{pushed, read, TakesPiece, IsSettled, HasNoUnit, HasUnit, ReadsUnit};
-    ghost use Rattle.mc_parse.specs.Feeds.{Finds, FindsAny, FindsLeft, FindsAnyLeft};
-    ghost use Rattle.mc_parse.specs.Queues.{first_piece, kept_in_feed};
+    ghost use Rattle.mc_parse.specs.Feeds.{Finds, FindsAny, FindsLeft, FindsAnyLeft, kept_in_feed};
+    ghost use Rattle.mc_bytes.specs.Queues.{first_piece};
 
     /// Makes an empty feed whose storage commands may charge at most `greatest` bytes.
     ///
@@ -197,11 +196,10 @@ impl Feed {
         self.unread.len()
     }
 
-    /// Returns how many bytes of memory are filled: the unread bytes, and at most as many read
-    /// ones.
+    /// Returns how many bytes of memory are filled: the unread bytes, and read ones before them.
     pub fn filled_bytes(&self) -> usize
         ensures least { length self.now.bytes ≤ result }
-        ensures most { result ≤ 2 * length self.now.bytes }
+        ensures empty { self.now.bytes ≡ [] → result ≡ 0 }
         ensures passing { 0 < self.now.passed → result ≡ 0 }
     {
         self.unread.filled_bytes()

@@ -9,17 +9,17 @@
 //! ([`Span`], [`KeySpan`]) and a length for its block ([`line_of`]; the names are one table,
 //! [`NAMES`]). [`lend`] makes the command of `mc_protocol` from it and the bytes. A [`Peek`] is
 //! what bytes begin with ([`peek_at`]). A [`Feed`] has a stream's unread bytes, with what is known
-//! of their front. Pieces are pushed, or read by a [`Source`] into the room where they will stay.
-//! `peek` lends the first unit, and `skip_unit` skips it. A feed stores its bytes in a [`Queue`],
-//! which sessions also use for output.
+//! of their front. Pieces are pushed, or read by a source into the room where they will stay.
+//! `peek` lends the first unit, and `done` skips it. A feed stores its bytes in a queue of
+//! `mc_bytes`.
 //!
 //! In definitions a unit is *spelled* by bytes, and a stream has a list of units
 //! (`specs/Units.antt`, `specs/Streams.antt`). Contracts promise that a peek finds exactly what a
 //! front of the unread bytes spells, and nothing exactly if no front spells anything. They promise
-//! that the meaning of a line is that of the grammar, or its first fault. They promise that the
-//! memory filled is at most twice the unread bytes, and that no skipped byte is held. The laws
-//! state that no spelling is the beginning of another, that a stream has one list of units, and
-//! that it makes no difference how a stream is cut into pieces.
+//! that the meaning of a line is that of the grammar, or its first fault. They promise that no
+//! skipped byte is held, and that a feed without unread bytes keeps at most 65536 bytes of memory.
+//! The laws state that no spelling is the beginning of another, that a stream has one list of
+//! units, and that it makes no difference how a stream is cut into pieces.
 //!
 //! Begin with `specs/Lines.antt` and `src/line.rt` for the grammar, `src/feed.rt` for the stream.
 //!
@@ -27,8 +27,6 @@
 #![tactic(auto)]
 
 mod ahead;
-mod append;
-mod buffer;
 mod cursor;
 mod exptime;
 mod feed;
@@ -38,10 +36,7 @@ mod line_laws;
 mod name;
 mod note;
 mod peek;
-mod queue;
-mod source;
 
-pub use append::Append;
 pub use feed::Feed;
 pub use laws::{
     a_spelling_has_a_byte, cutting_does_not_matter, no_spelling_begins_another, one_list_of_units,
@@ -52,5 +47,3 @@ pub use line_laws::{keys_of_a_line_are_keys, words_hold_no_space_or_feed};
 pub use name::{NAMES, Name};
 pub use note::{KeySpan, Noted, Span, lend};
 pub use peek::{Peek, peek_at};
-pub use queue::{FIRST_PIECE, Queue};
-pub use source::Source;

@@ -1,8 +1,9 @@
 -- The texts of replies.
 use Rattle.std.specs.Prelude.{ℕ, ◌+◌, ◌<◌, ◌==◌, Bool, true, false, List, [], ◌++◌, length, vec_capacity, codes, decimal, if◌then◌else◌, Option, Some, None, slice_get}
+use Rattle.std.specs.List.{concat}
 use Rattle.std.specs.declared.vec.Vec.{Vec}
 use Rattle.std.specs.declared.alloc.Global.{Global}
-use Rattle.mc_protocol.specs.Commands.{Shape, Single, Retrieval, Alone, shape, is_quiet}
+use Rattle.mc_protocol.specs.Commands.{Shape, Single, Retrieval, Alone, shape, steps, is_quiet}
 use Rattle.mc_protocol.specs.Commands.{Command}
 use Rattle.mc_protocol.specs.declared.lone.Lone.{Lone}
 use Rattle.mc_protocol.specs.declared.lone.Lone.TheVariants.{Version, Quit}
@@ -10,6 +11,8 @@ use Rattle.mc_protocol.specs.declared.reply.Reply.{Reply}
 use Rattle.mc_protocol.specs.declared.reply.Reply.TheVariants.{Stored, NotStored, Exists, NotFound, Miss, Hit, Touched, Deleted, Number, NotNumeric, TooLarge, NoChunk, Flushed}
 use Rattle.mc_protocol.specs.declared.fault.LineFault.{LineFault}
 use Rattle.mc_protocol.specs.declared.fault.LineFault.TheVariants.{Unknown, BadFormat, BadDelta, TooLarge as TooLargeLine, BadChunk}
+use Rattle.mc_reply.specs.declared.text.Text.{Text}
+use Rattle.mc_reply.specs.declared.text.Text.TheVariants.{First, Hit as FirstHit, Spent, Plain, Flaw, TooLong}
 
 -- a vector has no room for these bytes behind those that it holds
 abbrev pub HasNoRoom : Vec ℕ Global → List ℕ → Type 0
@@ -125,3 +128,22 @@ long_text = codes "CLIENT_ERROR line too long\r\n"
 abbrev pub spent_text : Command → List ℕ
 spent_text command = unless_quiet (is_quiet command)
     (codes "SERVER_ERROR out of unique numbers\r\n")
+
+-- the bytes of a text
+abbrev pub bytes_of : Text → List ℕ
+bytes_of (First command reply) = reply_text command.now 0 reply.now
+bytes_of (FirstHit command flags unique parts) =
+    reply_text command.now 0 (Hit flags unique (concat parts.now))
+bytes_of (Spent command) = spent_text command.now
+bytes_of (Plain command) = plain_text command.now
+bytes_of (Flaw fault) = fault_text fault
+bytes_of TooLong = long_text
+
+-- the command of a reply takes a step
+abbrev pub IsText : Text → Type 0
+IsText (First command reply) = 0 < length (steps command.now)
+IsText (FirstHit command flags unique parts) = 0 < length (steps command.now)
+IsText (Spent command) = Unit {0}
+IsText (Plain command) = Unit {0}
+IsText (Flaw fault) = Unit {0}
+IsText TooLong = Unit {0}

@@ -6,11 +6,12 @@
 //! their own, so that stores know replies but no texts, and so that the whole wording is one page
 //! of definitions, `specs/Texts.antt`.
 //!
-//! Each call appends one text to a vector. [`write`] appends that of a reply to a step of a
-//! command. [`write_hit`] appends that of a hit whose block is still in its chunks, so that it is
-//! copied once. The other calls append the texts of faults, of commands that are only a name, of
-//! lines that are too long, and of exhausted unique numbers. Each reserves the exact length once,
-//! before the first byte is written.
+//! A [`Text`] is the text of a turn, which appends itself to a session's output. Each call appends
+//! one text to a vector. [`write`] appends that of a reply to a step of a command. [`write_hit`]
+//! appends that of a hit whose block is still in its chunks, so that it is copied once. The other
+//! calls append the texts of faults, of commands that are only a name, of lines that are too long,
+//! and of exhausted unique numbers. Each reserves the exact length once, before the first byte is
+//! written.
 //!
 //! Contracts promise that exactly the text is appended, or the vector is unchanged, and that a call
 //! fails only if the vector has no room for the text.
@@ -22,6 +23,8 @@
 
 mod numbers;
 mod retrieval;
+mod text;
 mod texts;
 
+pub use text::Text;
 pub use texts::{write, write_fault, write_hit, write_plain, write_spent, write_too_long};

@@ -31,7 +31,7 @@ module _ {S : Type 0} (relations : Relations S) (may_give : ℕ → Type 0) (gre
   course_runs calls read written taken last after (takes_turn {calls = c} {taken = t} {session = s} {store = store} now course small gives takes) =
       turn now (course_runs c read written t s store course) gives (turn_written relations now s last store after written takes)
   course_runs calls read written taken last after (takes_none {calls = c} course small none) = course_runs c read written taken last after course
-  course_runs calls read written taken last after (piece_comes {read = r} {session = s} bytes course is_open none all_written) =
+  course_runs calls read written taken last after (piece_comes {read = r} {session = s} bytes short course is_open none all_written) =
       longer after r written bytes taken s (course_runs calls r written taken s after course)
   course_runs calls read written taken last after (part_goes {written = w} {session = s} part rest course parts) =
       subst (λ s. Run relations may_give (fed (opened greatest) read) before taken s after) (split_out s w part rest parts) (course_runs calls read w taken s after course)
@@ -43,5 +43,5 @@ module _ {S : Type 0} (relations : Relations S) (may_give : ℕ → Type 0) (gre
   course_counts calls read written taken last after (takes_turn {calls = c} {taken = t} {session = s} {store = store} now course small gives takes) =
       omega (arith, course_counts c read written t s store course, length-append t ((takes.unit, s.taken) ∷ []))
   course_counts calls read written taken last after (takes_none {calls = c} course small none) = omega (arith, course_counts c read written taken last after course)
-  course_counts calls read written taken last after (piece_comes {read = r} {session = s} bytes course is_open none all_written) = course_counts calls r written taken s after course
+  course_counts calls read written taken last after (piece_comes {read = r} {session = s} bytes short course is_open none all_written) = course_counts calls r written taken s after course
   course_counts calls read written taken last after (part_goes {written = w} {session = s} part rest course parts) = course_counts calls read w taken s after course

@@ -3,8 +3,7 @@ use Rattle.std.proofs.Common.{◌≡◌, ℕ, ◌+◌, ◌^◌, ◌<◌, ◌≤�
 use Rattle.std.specs.Io.KnownBytes.{Appends, Consumes, Keeps}
 use Rattle.std.proofs.KnownBytes.{Consumes-nil, Appends-nil, Consumes-trans, Appends-trans, Appends-kept}
 use Rattle.mc_session.specs.declared.endpoint.Endpoint.{Ghosts as Relations}
-use Rattle.mc_session.specs.declared.rounds.TheConstants.{WRITE_AT}
-use Rattle.mc_session.specs.Exchanges.{Scene, scene, nothing, front, Wrote, begins, turn, piece, write, Exchanges, no_turn, no_piece, FallsShort}
+use Rattle.mc_session.specs.Exchanges.{most_waiting, Scene, scene, nothing, front, Wrote, begins, turn, piece, write, Exchanges, no_turn, no_piece, FallsShort}
 use Rattle.mc_session.specs.Rounds.{Reads, read_piece, read_nothing, LosesPiece}
 
 -- known bytes that stay lose none
@@ -78,7 +77,7 @@ module _ {E S : Type 0} {relations : Relations E S} {may_give : ℕ → Type 0} 
 
   -- a turn
   pub then_turned : {most : ℕ} {first : Scene E S} {old new : E} {before after : S} {reader writer : Option (List ℕ)} (now : ℕ) → may_give now
-      → length (relations.waits old before) < WRITE_AT → relations.turns now old before new after
+      → length (relations.waits old before) < most_waiting → relations.turns now old before new after
       → Exchanges relations may_give most first (scene old before reader writer) → Exchanges relations may_give (most + 1) first (scene new after reader writer)
   then_turned now gives small turns so_far = record {
     turns = so_far.turns + 1;
@@ -94,12 +93,12 @@ module _ {E S : Type 0} {relations : Relations E S} {may_give : ℕ → Type 0} 
   pub then_read : {most : ℕ} {first : Scene E S} {old new : E} {before after : S} {a b writer : Option (List ℕ)} → relations.is_idle old before → relations.waits old before ≡ []
       → Reads relations old before a b new after → Exchanges relations may_give most first (scene old before a writer)
       → Exchanges relations may_give most first (scene new after b writer)
-  then_read {first = first} {a = a} {b = b} idle all_written (read_piece bytes consumes takes) so_far = record {
+  then_read {first = first} {a = a} {b = b} idle all_written (read_piece bytes short consumes takes) so_far = record {
     turns = so_far.turns;
     few = so_far.few;
     read = so_far.read ++ bytes;
     written = so_far.written;
-    exchange = piece bytes so_far.exchange idle all_written takes;
+    exchange = piece bytes short so_far.exchange idle all_written takes;
     consumes = Consumes-trans first.reader a b so_far.read bytes so_far.consumes consumes;
     appends = so_far.appends;
   }
@@ -115,7 +114,7 @@ module _ {E S : Type 0} {relations : Relations E S} {may_give : ℕ → Type 0} 
 
   -- a turn that memory ran out in
   pub short_turn : {most : ℕ} {first : Scene E S} {old new : E} {before after : S} {reader writer : Option (List ℕ)} (now : ℕ) → may_give now
-      → length (relations.waits old before) < WRITE_AT → relations.loses_turn now old before new after → most < 2 ^ 40
+      → length (relations.waits old before) < most_waiting → relations.loses_turn now old before new after → most < 2 ^ 40
       → Exchanges relations may_give most first (scene old before reader writer) → FallsShort relations may_give first (scene new after reader writer)
   short_turn {old = old} {before = before} {reader = reader} now gives small loses few so_far = record {
     last = old;
@@ -137,6 +136,6 @@ module _ {E S : Type 0} {relations : Relations E S} {may_give : ℕ → Type 0} 
     reader = a;
     lost = loses.piece;
     exchanges = at_most few so_far;
-    refusal = no_piece loses.piece loses.some idle loses.loses;
+    refusal = no_piece loses.piece loses.some loses.short idle loses.loses;
     consumes = loses.consumes;
   }

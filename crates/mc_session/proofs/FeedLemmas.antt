@@ -7,7 +7,7 @@ use Rattle.std.specs.Result.{OnOk, OnErr, IfOk}
 use Rattle.std.specs.Prelude.{Result, Ok, Err}
 use Rattle.mc_parse.specs.Units.{ProtocolUnit, Request, Fault, LongLine, Spells}
 use Rattle.mc_parse.specs.Feeds.{Unread, pushed, settled, TakesPiece}
-use Rattle.mc_parse.specs.Sources.{Brings}
+use Rattle.mc_bytes.specs.Sources.{Brings}
 use Rattle.mc_parse.specs.Peeks.{BeginsWithNone}
 use Rattle.mc_session.specs.Answers.{IsWithinUnit, at_start, inside}
 use Rattle.mc_session.specs.Turns.{SessionState, fed, FedPiece}

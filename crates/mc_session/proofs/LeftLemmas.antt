@@ -18,7 +18,7 @@ use Rattle.mc_session.specs.Turns.{Answers, AnswersStep, turn_count}
 use Rattle.mc_session.specs.Answers.{next_of}
 
 -- what is left has the next element first
-first_left : {X : Type 0} (xs : List X) (n : ℕ) → slice_get (drop n xs) 0 ≡ slice_get xs n
+pub first_left : {X : Type 0} (xs : List X) (n : ℕ) → slice_get (drop n xs) 0 ≡ slice_get xs n
 first_left [] zero = refl
 first_left [] (suc n) = refl
 first_left (x ∷ xs) zero = refl

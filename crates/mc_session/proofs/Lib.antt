@@ -6,3 +6,4 @@ pub mod CourseLemmas
 pub mod ExchangeLemmas
 pub mod ServeLemmas
 pub mod StreamLemmas
+pub mod KeyLemmas

@@ -44,9 +44,9 @@ module _ {S : Type 0} (relations : Relations S) (may_give : ℕ → Type 0) wher
   course_of (exchanges.turn now exchange small gives (inr (none, same, stays))) =
       let so_far = course_of exchange in
       (so_far.0, course_at same stays (serving.takes_none so_far.1 small none))
-  course_of (exchanges.piece bytes exchange (is_open, none) all_written (same, stays)) =
+  course_of (exchanges.piece bytes short exchange (is_open, none) all_written (same, stays)) =
       let so_far = course_of exchange in
-      (so_far.0, course_at same stays (serving.piece_comes bytes so_far.1 is_open none all_written))
+      (so_far.0, course_at same stays (serving.piece_comes bytes short so_far.1 is_open none all_written))
   course_of {last = last} (exchanges.write bytes exchange writes) =
       let so_far = course_of exchange in
       let (parts, kept, stays) = was_front writes in
@@ -57,8 +57,8 @@ module _ {S : Type 0} (relations : Relations S) (may_give : ℕ → Type 0) wher
       → Refusal (in_session relations) may_give calls old before new after lost → Refused relations may_give calls old lost before after
   refused few (exchanges.no_turn now one_more small gives (due, inl same)) = serving.no_turn one_more small due.0 due.1 same
   refused few (exchanges.no_turn now one_more small gives (due, inr decides)) = serving.no_text now one_more small gives decides
-  refused {calls = calls} {old = old} {before = before} {lost = lost} few (exchanges.no_piece bytes some (is_open, none) stays) =
-      subst (λ store. Refused relations may_give calls old lost before store) (sym stays) (serving.no_piece bytes few some is_open none)
+  refused {calls = calls} {old = old} {before = before} {lost = lost} few (exchanges.no_piece bytes some short (is_open, none) stays) =
+      subst (λ store. Refused relations may_give calls old lost before store) (sym stays) (serving.no_piece bytes few some short is_open none)
 
   -- how it ended
   at_end : (session : SessionState) (store : S) (reader : Option (List ℕ)) → HasEnded (in_session relations) session store reader → IsFalse session.is_open ⊎ (IsAtEnd reader × NoTurnDue session)

@@ -69,7 +69,7 @@ pub record IsNext (u : Unread) (taken : ℕ) (unit : ProtocolUnit) (len : ℕ) (
 abbrev pub FoundLeft : Unread → ℕ → Option (ProtocolUnit × ℕ) → Type 0
 FoundLeft u taken found = IfSome found (λ found. (u.passed ≡ 0) × IsLeft u.greatest taken found u.bytes)
 
-whole_parts : (u : Unread) (len : ℕ) → u.passed ≡ 0 → drop u.passed u.bytes ≡ take len u.bytes ++ drop len u.bytes
+pub whole_parts : (u : Unread) (len : ℕ) → u.passed ≡ 0 → drop u.passed u.bytes ≡ take len u.bytes ++ drop len u.bytes
 whole_parts u len none = rw none (sym (take-append-drop len u.bytes))
 
 pub next_found : (law : OneSpelling) (u : Unread) (taken : ℕ) (found : Option (ProtocolUnit × ℕ)) (unit : ProtocolUnit) (len : ℕ) → FoundLeft u taken found

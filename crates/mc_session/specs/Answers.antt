@@ -1,6 +1,5 @@
 -- One turn of the unit that was found.
 use Rattle.std.specs.Prelude.{◌≡◌, ℕ, ◌+◌, ◌^◌, ◌<◌, ◌≤◌, ◌==◌, List, ◌++◌, length, Option, Some, if◌then◌else◌, slice_get}
-use Rattle.std.specs.List.{concat}
 use Rattle.mc_protocol.specs.Commands.{steps}
 use Rattle.mc_protocol.specs.Commands.{Command}
 use Rattle.mc_protocol.specs.declared.step.KeyStep.{KeyStep}
@@ -11,30 +10,7 @@ use Rattle.mc_parse.specs.Streams.{is_last, passed_after}
 use Rattle.mc_parse.specs.Feeds.{Unread, read}
 use Rattle.mc_session.specs.declared.after_turn.AfterTurn.{AfterTurn}
 use Rattle.mc_session.specs.declared.after_turn.AfterTurn.TheVariants.{Step, Read, Close}
-use Rattle.mc_session.specs.declared.text.Text.{Text}
-use Rattle.mc_protocol.specs.declared.reply.Reply.TheVariants.{Hit as HitReply}
-use Rattle.mc_session.specs.declared.text.Text.TheVariants.{First, Hit, Spent, Plain, Flaw, TooLong}
-use Rattle.mc_reply.specs.Texts.{reply_text, plain_text, spent_text, fault_text, long_text}
 use Rattle.mc_session.specs.Turns.{SessionState, Answers, turn_count, closed, to_read}
-
--- the bytes of a text
-abbrev pub bytes_of : Text → List ℕ
-bytes_of (First command reply) = reply_text command.now 0 reply.now
-bytes_of (Hit command flags unique parts) =
-    reply_text command.now 0 (HitReply flags unique (concat parts.now))
-bytes_of (Spent command) = spent_text command.now
-bytes_of (Plain command) = plain_text command.now
-bytes_of (Flaw fault) = fault_text fault
-bytes_of TooLong = long_text
-
--- the command of a reply takes a step
-abbrev pub IsText : Text → Type 0
-IsText (First command reply) = 0 < length (steps command.now)
-IsText (Hit command flags unique parts) = 0 < length (steps command.now)
-IsText (Spent command) = Unit {0}
-IsText (Plain command) = Unit {0}
-IsText (Flaw fault) = Unit {0}
-IsText TooLong = Unit {0}
 
 -- what comes after turn `at` of a unit of `len` bytes
 abbrev pub next_of : ProtocolUnit → (at len : ℕ) → AfterTurn

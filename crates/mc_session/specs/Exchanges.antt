@@ -2,7 +2,14 @@
 use Rattle.std.specs.Prelude.{◌≡◌, ◌⊎◌, ℕ, ◌+◌, ◌^◌, ◌<◌, ◌≤◌, List, [], ◌++◌, length, take, Option}
 use Rattle.std.specs.Io.KnownBytes.{Appends, Consumes, IsAtEnd}
 use Rattle.mc_session.specs.declared.endpoint.Endpoint.{Ghosts as Relations}
-use Rattle.mc_session.specs.declared.rounds.TheConstants.{WRITE_AT}
+
+-- the most bytes that are read at once
+abbrev pub longest_piece : ℕ
+longest_piece = 16384
+
+-- a turn is taken only with less output than this, in bytes
+abbrev pub most_waiting : ℕ
+most_waiting = 65536
 
 -- an endpoint, its store, what is left to be read, and what was written
 pub record Scene (E S : Type 0) : Type 0 where
@@ -39,17 +46,18 @@ module _ {E S : Type 0} (relations : Relations E S) where
 module _ {E S : Type 0} (relations : Relations E S) (may_give : ℕ → Type 0) where
   -- What was done with an endpoint: the number of turns given, what was read and what was written.
   -- Each turn was given at a moment that the clock may give, with less than 64 KiB of output.
-  -- Pieces came only while no turn was due and no output was left.
+  -- Pieces of at most 16384 bytes came only while no turn was due and no output was left.
   pub data Exchange (first : E) (before : S) : (turns : ℕ) → (read written : List ℕ) → E → S
       → Type 0 where
     begins : Exchange first before 0 [] [] first before
     turn : {turns : ℕ} {read written : List ℕ} {mid last : E} {between after : S} (now : ℕ)
         → Exchange first before turns read written mid between
-        → length (relations.waits mid between) < WRITE_AT → may_give now
+        → length (relations.waits mid between) < most_waiting → may_give now
         → relations.turns now mid between last after
         → Exchange first before (turns + 1) read written last after
     piece : {turns : ℕ} {read written : List ℕ} {mid last : E} {between after : S}
-        (bytes : List ℕ) → Exchange first before turns read written mid between
+        (bytes : List ℕ) → length bytes ≤ longest_piece
+        → Exchange first before turns read written mid between
         → relations.is_idle mid between → relations.waits mid between ≡ []
         → relations.takes bytes mid between last after
         → Exchange first before turns (read ++ bytes) written last after
@@ -74,10 +82,11 @@ module _ {E S : Type 0} (relations : Relations E S) (may_give : ℕ → Type 0) 
   -- it; at most 2^40 turns are given, with the refused one.
   pub data Refusal (turns : ℕ) (old : E) (before : S) (new : E) (after : S) : (lost : List ℕ)
       → Type 0 where
-    no_turn : (now : ℕ) → turns < 2 ^ 40 → length (relations.waits old before) < WRITE_AT
+    no_turn : (now : ℕ) → turns < 2 ^ 40 → length (relations.waits old before) < most_waiting
         → may_give now → relations.loses_turn now old before new after
         → Refusal turns old before new after []
-    no_piece : (bytes : List ℕ) → 0 < length bytes → relations.is_idle old before
+    no_piece : (bytes : List ℕ) → 0 < length bytes → length bytes ≤ longest_piece
+        → relations.is_idle old before
         → relations.loses_piece bytes old before new after
         → Refusal turns old before new after bytes
 

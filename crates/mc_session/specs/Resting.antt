@@ -1,6 +1,7 @@
 -- The memory that a session keeps when idle.
 use Rattle.std.specs.Prelude.{ℕ, ◌+◌}
-use Rattle.mc_parse.specs.Queues.{first_piece, kept_in_feed}
+use Rattle.mc_bytes.specs.Queues.{first_piece}
+use Rattle.mc_parse.specs.Feeds.{kept_in_feed}
 
 -- the most memory in bytes that an idle session keeps, without unread bytes and output
 abbrev pub resting : ℕ

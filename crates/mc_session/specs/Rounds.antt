@@ -1,14 +1,15 @@
 -- The parts of a run.
-use Rattle.std.specs.Prelude.{ℕ, ◌+◌, ◌^◌, ◌<◌, List, [], length, Option}
+use Rattle.std.specs.Prelude.{ℕ, ◌+◌, ◌^◌, ◌<◌, ◌≤◌, List, [], length, Option}
 use Rattle.std.specs.Io.KnownBytes.{Consumes}
 use Rattle.mc_session.specs.declared.endpoint.Endpoint.{Ghosts as Relations}
-use Rattle.mc_session.specs.Exchanges.{Scene, Exchanges, FallsShort}
+use Rattle.mc_session.specs.Exchanges.{longest_piece, Scene, Exchanges, FallsShort}
 
 module _ {E S : Type 0} (relations : Relations E S) where
   -- a piece was read and brought to the endpoint, or nothing was read
   pub data Reads (old : E) (before : S) (reader_old reader_new : Option (List ℕ)) : E → S
       → Type 0 where
-    read_piece : {new : E} {after : S} (piece : List ℕ) → Consumes reader_old reader_new piece
+    read_piece : {new : E} {after : S} (piece : List ℕ) → length piece ≤ longest_piece
+        → Consumes reader_old reader_new piece
         → relations.takes piece old before new after
         → Reads old before reader_old reader_new new after
     read_nothing : Consumes reader_old reader_new [] → Reads old before reader_old reader_new old
@@ -19,6 +20,7 @@ module _ {E S : Type 0} (relations : Relations E S) where
       (after : S) : Type 0 where
     pub piece : List ℕ
     pub some : 0 < length piece
+    pub short : length piece ≤ longest_piece
     pub consumes : Consumes reader_old reader_new piece
     pub loses : relations.loses_piece piece old before new after
 

@@ -3,7 +3,7 @@ use Rattle.std.specs.Prelude.{◌≡◌, ◌⊎◌, ◌+◌, ◌^◌, ◌<◌, �
 use Rattle.std.specs.Io.KnownBytes.{Appends, Consumes, IsAtEnd}
 use Rattle.mc_protocol.specs.declared.step.Steps.{Ghosts as Relations}
 use Rattle.mc_parse.specs.Units.{ProtocolUnit}
-use Rattle.mc_session.specs.declared.rounds.TheConstants.{WRITE_AT}
+use Rattle.mc_session.specs.Exchanges.{longest_piece, most_waiting}
 use Rattle.mc_session.specs.Turns.{SessionState, opened, fed, TakesTurn, DecidesStep, NoTurnDue}
 
 -- the session with the output that was written still in front
@@ -27,7 +27,7 @@ module _ {S : Type 0} (relations : Relations S) (may_give : ℕ → Type 0) wher
 
   -- What was done with a session since it was opened: the number of calls of its turn, what was
   -- read and written, and the turns that were taken. Each call was made with less than 64 KiB of
-  -- output, and pieces came only while no turn was due.
+  -- output, and pieces of at most 16384 bytes came only while no turn was due.
   pub data Course (greatest : ℕ) (before : S) : (calls : ℕ) → (read written : List ℕ)
       → List (ProtocolUnit × ℕ) → SessionState → S → Type 0 where
     begins : Course greatest before 0 [] [] [] (opened greatest) before
@@ -35,7 +35,7 @@ module _ {S : Type 0} (relations : Relations S) (may_give : ℕ → Type 0) wher
     takes_turn : {calls : ℕ} {read written : List ℕ} {taken : List (ProtocolUnit × ℕ)}
         {session next : SessionState} {store after : S} (now : ℕ)
         → Course greatest before calls read written taken session store
-        → length session.out < WRITE_AT → may_give now
+        → length session.out < most_waiting → may_give now
         → (takes : TakesTurn relations now session next store after)
         → Course greatest before (calls + 1) read written
         (taken ++ (takes.unit, session.taken) ∷ []) next after
@@ -43,12 +43,12 @@ module _ {S : Type 0} (relations : Relations S) (may_give : ℕ → Type 0) wher
     takes_none : {calls : ℕ} {read written : List ℕ} {taken : List (ProtocolUnit × ℕ)}
         {session : SessionState} {store : S}
         → Course greatest before calls read written taken session store
-        → length session.out < WRITE_AT
+        → length session.out < most_waiting
         → IsFalse session.is_open ⊎ NoTurnDue session
         → Course greatest before (calls + 1) read written taken session store
     -- a piece that came: all output was written before it was read
     piece_comes : {calls : ℕ} {read written : List ℕ} {taken : List (ProtocolUnit × ℕ)}
-        {session : SessionState} {store : S} (bytes : List ℕ)
+        {session : SessionState} {store : S} (bytes : List ℕ) → length bytes ≤ longest_piece
         → Course greatest before calls read written taken session store → IsTrue session.is_open
         → NoTurnDue session → session.out ≡ []
         → Course greatest before calls (read ++ bytes) written taken (fed session bytes) store
@@ -93,16 +93,16 @@ module _ {S : Type 0} (relations : Relations S) (may_give : ℕ → Type 0) wher
     no_buffer : {session : SessionState} {store : S} → Refused 0 session [] store store
     -- a piece that was read
     no_piece : {calls : ℕ} {session : SessionState} {store : S} (bytes : List ℕ) → calls ≤ 2 ^ 40
-        → 0 < length bytes
+        → 0 < length bytes → length bytes ≤ longest_piece
         → IsTrue session.is_open → NoTurnDue session → Refused calls session bytes store store
     -- a turn that was due, whose step wasn't taken
     no_turn : {calls : ℕ} {session : SessionState} {before after : S} → calls < 2 ^ 40
-        → length session.out < WRITE_AT
+        → length session.out < most_waiting
         → IsTrue session.is_open → (NoTurnDue session → ⊥) → relations.same before after
         → Refused calls session [] before after
     -- the text of a turn, whose step was taken
     no_text : {calls : ℕ} {session : SessionState} {before after : S} (now : ℕ) → calls < 2 ^ 40
-        → length session.out < WRITE_AT
+        → length session.out < most_waiting
         → may_give now → DecidesStep relations now session before after
         → Refused calls session [] before after
 

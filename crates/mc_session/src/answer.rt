@@ -11,11 +11,12 @@ ghost use Rattle.mc_session.specs.Turns.{Answers, turn_count};
 ghost use Rattle.mc_reply.specs.Texts.{fault_text, long_text};
 
 use crate::after_turn::AfterTurn;
+use crate::output::Output;
 use crate::session::TurnFault;
 use crate::teller::{Asked, Teller};
-use crate::text::{Output, Text};
 use mc_parse::Peek;
 use mc_protocol::{Command, LineFault, Steps, Unanswered, step_at, steps_of};
+use mc_reply::Text;
 use mc_time::Moment;
 use std::alloc::Global;
 

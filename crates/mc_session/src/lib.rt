@@ -27,11 +27,11 @@ mod after_turn;
 mod answer;
 mod endpoint;
 mod laws;
+mod output;
 mod rounds;
 mod serving;
 mod session;
 mod teller;
-mod text;
 
 pub use endpoint::Endpoint;
 pub use laws::{

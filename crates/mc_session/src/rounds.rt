@@ -2,6 +2,7 @@
 
 ghost use Rattle.std.specs.Prelude.{◌≡◌, ◌≢◌, ◌<◌, ◌^◌, [], true, Ok, Err, OnOk, OnErr, IfOk, IfErr, IsFalse, length};
 ghost use Rattle.std.specs.Io.KnownBytes.{IsAtEnd};
+ghost use Rattle.mc_session.specs.Exchanges.{longest_piece, most_waiting};
 ghost use Rattle.mc_session.specs.Exchanges.{scene, Wrote, Exchanges, FallsShort, HasEnded};
 ghost use Rattle.mc_session.specs.Rounds.{Reads, LosesPiece, GoesOn, IsRefused};
 
@@ -23,7 +24,7 @@ pub const WRITE_AT: usize = 65536;
 
 /// Returns a buffer for pieces of 16384 bytes. The only error is `NoMemory`.
 pub fn piece_buffer(alloc: Global) -> Result<Vec<u8>, ServeFault>
-    ensures ok { IfOk result (λ buffer. 0 < length buffer.items) }
+    ensures ok { IfOk result (λ buffer. length buffer.items ≡ longest_piece) }
     ensures err { IfErr result (λ fault. fault ≡ ServeFault.NoMemory) }
 {
     match vec![in alloc; 0; PIECE] {
@@ -117,7 +118,7 @@ fn write_much<W: Write, S, E: Endpoint<S>>(
 ) -> Result<(), ServeFault>
     ensures wrote { Wrote E.Endpoint endpoint.old store.old endpoint.new store.new
         (W.contents writer.old) (W.contents writer.new) }
-    ensures ok { OnOk result (length (E.waits endpoint.new store.new) < WRITE_AT) }
+    ensures ok { OnOk result (length (E.waits endpoint.new store.new) < most_waiting) }
     ensures err { IfErr result (λ fault. fault ≡ ServeFault.Write) }
 {
     if is_full(endpoint, store) {
@@ -129,7 +130,7 @@ fn write_much<W: Write, S, E: Endpoint<S>>(
 
 /// Returns whether the output must be written before the next turn.
 fn is_full<S, E: Endpoint<S>>(endpoint: &E, store: &S) -> bool
-    ensures { IsFalse result → length (E.waits endpoint.now store.now) < WRITE_AT }
+    ensures { IsFalse result → length (E.waits endpoint.now store.now) < most_waiting }
 {
     endpoint.output(store).len() >= WRITE_AT
 }
@@ -168,7 +169,7 @@ pub fn write_out<W: Write, S, E: Endpoint<S>>(
 
 /// Reads the next piece and brings it to the endpoint. Returns whether the input is at its end.
 ///
-/// An interrupted read brings nothing.
+/// The piece has at most `PIECE` bytes, whatever room there is. An interrupted read brings nothing.
 fn read_piece<R: Read, S, E: Endpoint<S>>(
     alloc: Global,
     reader: &mut R,
@@ -186,10 +187,11 @@ fn read_piece<R: Read, S, E: Endpoint<S>>(
         LosesPiece E.Endpoint endpoint.old store.old
         (R.remaining reader.old) (R.remaining reader.new) endpoint.new store.new }
 {
-    match reader.read(piece) {
+    let (room, _) = piece.split_at_mut(piece.len().min(PIECE));
+    match reader.read(room) {
         Ok(0) => Ok(true),
         Ok(len) => {
-            let (read, _) = piece.split_at(len);
+            let (read, _) = room.split_at(len);
             match endpoint.bring(alloc, store, read) {
                 Ok(()) => Ok(false),
                 Err(_) => Err(ServeFault::NoMemory),

@@ -1,15 +1,17 @@
 //! Sessions, and their turns.
 
-ghost use Rattle.std.specs.Prelude.{◌≡◌, ◌≤◌, ◌↔◌, length, IsTrue, IfSome};
+ghost use Rattle.std.specs.Prelude.{◌≡◌, ◌≤◌, ◌↔◌, length, option_copied, slice_get, IsTrue, IfSome};
 ghost use Rattle.mc_protocol.specs.Commands.{HasShortKeys, longest_key};
 ghost use Rattle.mc_parse.specs.Peeks.{unit_of};
+ghost use Rattle.mc_session.specs.Reading.{keys_read};
 ghost use Rattle.mc_session.specs.Turns.{SessionState};
 
 use crate::after_turn::AfterTurn;
 use crate::answer::answer;
-use crate::text::Output;
-use mc_parse::{Feed, Peek, Source};
-use mc_protocol::{Command, Steps, step_at, steps_of};
+use crate::output::Output;
+use mc_bytes::Source;
+use mc_parse::{Feed, Peek};
+use mc_protocol::{Command, Steps};
 use mc_time::Moment;
 use std::alloc::{AllocError, Global};
 use std::marker::Model;
@@ -74,13 +76,14 @@ impl Model for Session {
 }
 
 impl Session {
-    ghost use Rattle.std.specs.Prelude.{◌≡◌, ◌≤◌, ◌*◌, ◌↔◌, [], length, IsTrue, IsFalse, OnOk, OnErr, IfOk, IfErr, Ok, None, IfSome};
+    ghost use Rattle.std.specs.Prelude.{◌≡◌, ◌≤◌, ◌↔◌, ℕ, List, [], length, option_copied, IsTrue, IsFalse, OnOk, OnErr, IfOk, IfErr, Ok, Some, IfSome};
     ghost use Rattle.mc_protocol.specs.Commands.{longest_key};
-    ghost use Rattle.mc_parse.specs.Sources.{Brings};
+    ghost use Rattle.mc_bytes.specs.Sources.{Brings};
     ghost use Rattle.mc_session.specs.Turns.{TakesTurn, FindsNoTurn, FindsClosed, TurnIsDue, NoTurnDue};
     ghost use Rattle.mc_session.specs.Turns.{DecidesStep, opened, closed, fed, FedPiece, sent};
     ghost use Rattle.mc_session.specs.Answers.{gone_on, MayGoOn};
     ghost use Rattle.mc_session.specs.Resting.{resting, kept_empty};
+    ghost use Rattle.mc_session.specs.Reading.{ReadsNext};
 
     /// Makes a session without bytes, whose storage commands may charge at most `greatest` bytes.
     ///
@@ -213,11 +216,11 @@ impl Session {
         !self.is_open
     }
 
-    /// Returns how many bytes of output are in memory: those not written, and at most as many
-    /// written.
+    /// Returns how many bytes of output are in memory: those not written, and written ones before
+    /// them.
     pub fn held_bytes(&self) -> usize
         ensures least { length self.now.out ≤ result }
-        ensures most { result ≤ 2 * length self.now.out }
+        ensures empty { self.now.out ≡ [] → result ≡ 0 }
     {
         self.out.filled_bytes()
     }
@@ -252,13 +255,17 @@ impl Session {
         self.feed.announced_bytes()
     }
 
-    /// Returns the key of the next turn, if that is one of a retrieval.
+    /// Returns the key that the next turn reads, if that is one of a retrieval.
     pub fn key(&self) -> Option<&[u8]>
-        ensures none { NoTurnDue self.now → result ≡ None }
+        ensures some { IfSome result (λ key. ReadsNext self.now key.now) }
+        ensures all { (key : List ℕ) → ReadsNext self.now key → option_copied result ≡ Some key }
         ensures short { IfSome result (λ key. length key.now ≤ longest_key) }
     {
+        if !self.is_open {
+            return None;
+        }
         match self.feed.peek_after(self.taken) {
-            Peek::Whole(command, _len) => key_of(&command),
+            Peek::Whole(command, _len) => first_key(&command),
             Peek::More | Peek::Bad(..) | Peek::TooLong => None,
         }
     }
@@ -272,8 +279,7 @@ impl Session {
 
     /// Drops the first `n` bytes of the output, which were written.
     ///
-    /// The rest is moved only if it is no longer than what was written, so that each written byte
-    /// pays for one moved byte.
+    /// It moves nothing: the next text that is appended does, if at least half are written.
     pub fn sent(&mut self, n: usize)
         requires { n ≤ length self.old.out }
         ensures { self.new ≡ sent self.old n }
@@ -291,16 +297,21 @@ impl Session {
     }
 }
 
-/// Returns the key of a retrieval's first step, and `None` for another command.
-fn key_of<'a>(command: &Command<'a>) -> Option<&'a [u8]>
+/// Returns the first key of a retrieval, and `None` for another command.
+fn first_key<'a>(command: &Command<'a>) -> Option<&'a [u8]>
     requires { HasShortKeys command.now }
-    ensures { IfSome result (λ key. length key.now ≤ longest_key) }
+    ensures first { option_copied result ≡ slice_get (keys_read command.now) 0 }
+    ensures short { IfSome result (λ key. length key.now ≤ longest_key) }
 {
     match command {
-        Command::Get { .. } | Command::GetTouch { .. } if steps_of(command) > 0 => {
-            Some(step_at(command, 0).key())
-        }
-        _ => None,
+        Command::Get { keys, .. } | Command::GetTouch { keys, .. } => keys.get(0),
+        Command::Store { .. }
+        | Command::Cas { .. }
+        | Command::Touch { .. }
+        | Command::Delete { .. }
+        | Command::Count { .. }
+        | Command::FlushAll { .. }
+        | Command::Lone(_) => None,
     }
 }
 

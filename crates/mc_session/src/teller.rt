@@ -7,8 +7,9 @@
 ghost use Rattle.std.specs.Prelude.{◌<◌, length};
 ghost use Rattle.mc_protocol.specs.Commands.{steps};
 
-use crate::text::{Output, Text};
+use crate::output::Output;
 use mc_protocol::{Answer, Bytes, Command, Reply};
+use mc_reply::Text;
 use std::alloc::AllocError;
 
 /// A command that takes a step.

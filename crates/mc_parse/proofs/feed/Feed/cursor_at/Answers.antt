@@ -21,7 +21,7 @@ returns-clause-some c =
     let greatest = c.self.inside.greatest in
     let known : IfSome c.self.inside.cursor (λ cursor. PointsInto greatest cursor c.as_slice-unread.result.now) = rw c.as_slice-unread.ensures c.self.invariant.points in
     let knows : Knows greatest c.self.inside.ahead c.as_slice-unread.result.now = rw c.as_slice-unread.ensures c.self.invariant.knows in
-    let here : IfSome c.cursor_after.result (λ cursor. PointsInto greatest cursor c.self.inside.unread) =
+    let here : IfSome c.cursor_after.result (λ cursor. PointsInto greatest cursor c.self.inside.unread.bytes) =
     rw (← c.as_slice-unread.ensures) (c.cursor_after.ensures.some greatest known (c.cursor.ensures.some greatest knows)) in
     subst (λ (u : Unread). IfSome c.cursor_after.result (λ cursor. PointsInto u.greatest cursor u.bytes)) c.self.view_is here
 

@@ -1,10 +1,14 @@
 //! A buffer with room behind its bytes, which a source writes into.
 //!
 //! Room for a large block is reserved once a sixteenth of its unit has arrived. A client that
-//! announces a block and sends nothing takes no memory; one that sends n bytes takes at most 16 n +
-//! 16384 bytes. If that reservation is refused, the buffer grows as bytes arrive.
+//! announces a block and sends nothing takes no memory; one that sends n bytes takes at most 17 n +
+//! 16399 bytes. If that reservation is refused, the buffer grows as bytes arrive.
+//!
+//! A vector's contract doesn't bound what it reserves, and a text may reserve more than it appends.
+//! So each append compares what is reserved with what may be.
 
-ghost use Rattle.std.specs.Prelude.{◌≡◌, ◌+◌, ◌≤◌, drop, take, length, OnOk};
+ghost use Rattle.std.specs.Prelude.{◌≡◌, ◌+◌, ◌≤◌, drop, take, length, max, OnOk, IfOk, vec_capacity};
+ghost use Rattle.mc_bytes.specs.Queues.{twice};
 
 use crate::append::Append;
 use crate::source::Source;
@@ -29,22 +33,23 @@ pub struct Buffer {
 
 impl Model for Buffer {
     ghost use Rattle.std.specs.Prelude.{◌≤◌, take, length, vec_capacity};
-    ghost use Rattle.mc_parse.specs.Queues.{BufferState};
+    ghost use Rattle.mc_bytes.specs.Queues.{BufferState};
 
     ghost Value = { BufferState };
 
-    ghost view = { λ b. record { items = take b.filled b.all.items; capacity = vec_capacity b.all } };
+    ghost view = { λ b. record { bytes = take b.filled b.all.items; reserved = vec_capacity b.all } };
 
     ghost invariant = { λ b. b.filled ≤ length b.all.items };
 }
 
 impl Buffer {
-    ghost use Rattle.std.specs.Prelude.{◌≡◌, ◌-◌, ◌≤◌, [], ◌++◌, drop, length, OnOk, OnErr, IfOk};
-    ghost use Rattle.mc_parse.specs.Sources.{Brings};
+    ghost use Rattle.std.specs.Prelude.{◌≡◌, ◌+◌, ◌-◌, ◌<◌, ◌≤◌, [], ◌++◌, drop, length, max, OnOk, OnErr, IfOk};
+    ghost use Rattle.mc_bytes.specs.Sources.{Brings};
+    ghost use Rattle.mc_bytes.specs.Queues.{twice};
 
     /// Makes an empty buffer. It takes no memory.
     pub fn new(alloc: Global) -> Buffer
-        ensures { result ≡ record { items = []; capacity = 0 } }
+        ensures { result ≡ record { bytes = []; reserved = 0 } }
     {
         Buffer {
             all: Vec::new(alloc),
@@ -54,7 +59,7 @@ impl Buffer {
 
     /// Lends the bytes.
     pub fn as_slice(&self) -> &[u8]
-        ensures { result.now ≡ self.now.items }
+        ensures { result.now ≡ self.now.bytes }
     {
         let (filled, _) = self.all.as_slice().split_at(self.filled);
         filled
@@ -62,40 +67,48 @@ impl Buffer {
 
     /// Returns the number of bytes.
     pub fn len(&self) -> usize
-        ensures { result ≡ length self.now.items }
+        ensures { result ≡ length self.now.bytes }
     {
         self.filled
     }
 
     /// Returns the number of reserved bytes.
     pub fn capacity(&self) -> usize
-        ensures all { result ≡ self.now.capacity }
-        ensures filled { length self.now.items ≤ result }
+        ensures all { result ≡ self.now.reserved }
+        ensures filled { length self.now.bytes ≤ result }
     {
         self.all.capacity()
     }
 
     /// Appends bytes. An error leaves the bytes unchanged.
-    pub fn push(&mut self, bytes: &[u8]) -> Result<(), AllocError>
-        ensures ok { OnOk result (self.new.items ≡ self.old.items ++ bytes.now) }
-        ensures err { OnErr result (self.new.items ≡ self.old.items) }
+    pub fn push(&mut self, bytes: &[u8], alloc: Global) -> Result<(), AllocError>
+        ensures ok { OnOk result (self.new.bytes ≡ self.old.bytes ++ bytes.now) }
+        ensures err { OnErr result (self.new.bytes ≡ self.old.bytes) }
+        ensures grown { OnOk result
+            (self.new.reserved ≤ max self.old.reserved (twice (length self.new.bytes))) }
     {
+        let reserved = self.all.capacity();
         self.all.truncate(self.filled);
-        let result = self.all.extend_from_slice(bytes);
+        self.all.extend_from_slice(bytes)?;
+        tighten(&mut self.all, reserved, alloc)?;
         self.filled = self.all.len();
-        result
+        Ok(())
     }
 
     /// Appends a text. An error leaves the bytes unchanged.
-    pub fn append<T: Append>(&mut self, text: &T) -> Result<(), AllocError>
+    pub fn append<T: Append>(&mut self, text: &T, alloc: Global) -> Result<(), AllocError>
         requires { T.can_append text.now }
-        ensures ok { OnOk result (self.new.items ≡ self.old.items ++ T.bytes text.now) }
-        ensures err { OnErr result (self.new.items ≡ self.old.items) }
+        ensures ok { OnOk result (self.new.bytes ≡ self.old.bytes ++ T.bytes text.now) }
+        ensures err { OnErr result (self.new.bytes ≡ self.old.bytes) }
+        ensures grown { OnOk result
+            (self.new.reserved ≤ max self.old.reserved (twice (length self.new.bytes))) }
     {
+        let reserved = self.all.capacity();
         self.all.truncate(self.filled);
-        let result = text.append_to(&mut self.all);
+        text.append_to(&mut self.all)?;
+        tighten(&mut self.all, reserved, alloc)?;
         self.filled = self.all.len();
-        result
+        Ok(())
     }
 
     /// Appends what a source writes into room for `room` bytes.
@@ -105,13 +118,16 @@ impl Buffer {
         &mut self,
         source: &mut S,
         room: usize,
+        alloc: Global,
     ) -> Result<S::Answer, AllocError>
         ensures ok { IfOk result (λ answer. Brings S.gives source.old source.new answer
-            (λ piece. self.new.items ≡ self.old.items ++ piece)) }
-        ensures err { OnErr result (self.new.items ≡ self.old.items) }
+            (λ piece. self.new.bytes ≡ self.old.bytes ++ piece)) }
+        ensures err { OnErr result (self.new.bytes ≡ self.old.bytes) }
         ensures asked { OnErr result (source.new ≡ source.old) }
+        ensures grown { OnOk result
+            (self.new.reserved ≤ max self.old.reserved (twice (length self.old.bytes + room))) }
     {
-        match make_room(&mut self.all, self.filled, room) {
+        match make_room(&mut self.all, self.filled, room, alloc) {
             Ok(()) => {
                 let (count, answer) = read_behind(&mut self.all, self.filled, room, source);
                 self.filled += count;
@@ -121,36 +137,40 @@ impl Buffer {
         }
     }
 
-    /// Reserves memory for `more` bytes, if there is some.
+    /// Reserves memory for exactly `more` bytes, if there is some.
     pub fn reserve(&mut self, more: usize)
-        ensures { self.new.items ≡ self.old.items }
+        ensures same { self.new.bytes ≡ self.old.bytes }
+        ensures grown { self.new.reserved ≤ max self.old.reserved (length self.old.bytes + more) }
     {
         let room = self.all.len() - self.filled;
-        let _ = self.all.reserve(more.saturating_sub(room));
+        let _ = self.all.reserve_exact(more.saturating_sub(room));
     }
 
     /// Drops the first `front` bytes. What is left must not be longer than the front.
     pub fn drop_front(&mut self, front: usize)
-        requires inside { front ≤ length self.old.items }
-        requires half { length self.old.items - front ≤ front }
-        ensures { self.new.items ≡ drop front self.old.items }
+        requires inside { front ≤ length self.old.bytes }
+        requires half { length self.old.bytes - front ≤ front }
+        ensures dropped { self.new.bytes ≡ drop front self.old.bytes }
+        ensures reserved { self.new.reserved ≡ self.old.reserved }
     {
         let left = self.filled - front;
         copy_to_front(&mut self.all, front, left);
         self.filled = left;
     }
 
-    /// Drops all bytes.
+    /// Drops all bytes, and frees no memory.
     pub fn clear(&mut self)
-        ensures { self.new.items ≡ [] }
+        ensures { self.new ≡ record { bytes = []; reserved = self.old.reserved } }
     {
         self.filled = 0;
     }
 
     /// Frees the memory if the buffer is empty and has more than `kept` bytes of it.
     pub fn give_back(&mut self, kept: usize, alloc: Global)
-        ensures same { self.new.items ≡ self.old.items }
-        ensures small { length self.new.items ≡ 0 → self.new.capacity ≤ kept }
+        ensures same { self.new.bytes ≡ self.old.bytes }
+        ensures small { length self.new.bytes ≡ 0 → self.new.reserved ≤ kept }
+        ensures less { self.new.reserved ≤ self.old.reserved }
+        ensures some { 0 < length self.old.bytes → self.new.reserved ≡ self.old.reserved }
     {
         if self.filled == 0 && self.all.capacity() > kept {
             make_small(&mut self.all);
@@ -170,12 +190,48 @@ fn make_small(all: &mut Vec<u8>) {
     }
 }
 
+/// Copies an append's bytes to memory of their length if it reserved more than it may.
+///
+/// `reserved` bytes were reserved before it.
+fn tighten(all: &mut Vec<u8>, reserved: usize, alloc: Global) -> Result<(), AllocError>
+    ensures same { all.new.items ≡ all.old.items }
+    ensures ok { OnOk result (vec_capacity all.new ≤ max reserved (twice (length all.new.items))) }
+{
+    if all.capacity() <= reserved || all.capacity() <= twice(all.len()) {
+        return Ok(());
+    }
+    let exact = exact_copy(all.as_slice(), alloc)?;
+    *all = exact;
+    Ok(())
+}
+
+/// Returns the memory that may be reserved for this many bytes.
+fn twice(filled: usize) -> usize
+    ensures { result ≤ twice filled }
+{
+    filled.saturating_mul(2).max(8)
+}
+
+/// Copies bytes to memory of exactly their length.
+fn exact_copy(bytes: &[u8], alloc: Global) -> Result<Vec<u8>, AllocError>
+    ensures same { IfOk result (λ copy. copy.items ≡ bytes.now) }
+    ensures exact { IfOk result (λ copy. vec_capacity copy ≡ length bytes.now) }
+{
+    let mut copy = Vec::with_capacity(alloc, bytes.len())?;
+    for byte in bytes {
+        copy.push_reserved(*byte);
+    }
+    Ok(copy)
+}
+
 /// Extends a vector with zeros until there are `room` bytes behind the first `filled` ones.
-fn make_room(all: &mut Vec<u8>, filled: usize, room: usize) -> Result<(), AllocError>
+fn make_room(all: &mut Vec<u8>, filled: usize, room: usize, alloc: Global) -> Result<(), AllocError>
     requires { filled ≤ length all.old.items }
     ensures ok { OnOk result (filled + room ≤ length all.new.items) }
     ensures same { take filled all.new.items ≡ take filled all.old.items }
     ensures inside { filled ≤ length all.new.items }
+    ensures grown { OnOk result
+        (vec_capacity all.new ≤ max (vec_capacity all.old) (twice (filled + room))) }
 {
     let Some(end) = filled.checked_add(room) else {
         return Err(AllocError);
@@ -183,7 +239,9 @@ fn make_room(all: &mut Vec<u8>, filled: usize, room: usize) -> Result<(), AllocE
     if end <= all.len() {
         return Ok(());
     }
-    all.resize(end, 0)
+    let reserved = all.capacity();
+    all.resize(end, 0)?;
+    tighten(all, reserved, alloc)
 }
 
 /// Lends `room` bytes behind the first `filled` ones to a source.
@@ -199,6 +257,7 @@ fn read_behind<S: Source>(
     ensures inside { filled + result.0 ≤ length all.new.items }
     ensures same { take filled all.new.items ≡ take filled all.old.items }
     ensures gives { S.gives source.old (take result.0 (drop filled all.new.items)) result.1 source.new }
+    ensures reserved { vec_capacity all.new ≡ vec_capacity all.old }
 {
     let (_, behind) = all.as_mut_slice().split_at_mut(filled);
     let (lent, _) = behind.split_at_mut(room);
@@ -211,6 +270,7 @@ fn copy_to_front(all: &mut Vec<u8>, front: usize, left: usize)
     requires half { left ≤ front }
     ensures moved { take left all.new.items ≡ take left (drop front all.old.items) }
     ensures long { length all.new.items ≡ length all.old.items }
+    ensures reserved { vec_capacity all.new ≡ vec_capacity all.old }
 {
     let (onto, behind) = all.as_mut_slice().split_at_mut(front);
     let (onto, _) = onto.split_at_mut(left);

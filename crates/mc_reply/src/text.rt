@@ -1,15 +1,9 @@
-//! The texts of turns.
+//! The text of a turn.
 
-use mc_parse::{Append, Queue};
+use crate::texts::{write, write_fault, write_hit, write_plain, write_spent, write_too_long};
+use mc_bytes::Append;
 use mc_protocol::{Bytes, Command, LineFault, Reply};
-use mc_reply::{write, write_fault, write_hit, write_plain, write_spent, write_too_long};
 use std::alloc::AllocError;
-
-/// The texts that aren't written yet. An empty output keeps at most 131072 bytes of memory.
-///
-/// An output that is written once it has 65536 bytes seldom takes more, so its memory is seldom
-/// reserved again.
-pub type Output = Queue<131072>;
 
 /// The text of a turn.
 #[derive(Drop)]
@@ -34,7 +28,7 @@ pub enum Text<'a> {
 }
 
 impl<'a> Append for Text<'a> {
-    ghost use Rattle.mc_session.specs.Answers.{bytes_of, IsText};
+    ghost use Rattle.mc_reply.specs.Texts.{bytes_of, IsText};
 
     ghost can_append = { IsText };
 

@@ -1,0 +1,30 @@
+//! Queues of bytes: appended at the end, consumed at the front, and read where they stay.
+//!
+//! A connection has a queue of unread bytes and one of output. Both grow by pieces and shrink from
+//! the front, are read as one slice, and may hold a block of megabytes. So the cost that matters is
+//! that of moved bytes and of reserved memory: this crate decides both, for every crate above.
+//!
+//! A [`Buffer`] has bytes and room behind them. A [`Queue`] is a buffer with a count of consumed
+//! bytes. A [`Source`] writes into a queue's room, so a piece is read where it will stay. A text
+//! appends itself as a value of [`Append`].
+//!
+//! Contracts see a queue as the bytes that aren't consumed, the number of bytes in its memory, with
+//! consumed ones in front of them, and the number of bytes reserved. They promise exactly which
+//! bytes each call appends, drops or keeps. They promise that an append leaves at most as many
+//! consumed bytes in memory as others, that it reserves at most twice the bytes, and that an idle
+//! empty queue keeps at most [`FIRST_PIECE`] bytes.
+//!
+//! Begin with `specs/Queues.antt` and `src/queue.rt`.
+//!
+//! Tests: mc_session_tests, src/parse_tests.rt.
+#![tactic(auto)]
+
+mod append;
+mod buffer;
+mod queue;
+mod source;
+
+pub use append::Append;
+pub use buffer::Buffer;
+pub use queue::{FIRST_PIECE, Queue};
+pub use source::Source;
