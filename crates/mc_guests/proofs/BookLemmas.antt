@@ -4,10 +4,12 @@ use Rattle.std.proofs.Common.{◌≡◌, ◌⊎◌, inl, inr, ℕ, ◌<◌, ◌�
 use Rattle.std.proofs.lemmas.Bool.{cases_lt}
 use Rattle.std.proofs.lemmas.List.{length-take-le}
 use Rattle.std.proofs.lemmas.List.Edits.{length-swap}
+use Rattle.mc_guests.specs.Budgets.{AreSums}
 use Rattle.mc_guests.specs.Guests.{has_ended, is_to_sleep}
 use Rattle.mc_guests.specs.Books.{RowState, BooksState, HasNumber, SleepsAt, Wakes, WakesOne, WakesNone, woken, put_behind, let_gone, LetsGo}
 use Rattle.mc_guests.specs.Books.{is_over, is_asleep, IsFateOf, Settles, SettlesFrom, none, and_one, swapped, cut}
 use Rattle.mc_guests.specs.Books.{MayWake, WakesSome, none_woke, one_woke}
+use Rattle.mc_guests.proofs.BudgetLemmas.{counts_swapped}
 use Rattle.mc_guests.specs.declared.guests.Fate.{Fate}
 use Rattle.mc_guests.specs.declared.guests.WorkEnd.{WorkEnd}
 
@@ -92,8 +94,15 @@ awake_before at old new before after within settles = awake_by (has_ended settle
 long_swapped : (one other : ℕ) (row later : RowState) → later ≡ swapped one other row → length later.guests ≡ length row.guests
 long_swapped one other row later is = ap (λ (r : RowState). length r.guests) is ∙ length-swap row.guests one other
 
+-- guests are counted as before where two change places
+pub counts_row_swapped : (one other held waiting large : ℕ) (row later : RowState) → later ≡ swapped one other row → one < length row.guests → other < length row.guests
+    → AreSums held waiting large row.guests → AreSums held waiting large later.guests
+counts_row_swapped one other held waiting large row later is first second counts =
+    subst (λ (r : RowState). AreSums held waiting large r.guests) (sym is) (counts_swapped row.guests one other held waiting large first second counts)
+
 -- The guest at a place changes places with the last that is awake, that one with the last of all, and the last goes.
-module _ (at awake end count : ℕ) (may_try later : Bool) (row second third fourth : RowState) (old : BooksState) (is : record { row = row; awake = awake; may_try = may_try } ≡ old)
+module _ (at awake end count share : ℕ) (may_try later : Bool) (row second third fourth : RowState) (old : BooksState)
+    (is : record { row = row; awake = awake; may_try = may_try; share = share } ≡ old)
     (within : at < old.awake) (all : awake ≤ length row.guests) (swaps : second ≡ swapped at (awake - 1) row)
     (at_end : end ≡ length second.guests) (is_last : count ≡ end - 1) (swaps_end : third ≡ swapped (awake - 1) count second) where
   some_awake : at < awake
@@ -105,6 +114,13 @@ module _ (at awake end count : ℕ) (may_try later : Bool) (row second third fou
   pub some_stand : 0 < length third.guests
   some_stand = let e = all_long in let w = some_awake in omega arith
 
+  pub counts_moved : (held waiting large : ℕ) → AreSums held waiting large row.guests → AreSums held waiting large third.guests
+  counts_moved held waiting large counts =
+      let w = some_awake in
+      let long : length second.guests ≡ length row.guests = long_swapped at (awake - 1) row second swaps in
+      counts_row_swapped (awake - 1) count held waiting large second third swaps_end (omega (arith, w, all, long)) (omega (arith, w, all, long, at_end, is_last))
+      (counts_row_swapped at (awake - 1) held waiting large row second swaps (omega (arith, w, all)) (omega (arith, w, all)) counts)
+
   module _ (cuts : fourth ≡ cut (length third.guests - 1) third) where
     pub awake_stand : awake - 1 ≤ length fourth.guests
     awake_stand =
@@ -113,22 +129,22 @@ module _ (at awake end count : ℕ) (may_try later : Bool) (row second third fou
         let c : length fourth.guests ≡ length third.guests - 1 = ap (λ (r : RowState). length r.guests) cuts ∙ length-take-le (length third.guests - 1) third.guests (omega arith) in
         omega arith
 
-    here : record (let_gone at (record { row = row; awake = awake; may_try = may_try })) { may_try = later } ≡ record { row = fourth; awake = awake - 1; may_try = later }
+    here : record (let_gone at (record { row = row; awake = awake; may_try = may_try; share = share })) { may_try = later } ≡ record { row = fourth; awake = awake - 1; may_try = later; share = share }
     here =
         let last : length row.guests - 1 ≡ count = (let e = long_swapped at (awake - 1) row second swaps in omega arith) in
         let gone : length row.guests - 1 ≡ length third.guests - 1 = (let e = all_long in omega arith) in
         let a : swapped (awake - 1) (length row.guests - 1) (swapped at (awake - 1) row) ≡ third =
         ap (λ (n : ℕ). swapped (awake - 1) n (swapped at (awake - 1) row)) last ∙ ap (swapped (awake - 1) count) (sym swaps) ∙ sym swaps_end in
-        ap (λ (r : RowState). record { row = r; awake = awake - 1; may_try = later })
+        ap (λ (r : RowState). record { row = r; awake = awake - 1; may_try = later; share = share })
         (ap (λ (n : ℕ). cut n (swapped (awake - 1) (length row.guests - 1) (swapped at (awake - 1) row))) gone ∙ ap (cut (length third.guests - 1)) a ∙ sym cuts)
 
-    pub goes_from : LetsGo at old (record { row = fourth; awake = awake - 1; may_try = later })
-    goes_from = subst (λ (b : BooksState). record { row = fourth; awake = awake - 1; may_try = later } ≡ record (let_gone at b) { may_try = later }) is (sym here)
+    pub goes_from : LetsGo at old (record { row = fourth; awake = awake - 1; may_try = later; share = share })
+    goes_from = subst (λ (b : BooksState). record { row = fourth; awake = awake - 1; may_try = later; share = share } ≡ record (let_gone at b) { may_try = later }) is (sym here)
 
 -- nobody was settled yet
-pub settles_nobody : (row : RowState) (awake : ℕ) (may_try : Bool) (books : BooksState) (count : WorkEnd) → record { row = row; awake = awake; may_try = may_try } ≡ books
+pub settles_nobody : (row : RowState) (awake share : ℕ) (may_try : Bool) (books : BooksState) (count : WorkEnd) → record { row = row; awake = awake; may_try = may_try; share = share } ≡ books
     → SettlesFrom awake books books count count × (awake ≤ books.awake)
-settles_nobody row awake may_try books count is = subst (λ (b : BooksState). SettlesFrom awake b b count count × (awake ≤ b.awake)) is (none, omega arith)
+settles_nobody row awake share may_try books count is = subst (λ (b : BooksState). SettlesFrom awake b b count count × (awake ≤ b.awake)) is (none, omega arith)
 
 -- one more was settled
 pub settles_more : (at : ℕ) (old mid new : BooksState) (before between after : WorkEnd) → 0 < at → SettlesFrom at old mid before between × (at ≤ mid.awake)

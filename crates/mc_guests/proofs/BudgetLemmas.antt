@@ -1,10 +1,16 @@
 -- What a budget counts.
-use Rattle.std.specs.Prelude.{◌&&◌, ◌||◌, not}
-use Rattle.std.proofs.Common.{◌≡◌, ◌⊎◌, inl, inr, ℕ, ◌+◌, ◌-◌, ◌<◌, ◌≤◌, Bool, true, false, refl, sym, ap, ◌∙◌, subst, arith, IsTrue, IsFalse}
+use Rattle.std.specs.Prelude.{◌&&◌, ◌||◌, not, swap, IsPermutation}
+use Rattle.std.specs.List.{sum_by}
+use Rattle.std.proofs.Common.{◌≡◌, ◌⊎◌, inl, inr, ℕ, ◌+◌, ◌-◌, ◌*◌, ◌<◌, ◌≤◌, Bool, true, false, List, [], ◌∷◌, ◌++◌, length, take, drop, get_or, refl, sym, ap, ◌∙◌}
+use Rattle.std.proofs.Common.{subst, arith, IsTrue, IsFalse, length-append}
+use Rattle.std.proofs.Math.ListN.{set}
 use Rattle.std.proofs.Math.Nat.{min-eq_left}
-use Rattle.mc_guests.specs.Asks.{little}
-use Rattle.mc_guests.specs.Guests.{GuestState, RowGuest}
-use Rattle.mc_guests.specs.Budgets.{most, plus, one_if, is_large, uncounted, rest_of, Recounts, fits, is_kept_for_one, LacksRoom, IsHeldBack}
+use Rattle.std.proofs.lemmas.List.{take-append-drop, length-set}
+use Rattle.std.proofs.lemmas.List.Sums.{sum_by-le, sum_by-set, sum_by_more_le, sum_by_push, sum_by-take-drop}
+use Rattle.std.proofs.lemmas.List.Sorted.{sum_by-IsPermutation, IsPermutation-swap}
+use Rattle.mc_guests.specs.Asks.{little, most}
+use Rattle.mc_guests.specs.Guests.{GuestState, RowGuest, newcomer}
+use Rattle.mc_guests.specs.Budgets.{plus, one_if, is_large, uncounted, rest_of, Recounts, RecountsAll, AreSums, CountsAll, held_by, waiting_of, large_of, fits, is_kept_for_one, LacksRoom, IsHeldBack}
 use Rattle.mc_guests.specs.declared.budget.Budget.{Budget}
 
 pub at_most_one : (test : Bool) → one_if test ≤ 1
@@ -73,3 +79,125 @@ pub held_beside : (guest later : GuestState) (counted bytes : ℕ) (waits waited
 held_beside guest later counted bytes waits waited budget others same is so out held =
     let beside : others ≡ uncounted bytes waited budget = out ∙ ap (λ (n : ℕ). uncounted n waits budget) is ∙ ap (λ (w : Bool). uncounted bytes w budget) so in
     subst (λ (b : Budget). IsHeldBack later b) beside (subst (λ (g : GuestState). IsHeldBack g others) (sym same) held)
+
+-- what goes over of one goes over of all
+counts_over : (others sum later lost gained before after : ℕ) → lost ≤ sum → later + lost ≡ sum + gained → before ≡ others + sum
+    → ((beside : ℕ) → before ≡ beside + lost → after ≡ beside + gained) → after ≡ others + later
+counts_over others sum later lost gained before after within set is goes =
+    let put : after ≡ others + (sum - lost) + gained = goes (others + (sum - lost)) (omega (arith, within, is)) in omega (arith, within, set, put)
+
+-- the same of a count that doesn't go beyond the greatest number
+few_over : (others sum later lost gained before after all : ℕ) → lost ≤ sum → sum - lost < all → others + all ≤ most → later + lost ≡ sum + gained → before ≡ others + sum
+    → ((beside : ℕ) → beside < most → before ≡ beside + lost → after ≡ beside + gained) → after ≡ others + later
+few_over others sum later lost gained before after all within few fits set is goes =
+    counts_over others sum later lost gained before after within set is
+    (λ beside at. goes beside (omega (arith, within, few, fits, is, at)) at)
+
+-- a guest of a list, which is counted
+module _ (f : RowGuest → ℕ) (guests : List RowGuest) (at : ℕ) (old : RowGuest) (inside : at < length guests) (is : old ≡ get_or guests at old) where
+  is_counted : f old ≤ sum_by f guests
+  is_counted =
+      let some : sum_by f (take at guests) + f (get_or guests at old) ≤ sum_by f guests = sum_by_more_le f guests at old inside in
+      let same : f (get_or guests at old) ≡ f old = ap f (sym is) in
+      omega (arith, some, same)
+
+  is_recounted : (new : RowGuest) → sum_by f (set guests at new) + f old ≡ sum_by f guests + f new
+  is_recounted new =
+      let all : sum_by f (set guests at new) + f (get_or guests at old) ≡ sum_by f guests + f new = sum_by-set f guests at new old inside in
+      let same : f (get_or guests at old) ≡ f old = ap f (sym is) in
+      omega (arith, all, same)
+
+  -- each of the others counts as one at most
+  others_few : ((guest : RowGuest) → f guest ≤ 1) → (full : RowGuest) → f full ≡ 1 → sum_by f guests - f old < length guests
+  others_few small full one =
+      let all : sum_by f (set guests at full) + f old ≡ sum_by f guests + f full = is_recounted full in
+      let few : sum_by f (set guests at full) ≤ length (set guests at full) * 1 = sum_by-le f 1 (set guests at full) (λ k d _. small (get_or (set guests at full) k d)) in
+      let long : length (set guests at full) ≡ length guests = length-set guests at full in
+      omega (arith, all, few, long, one)
+
+abbrev bytes_of : RowGuest → ℕ
+bytes_of guest = guest.counted
+
+abbrev waits_as : RowGuest → ℕ
+waits_as guest = one_if guest.waits
+
+abbrev large_as : RowGuest → ℕ
+large_as guest = one_if (is_large guest.counted guest.waits)
+
+-- guests are counted as they were
+pub recounts_nobody : (guests : List RowGuest) (budget : Budget) → RecountsAll guests guests budget budget
+recounts_nobody guests budget = record { held = λ others is. is; waiting = λ others few is. is; large = λ others few is. is; rest = refl }
+
+-- one guest more is counted anew
+pub recounts_more : (olds mids : List RowGuest) (at : ℕ) (old new : RowGuest) (first before after : Budget) → length mids ≡ length olds → at < length mids → old ≡ get_or mids at old
+    → RecountsAll olds mids first before → Recounts old new before after → RecountsAll olds (set mids at new) first after
+recounts_more olds mids at old new first before after long inside is all one = record {
+  held = λ others counts. counts_over others (held_by mids) (held_by (set mids at new)) old.counted new.counted before.held after.held
+      (is_counted bytes_of mids at old inside is) (is_recounted bytes_of mids at old inside is new) (all.held others counts) one.held;
+  waiting = λ others few counts. few_over others (waiting_of mids) (waiting_of (set mids at new)) (waits_as old) (waits_as new) before.waiting after.waiting (length mids)
+      (is_counted waits_as mids at old inside is) (others_few waits_as mids at old inside is (λ guest. at_most_one guest.waits) (record old { waits = true }) refl)
+      (omega (arith, few, long)) (is_recounted waits_as mids at old inside is new) (all.waiting others few counts) one.waiting;
+  large = λ others few counts. few_over others (large_of mids) (large_of (set mids at new)) (large_as old) (large_as new) before.large after.large (length mids)
+      (is_counted large_as mids at old inside is)
+      (others_few large_as mids at old inside is (λ guest. at_most_one (is_large guest.counted guest.waits)) (record old { waits = false; counted = 16385 }) refl)
+      (omega (arith, few, long)) (is_recounted large_as mids at old inside is new) (all.large others few counts) one.large;
+  rest = one.rest ∙ all.rest;
+}
+
+-- what is counted of a list is counted of its front and of its rest
+module _ (f : RowGuest → ℕ) (count : ℕ) (olds news : List RowGuest) (stays : drop count news ≡ drop count olds) where
+  front_over : (before after : ℕ) → before ≡ sum_by f olds
+      → ((others : ℕ) → others ≡ sum_by f (drop count olds) → before ≡ others + sum_by f (take count olds) → after ≡ others + sum_by f (take count news))
+      → after ≡ sum_by f news
+  front_over before after is goes =
+      let old : sum_by f (take count olds) + sum_by f (drop count olds) ≡ sum_by f olds = sum_by-take-drop f olds count in
+      let new : sum_by f (take count news) + sum_by f (drop count news) ≡ sum_by f news = sum_by-take-drop f news count in
+      let same : sum_by f (drop count news) ≡ sum_by f (drop count olds) = ap (sum_by f) stays in
+      let put : after ≡ sum_by f (drop count olds) + sum_by f (take count news) = goes (sum_by f (drop count olds)) refl (omega (arith, is, old)) in
+      omega (arith, put, new, same)
+
+  -- as many as there are
+  front_fits : ((guest : RowGuest) → f guest ≤ 1) → length olds ≤ most → sum_by f (drop count olds) + length (take count olds) ≤ most
+  front_fits small fits =
+      let few : sum_by f (drop count olds) ≤ length (drop count olds) * 1 = sum_by-le f 1 (drop count olds) (λ k d _. small (get_or (drop count olds) k d)) in
+      let all : length (take count olds) + length (drop count olds) ≡ length olds = sym (length-append (take count olds) (drop count olds)) ∙ ap length (take-append-drop count olds) in
+      omega (arith, few, all, fits)
+
+-- the first guests of a row were counted anew, and the others stay
+pub counts_front : (count : ℕ) (olds news : List RowGuest) (before after : Budget) → length olds ≤ most → drop count news ≡ drop count olds
+    → RecountsAll (take count olds) (take count news) before after → CountsAll before olds → CountsAll after news
+counts_front count olds news before after fits stays all counts = record {
+  bytes = front_over bytes_of count olds news stays before.held after.held counts.bytes (λ others _ is. all.held others is);
+  waits = front_over waits_as count olds news stays before.waiting after.waiting counts.waits (λ others rest is.
+      all.waiting others (let fit = front_fits waits_as count olds news stays (λ guest. at_most_one guest.waits) fits in omega (arith, rest, fit)) is);
+  larges = front_over large_as count olds news stays before.large after.large counts.larges (λ others rest is.
+      all.large others (let fit = front_fits large_as count olds news stays (λ guest. at_most_one (is_large guest.counted guest.waits)) fits in omega (arith, rest, fit)) is);
+}
+
+-- the last guest of a list is uncounted
+pub counts_popped : (guests : List RowGuest) (last : RowGuest) (before after : Budget) → after.held ≡ before.held - last.counted
+    → after.waiting ≡ before.waiting - one_if last.waits → after.large ≡ before.large - one_if (is_large last.counted last.waits)
+    → CountsAll before (guests ++ last ∷ []) → CountsAll after guests
+counts_popped guests last before after held waiting large counts = record {
+  bytes = let all : held_by (guests ++ last ∷ []) ≡ held_by guests + last.counted = sum_by_push bytes_of guests last in omega (arith, held, all, counts.bytes);
+  waits = let all : waiting_of (guests ++ last ∷ []) ≡ waiting_of guests + waits_as last = sum_by_push waits_as guests last in omega (arith, waiting, all, counts.waits);
+  larges = let all : large_of (guests ++ last ∷ []) ≡ large_of guests + large_as last = sum_by_push large_as guests last in omega (arith, large, all, counts.larges);
+}
+
+-- one that comes isn't counted yet
+pub counts_come : (guests : List RowGuest) (guest : GuestState) (held waiting large : ℕ) → AreSums held waiting large guests → AreSums held waiting large (guests ++ newcomer guest ∷ [])
+counts_come guests guest held waiting large counts = record {
+  bytes = let all : held_by (guests ++ newcomer guest ∷ []) ≡ held_by guests + 0 = sum_by_push bytes_of guests (newcomer guest) in omega (arith, all, counts.bytes);
+  waits = let all : waiting_of (guests ++ newcomer guest ∷ []) ≡ waiting_of guests + 0 = sum_by_push waits_as guests (newcomer guest) in omega (arith, all, counts.waits);
+  larges = let all : large_of (guests ++ newcomer guest ∷ []) ≡ large_of guests + 0 = sum_by_push large_as guests (newcomer guest) in omega (arith, all, counts.larges);
+}
+
+-- two that change places are counted as before
+pub counts_swapped : (guests : List RowGuest) (one other held waiting large : ℕ) → one < length guests → other < length guests
+    → AreSums held waiting large guests → AreSums held waiting large (swap guests one other)
+counts_swapped guests one other held waiting large first second counts =
+    let shuffled : IsPermutation guests (swap guests one other) = IsPermutation-swap guests (swap guests one other) one other first second refl in record {
+      bytes = counts.bytes ∙ sym (sum_by-IsPermutation bytes_of guests (swap guests one other) shuffled);
+      waits = counts.waits ∙ sym (sum_by-IsPermutation waits_as guests (swap guests one other) shuffled);
+      larges = counts.larges ∙ sym (sum_by-IsPermutation large_as guests (swap guests one other) shuffled);
+    }

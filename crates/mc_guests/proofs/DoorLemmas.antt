@@ -1,7 +1,8 @@
 -- What an opening of the door does, call by call.
+use Rattle.std.specs.Prelude.{◌&&◌, ◌==◌}
 use Rattle.std.proofs.Common.{◌≡◌, ◌↔◌, ◌<◌, ℕ, ◌+◌, Bool, true, false, length, Option, Some, refl, sym, ap, ◌∙◌, subst, IsTrue}
 use Rattle.mc_guests.specs.Books.{BooksState, Wakes, quiet}
-use Rattle.mc_guests.specs.Doors.{unasked, came, heard, counted_in, WakesNamed, and_one, WakesAllNamed, LetsIn, ComesNothing, Opens, link, none_now, none_more, over}
+use Rattle.mc_guests.specs.Doors.{unasked, came, heard, counted_in, WakesNamed, and_one, WakesAllNamed, WakesAfter, LetsIn, ComesNothing, Opens, link, none_now, none_more, over}
 use Rattle.mc_guests.specs.Doors.{LinksCame, one_came, OpensForAll, then_none}
 use Rattle.mc_guests.specs.declared.door.Door.{Door}
 use Rattle.mc_guests.specs.declared.guests.WorkEnd.{WorkEnd}
@@ -66,3 +67,26 @@ module _ (count : ℕ) (door last later : Door) (old between new : BooksState) (
       → OpensForAll door later old new before after goes_on
   came_no_more below front is opens says gives = then_none below front
       (subst (λ (q : Bool). Opens q last later between new mid after goes_on) is opens) (fails gave says gives)
+
+-- Nothing came: those woke whose links were named, and it rested or not.
+module _ (is_quiet rests : Bool) (talk last noted : Talk) (old between : BooksState) (wakes : WakesAllNamed talk old last between) (is : rests ≡ (is_quiet && last.names == 0))
+    (notes : noted ≡ record last { has_rested = rests }) where
+  noted_so : noted ≡ record last { has_rested = is_quiet && last.names == 0 }
+  noted_so = notes ∙ ap (λ (r : Bool). record last { has_rested = r }) is
+
+  pub comes_nothing : rests ≡ false → ComesNothing is_quiet talk old noted between
+  comes_nothing stays = record {
+    last = last;
+    between = between;
+    wakes = wakes;
+    rests = subst (λ (r : Bool). WakesAfter r (record last { has_rested = is_quiet && last.names == 0 }) between noted between) (sym stays ∙ is) (noted_so, refl);
+  }
+
+  pub comes_nothing_then : (later : Talk) (new : BooksState) → rests ≡ true → WakesAllNamed noted between later new → ComesNothing is_quiet talk old later new
+  comes_nothing_then later new rested after = record {
+    last = last;
+    between = between;
+    wakes = wakes;
+    rests = subst (λ (r : Bool). WakesAfter r (record last { has_rested = is_quiet && last.names == 0 }) between later new) (sym rested ∙ is)
+        (subst (λ (t : Talk). WakesAllNamed t between later new) noted_so after);
+  }

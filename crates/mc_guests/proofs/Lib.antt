@@ -9,3 +9,4 @@ pub mod BookLemmas
 pub mod DoorLemmas
 pub mod TurnLemmas
 pub mod BudgetLemmas
+pub mod MeasureLemmas

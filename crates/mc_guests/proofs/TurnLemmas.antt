@@ -6,33 +6,39 @@ use Rattle.std.proofs.lemmas.List.{take_more, take_more_set, get_or-drop, drop-s
 use Rattle.std.proofs.lemmas.Grind.{drop_more_same}
 use Rattle.mc_protocol.specs.declared.step.Steps.{Ghosts as Relations}
 use Rattle.mc_guests.specs.Asks.{AsksAndVisits, IsKeptWaiting}
+use Rattle.mc_guests.specs.Budgets.{uncounted, IsHeldBack, Recounts}
 use Rattle.mc_guests.specs.Guests.{RowGuest}
+use Rattle.mc_guests.specs.declared.budget.Budget.{Budget}
 use Rattle.mc_guests.specs.Turns.{HasTurn, HaveTurns, next}
 use Rattle.mc_guests.specs.declared.guest.Visit.{Visit}
 
 module _ {S : Type 0} (relations : Relations S) (now : ℕ) where
   -- a guest was visited with an answer, or is kept waiting where there was none
-  pub has_turn : (result : Option Visit) (old new : RowGuest) (before after : S)
+  pub has_turn : (result : Option Visit) (old new : RowGuest) (before after : S) (budget later : Budget)
       → IfSome result (λ answer. AsksAndVisits relations now answer old.guest new.guest before after)
-      → (result ≡ None → IsKeptWaiting relations now old.guest new.guest before after) → new.waits ≡ is_none result → HasTurn relations now old new before after
-  has_turn None old new before after some none waits = inr (record { kept = none refl; waits = waits })
-  has_turn (Some answer) old new before after some none waits = inl (record { answer = answer; visits = some; goes_on = waits })
+      → (result ≡ None → IsKeptWaiting relations now old.guest new.guest before after)
+      → (result ≡ None → IsHeldBack new.guest (uncounted old.counted old.waits budget)) → new.waits ≡ is_none result → Recounts old new budget later
+      → HasTurn relations now old new before after budget later
+  has_turn None old new before after budget later some none held waits counts =
+      record { turn = inr (record { kept = none refl; held_back = held refl; waits = waits }); counts = counts }
+  has_turn (Some answer) old new before after budget later some none held waits counts =
+      record { turn = inl (record { answer = answer; visits = some; goes_on = waits }); counts = counts }
 
-  pub turns_more : (olds news : List RowGuest) (i : ℕ) (x y : RowGuest) (before between after : S)
+  pub turns_more : (olds news : List RowGuest) (i : ℕ) (x y : RowGuest) (before between after : S) (budget mid later : Budget)
       → length news ≡ length olds → i < length news → x ≡ get_or news i x
-      → HaveTurns relations now (take i olds) (take i news) before between × (drop i news ≡ drop i olds)
-      → HasTurn relations now x y between after
-      → HaveTurns relations now (take (i + 1) olds) (take (i + 1) (set news i y)) before after
+      → HaveTurns relations now (take i olds) (take i news) before between budget mid × (drop i news ≡ drop i olds)
+      → HasTurn relations now x y between after mid later
+      → HaveTurns relations now (take (i + 1) olds) (take (i + 1) (set news i y)) before after budget later
       × (drop (i + 1) (set news i y) ≡ drop (i + 1) olds)
-  turns_more olds news i x y before between after long inside is goes turn =
+  turns_more olds news i x y before between after budget mid later long inside is goes turn =
       let within : i < length olds = subst (λ n. i < n) long inside in
       let heads : get_or (drop i olds) 0 x ≡ get_or (drop i news) 0 x = ap (λ l. get_or l 0 x) (sym goes.1) in
       let none : i + 0 ≡ i = omega arith in
       let same : get_or olds i x ≡ x = cc (get_or-drop i olds 0 x, get_or-drop i news 0 x, heads, is, none) in
       let one : take (i + 1) olds ≡ take i olds ++ x ∷ [] =
       take_more olds i x within ∙ ap (λ (z : RowGuest). take i olds ++ z ∷ []) same in (
-        subst (λ l. HaveTurns relations now l (take (i + 1) (set news i y)) before after) (sym one)
-            (subst (λ l. HaveTurns relations now (take i olds ++ x ∷ []) l before after)
+        subst (λ l. HaveTurns relations now l (take (i + 1) (set news i y)) before after budget later) (sym one)
+            (subst (λ l. HaveTurns relations now (take i olds ++ x ∷ []) l before after budget later)
             (sym (take_more_set news i y inside)) (next goes.0 turn)),
         drop-set-lt (i + 1) news i y (omega arith) ∙ drop_more_same news olds i goes.1,
       )

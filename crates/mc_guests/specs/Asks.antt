@@ -1,15 +1,21 @@
 -- What a round does to the store, where guests that want much may be kept waiting.
-use Rattle.std.specs.Prelude.{◌≡◌, ◌⊎◌, ◌≤◌, ℕ, List, length, Some, IsFalse}
-use Rattle.mc_protocol.specs.Commands.{longest_key}
+use Rattle.std.specs.Prelude.{◌≡◌, ◌⊎◌, ◌-◌, ◌^◌, ℕ, List, [], length, min, Some, IsFalse}
+use Rattle.mc_protocol.specs.declared.step.KeyStep.{KeyStep}
 use Rattle.mc_protocol.specs.declared.step.KeyStep.TheVariants.{Read}
 use Rattle.mc_protocol.specs.declared.step.Steps.{Ghosts as Relations}
 use Rattle.mc_protocol.specs.declared.reply.Reply.{Reply}
+use Rattle.mc_protocol.specs.declared.reply.Reply.TheVariants.{Stored, NotStored, Exists, NotFound, Miss, Hit, Touched, Deleted, Number, NotNumeric, TooLarge, NoChunk, Flushed}
+use Rattle.mc_session.specs.Reading.{ReadsNext}
 use Rattle.mc_session.specs.Turns.{SessionState, closed}
-use Rattle.mc_guests.specs.Guests.{GuestState, has_ended, IsTurnDue}
+use Rattle.mc_guests.specs.Guests.{GuestState, has_ended}
 use Rattle.mc_guests.specs.Links.{failed}
 use Rattle.mc_guests.specs.Visits.{Visited}
 use Rattle.mc_guests.specs.declared.guest.Visit.{Visit}
 use Rattle.mc_guests.specs.declared.guest.Visit.TheVariants.{Broken}
+
+-- the greatest number of a counter; a counter that has it stays
+abbrev pub most : ℕ
+most = 2 ^ 64 - 1
 
 -- how many bytes a guest may hold, however much others do
 abbrev pub little : ℕ
@@ -26,11 +32,38 @@ pub record LosesLink (old new : GuestState) : Type 0 where
 abbrev pub StaysOrLosesLink : (old new : GuestState) → Type 0
 StaysOrLosesLink old new = (new ≡ old) ⊎ LosesLink old new
 
--- A session may name this key for its next turn: all output was written, and a turn is due. Which key it is, a session
--- doesn't state.
-pub record MayName (session : SessionState) (key : List ℕ) : Type 0 where
-  pub due : IsTurnDue session
-  pub short : length key ≤ longest_key
+-- a guest's session names this key for its next turn: all output was written, and that turn reads the key
+pub record NamesKey (session : SessionState) (key : List ℕ) : Type 0 where
+  pub written : session.out ≡ []
+  pub reads : ReadsNext session key
+
+-- the length of the block of a reply; only a hit has one
+abbrev pub block_length : Reply → ℕ
+block_length Stored = 0
+block_length NotStored = 0
+block_length Exists = 0
+block_length NotFound = 0
+block_length Miss = 0
+block_length (Hit flags unique block) = length block
+block_length Touched = 0
+block_length Deleted = 0
+block_length (Number number) = 0
+block_length NotNumeric = 0
+block_length TooLarge = 0
+block_length NoChunk = 0
+block_length Flushed = 0
+
+module _ {S : Type 0} (took : S → KeyStep → ℕ → Reply → S → Type 0) (now : ℕ) where
+  -- a key was read at that moment, and the block that was found has this length; 0 if none was
+  pub record ReadsLength (key : List ℕ) (bytes : ℕ) (before after : S) : Type 0 where
+    pub reply : Reply
+    pub took_it : took before (Read key) now reply after
+    pub length_is : bytes ≡ min (block_length reply) most
+
+-- a key was read at that moment, or the store holds the same
+abbrev pub MayRead : {S : Type 0} → (S → KeyStep → ℕ → Reply → S → Type 0) → (S → S → Type 0) → (now : ℕ) (key : List ℕ)
+    (before after : S) → Type 0
+MayRead took same now key before after = same before after ⊎ ((reply : Reply) × took before (Read key) now reply after)
 
 module _ {S : Type 0} (relations : Relations S) (now : ℕ) where
   -- a key that is named was read at that moment
@@ -45,23 +78,39 @@ module _ {S : Type 0} (relations : Relations S) (now : ℕ) where
   abbrev pub MayAsk : (names : List ℕ → Type 0) (before after : S) → Type 0
   MayAsk names before after = (after ≡ before) ⊎ (relations.same before after ⊎ ReadsKey names before after)
 
+  -- a key that is named was read, and the block that was found has this length
+  pub record ReadsNamed (names : List ℕ → Type 0) (bytes : ℕ) (before after : S) : Type 0 where
+    pub key : List ℕ
+    pub named : names key
+    pub reads : ReadsLength relations.took now key bytes before after
+
+  -- no key is named, and nothing was read
+  pub record NamesNone (names : List ℕ → Type 0) (bytes : ℕ) (before after : S) : Type 0 where
+    pub none : (key : List ℕ) → names key → ⊥
+    pub zero : bytes ≡ 0
+    pub store : after ≡ before
+
+  -- the block of the key that is named has this length, by a read at that moment; 0 if no key is named
+  abbrev pub MeasuresNext : (names : List ℕ → Type 0) (bytes : ℕ) (before after : S) → Type 0
+  MeasuresNext names bytes before after = ReadsNamed names bytes before after ⊎ NamesNone names bytes before after
+
   -- the store may have been asked how long the block of the guest's next key is, and then the guest was visited
   pub record AsksAndVisits (answer : Visit) (old new : GuestState) (before after : S) : Type 0 where
     pub between : S
-    pub asks : MayAsk (MayName old.session) before between
+    pub asks : MayAsk (NamesKey old.session) before between
     pub visits : Visited relations now answer old new between after
 
   -- the guest is kept waiting: it stays as it was or has ended with its link, and the store may have been asked how
   -- long the block of its next key is
   pub record IsKeptWaiting (old new : GuestState) (before after : S) : Type 0 where
     pub stays : StaysOrLosesLink old new
-    pub asks : MayAsk (MayName old.session) before after
+    pub asks : MayAsk (NamesKey old.session) before after
 
   -- A round: some guests were visited one after another, and the store goes from each to the next; of a guest that is
   -- kept waiting it may only have been asked how long a block is.
   pub data MakesRound : (before after : S) → Type 0 where
     nobody : {store : S} → MakesRound store store
     asks : {before between after : S} {session : SessionState} → MakesRound before between
-        → MayAsk (MayName session) between after → MakesRound before after
+        → MayAsk (NamesKey session) between after → MakesRound before after
     visits : {before between after : S} {answer : Visit} {old new : GuestState} → MakesRound before between
         → Visited relations now answer old new between after → MakesRound before after

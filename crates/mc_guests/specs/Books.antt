@@ -47,16 +47,17 @@ joined guest number row = record {
 abbrev pub StandsAt : ℕ → RowState → RowGuest → Type 0
 StandsAt at row guest = slice_get row.guests at ≡ Some guest
 
--- Guests in a row, of which so many are awake: the first ones. And whether one that is kept waiting may be tried
--- again, as memory came back.
+-- Guests in a row, of which so many are awake: the first ones. Whether one that is kept waiting may be tried again, as
+-- memory came back. And the share: the bytes that they may hold together.
 pub record BooksState : Type 0 where
   pub row : RowState
   pub awake : ℕ
   pub may_try : Bool
+  pub share : ℕ
 
--- no guests
-abbrev pub no_books : (may_try : Bool) → BooksState
-no_books may_try = record { row = nobody; awake = 0; may_try = may_try }
+-- no guests, with this share
+abbrev pub no_books : (share : ℕ) → BooksState
+no_books share = record { row = nobody; awake = 0; may_try = false; share = share }
 
 -- nobody is awake, and none that is kept waiting may be tried again
 abbrev pub quiet : BooksState → Bool
@@ -181,8 +182,9 @@ pub record LetsOn (old new : BooksState) : Type 0 where
   pub sees : tried ≡ record old { may_try = tried.may_try }
   pub wakes : WakesSome tried new
 
--- a round leaves those that sleep, all numbers, and who is awake
+-- a round leaves those that sleep, all numbers, who is awake, and the share
 pub record KeepsBooks (old new : BooksState) : Type 0 where
+  pub share : new.share ≡ old.share
   pub asleep : drop old.awake new.row.guests ≡ drop old.awake old.row.guests
   pub numbers : new.row.numbers ≡ old.row.numbers
   pub awake : new.awake ≡ old.awake

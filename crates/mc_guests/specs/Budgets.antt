@@ -1,12 +1,9 @@
 -- How much memory the guests of one worker may hold together.
-use Rattle.std.specs.Prelude.{◌≡◌, ◌⊎◌, ◌<◌, ◌≤◌, ℕ, ◌+◌, ◌-◌, ◌/◌, ◌^◌, ◌==◌, ◌&&◌, ◌||◌, Bool, true, false, cond, if◌then◌else◌, not, nat_lt, nat_le, min, max, IsTrue, IsFalse}
-use Rattle.mc_guests.specs.Asks.{little}
+use Rattle.std.specs.Prelude.{◌≡◌, ◌⊎◌, ◌<◌, ◌≤◌, ℕ, ◌+◌, ◌-◌, ◌/◌, ◌==◌, ◌&&◌, ◌||◌, Bool, true, false, cond, if◌then◌else◌, not, nat_lt, nat_le, min, max, List, length, IsTrue, IsFalse}
+use Rattle.std.specs.List.{sum_by}
+use Rattle.mc_guests.specs.Asks.{little, most}
 use Rattle.mc_guests.specs.Guests.{GuestState, RowGuest, has_ended}
 use Rattle.mc_guests.specs.declared.budget.Budget.{Budget}
-
--- the greatest number of a counter; a counter that has it stays
-abbrev pub most : ℕ
-most = 2 ^ 64 - 1
 
 -- a sum, at most the greatest number
 abbrev pub plus : ℕ → ℕ → ℕ
@@ -111,4 +108,35 @@ pub record Recounts (old new : RowGuest) (before after : Budget) : Type 0 where
       → after.waiting ≡ others + one_if new.waits
   pub large : (others : ℕ) → others < most → before.large ≡ others + one_if (is_large old.counted old.waits)
       → after.large ≡ others + one_if (is_large new.counted new.waits)
+  pub rest : rest_of after ≡ rest_of before
+
+-- the bytes for which guests are counted
+abbrev pub held_by : List RowGuest → ℕ
+held_by guests = sum_by (λ guest. guest.counted) guests
+
+-- how many guests wait
+abbrev pub waiting_of : List RowGuest → ℕ
+waiting_of guests = sum_by (λ guest. one_if guest.waits) guests
+
+-- how many guests go on and are counted for more than a little
+abbrev pub large_of : List RowGuest → ℕ
+large_of guests = sum_by (λ guest. one_if (is_large guest.counted guest.waits)) guests
+
+-- these are the sums over guests
+pub record AreSums (held waiting large : ℕ) (guests : List RowGuest) : Type 0 where
+  pub bytes : held ≡ held_by guests
+  pub waits : waiting ≡ waiting_of guests
+  pub larges : large ≡ large_of guests
+
+-- a budget counts these guests, each once, and nobody else
+abbrev pub CountsAll : Budget → List RowGuest → Type 0
+CountsAll budget guests = AreSums budget.held budget.waiting budget.large guests
+
+-- Guests are counted anew: beside what the budget counts of others it counts them as they are now.
+pub record RecountsAll (olds news : List RowGuest) (before after : Budget) : Type 0 where
+  pub held : (others : ℕ) → before.held ≡ others + held_by olds → after.held ≡ others + held_by news
+  pub waiting : (others : ℕ) → others + length olds ≤ most → before.waiting ≡ others + waiting_of olds
+      → after.waiting ≡ others + waiting_of news
+  pub large : (others : ℕ) → others + length olds ≤ most → before.large ≡ others + large_of olds
+      → after.large ≡ others + large_of news
   pub rest : rest_of after ≡ rest_of before

@@ -49,12 +49,18 @@ pub record LetsIn (greatest number : ℕ) (old new : BooksState) (before after :
   pub either : ((new ≡ let_in (welcomed greatest link) number old) × (after ≡ before))
       ⊎ ((new ≡ old) × (after ≡ record before { refused = one_more before.refused }))
 
--- nothing came, and those woke whose links were named; it rests if nobody was awake and none was
--- named
+-- those woke whose links were named after a rest; without a rest nothing changed
+abbrev pub WakesAfter : (rests : Bool) (talk : Talk) (old : BooksState) (later : Talk) (new : BooksState) → Type 0
+WakesAfter true talk old later new = WakesAllNamed talk old later new
+WakesAfter false talk old later new = (later ≡ talk) × (new ≡ old)
+
+-- Nothing came, and those woke whose links were named. It rests if nobody was awake and none was named, and then those
+-- woke whose links were named after that.
 pub record ComesNothing (is_quiet : Bool) (talk : Talk) (old : BooksState) (later : Talk) (new : BooksState) : Type 0 where
   pub last : Talk
-  pub wakes : WakesAllNamed talk old last new
-  pub rests : later ≡ record last { has_rested = is_quiet && last.names == 0 }
+  pub between : BooksState
+  pub wakes : WakesAllNamed talk old last between
+  pub rests : WakesAfter (is_quiet && last.names == 0) (record last { has_rested = is_quiet && last.names == 0 }) between later new
 
 -- a door at which no link was let in yet, for guests whose storage commands charge so much at most
 abbrev pub shut : ℕ → Door

@@ -1,4 +1,5 @@
 -- How a step came out.
+use Rattle.std.specs.Prelude.{ℕ, List, codes}
 use Rattle.mc_protocol.specs.declared.reply.Reply.{Reply}
 use Rattle.mc_protocol.specs.declared.reply.Reply.TheVariants as told
 use Rattle.mc_guests.specs.declared.tally.Outcome.{Outcome}
@@ -19,3 +20,7 @@ outcome_of told.NotNumeric = NotNumeric
 outcome_of told.TooLarge = TooLarge
 outcome_of told.NoChunk = NoChunk
 outcome_of told.Flushed = Flushed
+
+-- the answer to a request whose object is too large
+abbrev pub too_large : List ℕ
+too_large = codes "SERVER_ERROR object too large for cache\r\n"

@@ -3,7 +3,9 @@ use Rattle.std.specs.Prelude.{◌≡◌, ◌⊎◌, ℕ, List, [], ◌∷◌, �
 use Rattle.mc_protocol.specs.declared.step.Steps.{Ghosts as Relations}
 use Rattle.mc_guests.specs.Asks.{AsksAndVisits, IsKeptWaiting}
 use Rattle.mc_guests.specs.Books.{BooksState, LetsOn, KeepsBooks}
+use Rattle.mc_guests.specs.Budgets.{uncounted, IsHeldBack, Recounts, CountsAll}
 use Rattle.mc_guests.specs.Guests.{RowGuest}
+use Rattle.mc_guests.specs.declared.budget.Budget.{Budget}
 use Rattle.mc_guests.specs.declared.guest.Visit.{Visit}
 
 module _ {S : Type 0} (relations : Relations S) (now : ℕ) where
@@ -13,25 +15,32 @@ module _ {S : Type 0} (relations : Relations S) (now : ℕ) where
     pub visits : AsksAndVisits relations now answer old.guest new.guest before after
     pub goes_on : IsFalse new.waits
 
-  -- a guest is kept waiting, and waits for room
-  pub record WaitsForRoom (old new : RowGuest) (before after : S) : Type 0 where
+  -- a guest is kept waiting, and waits for room: it has ended, or lacks room beside what the budget counts of the others
+  pub record WaitsForRoom (old new : RowGuest) (before after : S) (budget : Budget) : Type 0 where
     pub kept : IsKeptWaiting relations now old.guest new.guest before after
+    pub held_back : IsHeldBack new.guest (uncounted old.counted old.waits budget)
     pub waits : IsTrue new.waits
 
-  -- a guest was visited, or is kept waiting
-  abbrev pub HasTurn : (old new : RowGuest) (before after : S) → Type 0
-  HasTurn old new before after = IsVisited old new before after ⊎ WaitsForRoom old new before after
+  -- a guest was visited, or is kept waiting, and the budget counts it anew
+  pub record HasTurn (old new : RowGuest) (before after : S) (budget later : Budget) : Type 0 where
+    pub turn : IsVisited old new before after ⊎ WaitsForRoom old new before after budget
+    pub counts : Recounts old new budget later
 
-  -- the guests have their turns in order, once each, and the store goes from each to the next
-  pub data HaveTurns : (old new : List RowGuest) (before after : S) → Type 0 where
-    nobody : {store : S} → HaveTurns [] [] store store
-    next : {olds news : List RowGuest} {old new : RowGuest} {before between after : S}
-        → HaveTurns olds news before between → HasTurn old new between after
-        → HaveTurns (olds ++ old ∷ []) (news ++ new ∷ []) before after
+  -- the guests have their turns in order, once each; the store and the budget go from each to the next
+  pub data HaveTurns : (old new : List RowGuest) (before after : S) (budget later : Budget) → Type 0 where
+    nobody : {store : S} {budget : Budget} → HaveTurns [] [] store store budget budget
+    next : {olds news : List RowGuest} {old new : RowGuest} {before between after : S} {budget mid later : Budget}
+        → HaveTurns olds news before between budget mid → HasTurn old new between after mid later
+        → HaveTurns (olds ++ old ∷ []) (news ++ new ∷ []) before after budget later
 
-  -- those that are awake have their turns, and who sleeps, all numbers, and who is awake stay
+  -- Those that are awake have their turns, by a budget of the guests' share that counts all guests. Who sleeps, all
+  -- numbers, and who is awake stay.
   pub record VisitsAwake (old new : BooksState) (before after : S) : Type 0 where
-    pub turns : HaveTurns (take old.awake old.row.guests) (take old.awake new.row.guests) before after
+    pub budget : Budget
+    pub later : Budget
+    pub share : budget.share ≡ old.share
+    pub counts : CountsAll budget old.row.guests
+    pub turns : HaveTurns (take old.awake old.row.guests) (take old.awake new.row.guests) before after budget later
     pub keeps : KeepsBooks old new
 
   -- some that are kept waiting may have been woken, and then all that were awake had their turns

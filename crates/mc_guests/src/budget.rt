@@ -1,9 +1,10 @@
 //! How much memory the guests of one worker may hold together.
 
 ghost use Rattle.std.specs.Prelude.{◌≡◌, ◌-◌, min, IsTrue, IsFalse};
-ghost use Rattle.mc_guests.specs.Budgets.{most, unused, fits, has_left, is_tight, is_kept_for_one};
+ghost use Rattle.mc_guests.specs.Asks.{most};
+ghost use Rattle.mc_guests.specs.Budgets.{unused, fits, has_left, is_tight, is_kept_for_one};
 ghost use Rattle.mc_guests.specs.Budgets.{may_try, is_retry_due, retried, to_judge};
-ghost use Rattle.mc_guests.specs.Budgets.{is_large, one_if, uncounted, counted_too};
+ghost use Rattle.mc_guests.specs.Budgets.{is_large, one_if, rest_of, uncounted, counted_too};
 
 /// The bytes that a guest may always hold, whatever others hold.
 pub const LITTLE: usize = 16_384;
@@ -54,6 +55,17 @@ impl Budget {
             tried: 0,
             judged: 0,
         }
+    }
+
+    /// Returns the budget without guests.
+    pub(crate) fn without_guests(mut self) -> Budget
+        ensures { result ≡ rest_of self }
+    {
+        self.held = 0;
+        self.large = 0;
+        self.waiting = 0;
+        self.is_eased = false;
+        self
     }
 
     /// Returns whether there is room for one more guest that wants `wanted` bytes.

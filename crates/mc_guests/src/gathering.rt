@@ -3,14 +3,14 @@
 //! Output is gathered up to 64 KiB and sent before the next read, so a batch costs one receive and
 //! one send. A piece of 32 KiB or more is sent from where it lies, in one call with what was
 //! gathered. A connection with unsent output isn't read.
-ghost use Rattle.mc_parse.specs.Queues.{first_piece};
+ghost use Rattle.mc_bytes.specs.Queues.{first_piece};
 ghost use Rattle.std.specs.Prelude.{◌≡◌, ◌≤◌, ◌↔◌, ◌-◌, ◌^◌, ◌++◌, [], length, Ok, IsTrue, IsFalse, true, false};
 ghost use Rattle.mc_guests.specs.Links.{Gives, IsWrite};
 ghost use Rattle.mc_guests.specs.Gathered.{over, whole, turned, IsFront, Flushes, Gathers, AfterAll};
 ghost use Rattle.mc_guests.specs.Gathered.{WaitsBelow};
 
 use crate::link::{Got, Link, LinkFault, Took};
-use mc_parse::Queue;
+use mc_bytes::Queue;
 use std::alloc::Global;
 use std::marker::Model;
 
@@ -48,12 +48,12 @@ impl<L: Link + Drop> Model for Gathering<L> {
 
     ghost view = { λ g. record {
       link = L.shown g.link;
-      gathered = g.gathered;
+      gathered = g.gathered.bytes;
       was_read = g.was_read;
       requested = g.requested;
     } };
 
-    ghost invariant = { λ g. length g.gathered ≤ 65536 };
+    ghost invariant = { λ g. length g.gathered.bytes ≤ 65536 };
 }
 
 impl<L: Link + Drop> Gathering<L> {
@@ -240,6 +240,10 @@ impl<L: Link + Drop> Link for Gathering<L> {
             }
             Err(LinkFault) => Err(LinkFault),
         }
+    }
+
+    fn refused(&mut self) {
+        self.link.refused();
     }
 
     fn faults(&self) -> u64 {

@@ -3,17 +3,18 @@
 //! A visit that reads the end of the stream answers `Served` in that visit; a visit of an ended
 //! guest changes nothing, so `visit` has no premise. A guest reads 2048 bytes at first and 16384
 //! once a read filled that, so an idle connection holds little.
-ghost use Rattle.std.specs.Prelude.{◌≡◌, ◌⊎◌, ◌<◌, ◌≤◌, length, IfOk, IfSome, Some, None, [], IsTrue, IsFalse};
+ghost use Rattle.std.specs.Prelude.{◌≡◌, ◌↔◌, ◌⊎◌, ◌<◌, ◌≤◌, ℕ, List, length, option_copied, IfOk, IfSome, Some, None, [], IsTrue, IsFalse};
 ghost use Rattle.mc_protocol.specs.Commands.{longest_key};
 ghost use Rattle.mc_session.specs.Resting.{resting};
 ghost use Rattle.mc_guests.specs.Guests.{welcomed, has_ended, ends, IsWaiting};
 ghost use Rattle.mc_guests.specs.Visits.{Visited, Does, Writes, Reads};
 ghost use Rattle.mc_guests.specs.Asks.{StaysOrLosesLink};
+ghost use Rattle.mc_guests.specs.Outcomes.{too_large};
 
 use crate::link::{Link, LinkFault, Took};
 use crate::measure::Naming;
 use crate::tap::{LONGEST_PIECE, Tap, Tapped};
-use mc_parse::FIRST_PIECE;
+use mc_bytes::FIRST_PIECE;
 use mc_protocol::Steps;
 use mc_session::{Session, Turn};
 use mc_time::Moment;
@@ -97,6 +98,7 @@ impl<L: Link + Drop> Guest<L> {
         } else {
             self.write_out()
         };
+        self.tell_link(answer);
         self.last = Some(answer);
         answer
     }
@@ -188,6 +190,29 @@ impl<L: Link + Drop> Guest<L> {
         } else {
             0
         }
+    }
+
+    /// Records at its link that memory was refused, if a visit with this answer says so.
+    fn tell_link(&mut self, answer: Visit)
+        ensures { self.new ≡ self.old }
+    {
+        if answer == Visit::Refused {
+            self.refuse();
+        }
+    }
+
+    /// Records at its link that memory was refused.
+    pub(crate) fn refuse(&mut self)
+        ensures { self.new ≡ self.old }
+    {
+        self.tap.link.refused();
+    }
+
+    /// Returns whether its output is the answer to a request whose object is too large.
+    pub(crate) fn is_told_too_large(&self) -> bool
+        ensures { IsTrue result ↔ (self.now.session.out ≡ too_large) }
+    {
+        self.session.out() == b"SERVER_ERROR object too large for cache\r\n".as_slice()
     }
 
     /// Returns what ended it.
@@ -292,17 +317,19 @@ impl<L: Link + Drop> Guest<L> {
 }
 
 impl<L: Link + Drop> Naming for Guest<L> {
-    ghost use Rattle.mc_guests.specs.Asks.{MayName};
+    ghost use Rattle.mc_guests.specs.Asks.{NamesKey};
 
-    ghost names = { λ guest key. MayName guest.session key };
+    ghost names = { λ guest key. NamesKey guest.session key };
 
     /// Lends the key of the next turn, if that is one of a retrieval and no output is written
     /// first.
     fn key(&self) -> Option<&[u8]>
-        ensures named { IfSome result (λ key. MayName self.now.session key.now) }
+        ensures named { IfSome result (λ key. NamesKey self.now.session key.now) }
+        ensures all { (key : List ℕ) → NamesKey self.now.session key →
+            option_copied result ≡ Some key }
         ensures short { IfSome result (λ key. length key.now ≤ longest_key) }
     {
-        if !self.session.out().is_empty() || self.session.is_closed() {
+        if !self.session.out().is_empty() {
             return None;
         }
         self.session.key()

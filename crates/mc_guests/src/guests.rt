@@ -7,7 +7,6 @@ ghost use Rattle.std.specs.Prelude.{◌≡◌, ◌↔◌, ◌<◌, ◌≤◌, le
 ghost use Rattle.mc_guests.specs.Asks.{MakesRound};
 ghost use Rattle.mc_guests.specs.Guests.{welcomed, has_ended, is_later, is_to_sleep};
 ghost use Rattle.mc_guests.specs.Books.{no_books, quiet, woken, put_behind, let_in, counted};
-ghost use Rattle.mc_guests.specs.Budgets.{may_try};
 ghost use Rattle.mc_guests.specs.Books.{SleepsAt, StandsAt, IsFateOf, is_over, is_asleep};
 ghost use Rattle.mc_guests.specs.Books.{Wakes, WakesSome, MayWake, LetsOn, LetsGo, Settles, SettlesFrom};
 ghost use Rattle.mc_guests.specs.Turns.{VisitsAll, VisitsAwake};
@@ -15,7 +14,9 @@ ghost use Rattle.mc_guests.specs.Turns.{VisitsAll, VisitsAwake};
 use crate::budget::Budget;
 use crate::guest::{Guest, Visit};
 use crate::link::Link;
+use crate::reports::Reports;
 use crate::row::Row;
+use crate::tally::Tally;
 use crate::weighed::{Judged, Line};
 use mc_protocol::Steps;
 use mc_time::Moment;
@@ -38,7 +39,7 @@ pub struct WorkEnd {
 ///
 /// A guest whose last answer was `Later` sleeps, and so does one that waits for room. A sleeping
 /// guest wakes when its link is named. Contracts see all guests, the numbers of their
-/// links, and how many are awake.
+/// links, how many are awake, and the share. The budget counts each guest once.
 #[derive(Drop)]
 pub struct Guests<L: Link + Drop> {
     row: Row<L>,
@@ -50,18 +51,25 @@ pub struct Guests<L: Link + Drop> {
     is_last: bool,
     /// Whether a waiting guest isn't in the queue, because memory was refused.
     has_strays: bool,
+    /// The bytes held and the number of waiting guests, as they were last reported.
+    reported: (usize, usize),
 }
 
 impl<L: Link + Drop> Model for Guests<L> {
     ghost use Rattle.std.specs.Prelude.{◌≤◌, length};
     ghost use Rattle.mc_guests.specs.Books.{BooksState};
-    ghost use Rattle.mc_guests.specs.Budgets.{may_try};
+    ghost use Rattle.mc_guests.specs.Budgets.{may_try, CountsAll};
 
     ghost Value = { BooksState };
 
-    ghost view = { λ g. record { row = g.row; awake = g.awake; may_try = may_try g.budget } };
+    ghost view = { λ g. record {
+      row = g.row;
+      awake = g.awake;
+      may_try = may_try g.budget;
+      share = g.budget.share;
+    } };
 
-    ghost invariant = { λ g. g.awake ≤ length g.row.guests };
+    ghost invariant = { λ g. (g.awake ≤ length g.row.guests) × CountsAll g.budget g.row.guests };
 }
 
 /// The most waiting guests that one retry looks at.
@@ -78,17 +86,18 @@ enum Fate {
 }
 
 impl<L: Link + Drop> Guests<L> {
-    /// Makes an empty collection of guests with this budget. It takes no memory.
+    /// Makes an empty collection of guests with the share of this budget. It takes no memory.
     pub fn new(alloc: Global, budget: Budget) -> Guests<L>
-        ensures { result ≡ no_books (may_try budget) }
+        ensures { result ≡ no_books budget.share }
     {
         Guests {
             row: Row::new(alloc),
             awake: 0,
-            budget,
+            budget: budget.without_guests(),
             queue: VecDeque::new(alloc),
             is_last: false,
             has_strays: false,
+            reported: (0, 0),
         }
     }
 
@@ -128,7 +137,7 @@ impl<L: Link + Drop> Guests<L> {
 
     /// Visits each awake guest once. Before, wakes waiting guests that find room, if memory came
     /// back or a tick has passed.
-    pub fn visit_all<S: Steps>(&mut self, alloc: Global, store: &mut S, now: Moment)
+    pub fn visit_all<S: Reports>(&mut self, alloc: Global, store: &mut S, now: Moment)
         ensures round { MakesRound S.Steps now store.old store.new }
         ensures visits { VisitsAll S.Steps now self.old self.new store.old store.new }
     {
@@ -137,7 +146,7 @@ impl<L: Link + Drop> Guests<L> {
     }
 
     /// Visits each awake guest once.
-    fn visit_awake<S: Steps>(&mut self, alloc: Global, store: &mut S, now: Moment)
+    fn visit_awake<S: Reports>(&mut self, alloc: Global, store: &mut S, now: Moment)
         ensures round { MakesRound S.Steps now store.old store.new }
         ensures visits { VisitsAwake S.Steps now self.old self.new store.old store.new }
     {
@@ -348,6 +357,17 @@ impl<L: Link + Drop> Guests<L> {
     /// Returns the number of waiting guests.
     pub fn waiting_guests(&self) -> usize {
         self.budget.waiting
+    }
+
+    /// Reports the bytes held and the number of waiting guests to a tally, if one of both changed.
+    pub fn report<T: Tally>(&mut self, tally: &T)
+        ensures { self.new ≡ self.old }
+    {
+        let (held, waiting) = (self.budget.held, self.budget.waiting);
+        if self.reported != (held, waiting) {
+            self.reported = (held, waiting);
+            tally.holds(held, waiting);
+        }
     }
 
     /// Returns how many slow guests to judge now: once a tick, as many as wait, at most 16.

@@ -11,8 +11,9 @@
 //! a turn, else reads; [`round`] visits each guest once. [`Guests`] are those of one thread: a
 //! guest that answered `Later` sleeps until its link is named, and a guest that wants much memory
 //! waits while others use up their [`Budget`]. Guests come through a [`Door`], which gets links
-//! between two rounds. A [`Tally`] gets each step. [`Gathering`] is a link that makes one large
-//! write of many small ones.
+//! between two rounds. A [`Tally`] gets each step, each request that is too large, and what the
+//! guests hold; a store that [`Reports`] passes them on, and measures blocks without a report.
+//! [`Gathering`] is a link that makes one large write of many small ones.
 //!
 //! Contracts see the bytes that a link gave and took, unless they are unspecified, and describe a
 //! round visit by visit: which guests were visited, ended and came. By the laws, what a link took
@@ -34,6 +35,7 @@ mod links;
 mod measure;
 mod numbers;
 mod pace;
+mod reports;
 mod rounds;
 mod row;
 mod talk;
@@ -49,6 +51,8 @@ pub use guests::{Guests, WorkEnd};
 pub use laws::{links_are_answered_what_they_gave, links_take_texts_of_turns, rounds_are_visits};
 pub use link::{Got, Link, LinkFault, Took};
 pub use links::{Links, Next};
+pub use measure::length_at;
+pub use reports::Reports;
 pub use rounds::round;
 pub use talk::{Came, Talk};
 pub use tally::{NoTally, Outcome, Tally};

@@ -69,6 +69,11 @@ pub trait Link {
         Ok(())
     }
 
+    /// Records that its guest ends because memory was refused. Does nothing by default.
+    fn refused(&mut self)
+        ensures { shown self.new ≡ shown self.old }
+    {}
+
     /// Returns the number of its faults.
     fn faults(&self) -> u64
         ensures { result ≡ (shown self.now).faults };

@@ -1,37 +1,41 @@
 //! The length of a block before it is delivered.
-ghost use Rattle.std.specs.Prelude.{◌≡◌, ◌≤◌, length};
+ghost use Rattle.std.specs.Prelude.{◌≡◌, ◌≤◌, length, min, IfOk, OnErr};
+ghost use Rattle.std.specs.List.{concat};
 ghost use Rattle.mc_protocol.specs.Commands.{longest_key};
-ghost use Rattle.mc_guests.specs.Asks.{MayAsk};
+ghost use Rattle.mc_guests.specs.Asks.{block_length, most, MayRead, ReadsLength, MeasuresNext, MayAsk};
 
+use crate::reports::Reports;
 use mc_protocol::{Answer, Bytes, KeyStep, Reply, Steps, Unanswered};
 use mc_time::Moment;
 use std::alloc::{AllocError, Global};
-use std::cell::Cell;
 
-/// Notes the length of a block that would be delivered, and accepts no reply.
+/// Notes the length of the block of a reply.
 #[derive(Drop)]
-struct Measure<'a> {
-    length: &'a Cell<usize>,
+struct Measure {
+    length: usize,
 }
 
-impl<'a> Answer for Measure<'a> {
-    ghost told = { λ _ _ _. Unit {0} };
+impl Answer for Measure {
+    ghost use Rattle.std.specs.Prelude.{◌≡◌, min};
+    ghost use Rattle.mc_guests.specs.Asks.{block_length};
+
+    ghost told = { λ old reply new. new.length ≡ min (block_length reply) most };
 
     fn hit(&mut self, _flags: u32, _unique: u64, parts: &[Bytes<'_>]) -> Result<(), AllocError> {
-        self.length.set(length_of(parts));
-        Err(AllocError)
+        self.length = length_of(parts);
+        Ok(())
     }
 
     fn reply(&mut self, reply: &Reply) -> Result<(), AllocError> {
-        if let Reply::Hit { block, .. } = reply {
-            self.length.set(block.bytes().len());
-        }
-        Err(AllocError)
+        self.length = length_in(reply);
+        Ok(())
     }
 }
 
-/// Returns the number of bytes of parts.
-fn length_of(parts: &[Bytes<'_>]) -> usize {
+/// Returns the number of bytes of parts, at most 2^64 - 1.
+fn length_of(parts: &[Bytes<'_>]) -> usize
+    ensures { result ≡ min (length (concat parts.now)) most }
+{
     let mut counted = 0usize;
     for part in parts {
         counted = counted.saturating_add(part.as_slice().len());
@@ -39,53 +43,81 @@ fn length_of(parts: &[Bytes<'_>]) -> usize {
     counted
 }
 
+/// Returns the length of the block of a reply, or 0 if it has none.
+fn length_in(reply: &Reply) -> usize
+    ensures { result ≡ min (block_length reply.now) most }
+{
+    match reply {
+        Reply::Hit { block, .. } => block.bytes().len(),
+        Reply::Stored
+        | Reply::NotStored
+        | Reply::Exists
+        | Reply::NotFound
+        | Reply::Miss
+        | Reply::Touched
+        | Reply::Deleted
+        | Reply::Number(_)
+        | Reply::NotNumeric
+        | Reply::TooLarge
+        | Reply::NoChunk
+        | Reply::Flushed => 0,
+    }
+}
+
 /// What lends the key of its next turn.
 pub trait Naming {
-    ghost use Rattle.std.specs.Prelude.{◌≤◌, ℕ, List, length, IfSome};
+    ghost use Rattle.std.specs.Prelude.{◌≡◌, ◌≤◌, ℕ, List, length, option_copied, IfSome, Some};
     ghost use Rattle.mc_protocol.specs.Commands.{longest_key};
 
-    /// This may be the key of its next turn.
+    /// This is the key of its next turn.
     ghost names: { Self → List ℕ → Type 0 };
 
     /// Lends the key of the next turn, if that is one of a retrieval.
     fn key(&self) -> Option<&[u8]>
         ensures named { IfSome result (λ key. names self.now key.now) }
+        ensures all { (key : List ℕ) → names self.now key → option_copied result ≡ Some key }
         ensures short { IfSome result (λ key. length key.now ≤ longest_key) };
 }
 
-/// Returns the length of the block that the next turn would deliver at this moment, or 0.
+/// Returns the length of the block that the next turn would deliver at this moment, or 0 if it
+/// delivers none.
 ///
 /// The store is asked once at most, for the key that is lent.
-pub fn next_length<N: Naming, S: Steps>(
+pub fn next_length<N: Naming, S: Reports>(
     alloc: Global,
     store: &mut S,
     naming: &N,
     now: Moment,
-) -> usize
-    ensures { MayAsk S.Steps now (N.names naming.now) store.old store.new }
+) -> Result<usize, Unanswered>
+    ensures ok { IfOk result (λ bytes.
+        MeasuresNext S.Steps now (N.names naming.now) bytes store.old store.new) }
+    ensures asks { MayAsk S.Steps now (N.names naming.now) store.old store.new }
 {
     match naming.key() {
-        Some(key) => block_length(alloc, store, key, now),
-        None => 0,
+        Some(key) => store.length_at(alloc, key, now),
+        None => Ok(0),
     }
 }
 
-/// Returns the length of the block that a get of this key would deliver at this moment.
+/// Returns the length of the block that a get of this key finds at this moment, or 0 if it finds
+/// none.
 ///
-/// A hit whose block could be delivered in place isn't taken for that.
-fn block_length<S: Steps>(alloc: Global, store: &mut S, key: &[u8], now: Moment) -> usize
+/// It is a read of the key. After an error the key was read at most.
+pub fn length_at<S: Steps>(
+    alloc: Global,
+    store: &mut S,
+    key: &[u8],
+    now: Moment,
+) -> Result<usize, Unanswered>
     requires { length key.now ≤ longest_key }
-    ensures { MayAsk S.Steps now (λ asked. asked ≡ key.now) store.old store.new }
+    ensures ok { IfOk result (λ bytes.
+        ReadsLength S.took now key.now bytes store.old store.new) }
+    ensures err { OnErr result (MayRead S.took S.same now key.now store.old store.new) }
 {
-    let noted = Cell::new(0usize);
     let step = KeyStep::Read {
         key: Bytes::of(key),
     };
-    let mut measure = Measure { length: &noted };
-    match store.step_telling(alloc, &step, now, &mut measure) {
-        Ok(()) => noted.get(),
-        Err(Unanswered::Untold) => noted.get(),
-        Err(Unanswered::NumbersSpent) => 0,
-        Err(Unanswered::NoMemory) => noted.get(),
-    }
+    let mut measure = Measure { length: 0 };
+    store.step_telling(alloc, &step, now, &mut measure)?;
+    Ok(measure.length)
 }

@@ -1,11 +1,13 @@
 //! Rounds over guests.
 ghost use Rattle.mc_guests.specs.Asks.{MakesRound};
+ghost use Rattle.mc_guests.specs.Budgets.{RecountsAll};
 ghost use Rattle.mc_guests.specs.Turns.{HaveTurns};
 ghost use Rattle.mc_guests.specs.Visits.{GoesRound};
 
 use crate::budget::Budget;
 use crate::guest::Guest;
 use crate::link::Link;
+use crate::reports::Reports;
 use crate::weighed::Weighed;
 use mc_protocol::Steps;
 use mc_time::Moment;
@@ -30,7 +32,7 @@ pub fn round<L: Link + Drop, S: Steps>(
 /// Visits each guest once, first to last, within the budget.
 ///
 /// A guest that wants much waits if the budget has no room for it.
-pub(crate) fn round_within<L: Link + Drop, S: Steps>(
+pub(crate) fn round_within<L: Link + Drop, S: Reports>(
     alloc: Global,
     guests: &mut [Weighed<L>],
     store: &mut S,
@@ -38,7 +40,9 @@ pub(crate) fn round_within<L: Link + Drop, S: Steps>(
     budget: &mut Budget,
 )
     ensures round { MakesRound S.Steps now store.old store.new }
-    ensures turns { HaveTurns S.Steps now guests.old guests.new store.old store.new }
+    ensures turns { HaveTurns S.Steps now guests.old guests.new store.old store.new budget.old
+        budget.new }
+    ensures counts { RecountsAll guests.old guests.new budget.old budget.new }
 {
     for guest in guests.iter_mut() {
         guest.visit(alloc, store, now, budget);

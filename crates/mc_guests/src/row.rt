@@ -4,6 +4,7 @@
 //! and how many are awake, the first ones. So a contract names which guest wakes, sleeps and ends.
 ghost use Rattle.std.specs.Prelude.{◌≡◌, ◌<◌, ◌≤◌, ◌-◌, ◌++◌, ◌∷◌, ℕ, [], take, drop, length, Some, IfSome, IsTrue, IsFalse, false};
 ghost use Rattle.mc_guests.specs.Asks.{MakesRound};
+ghost use Rattle.mc_guests.specs.Budgets.{CountsAll, RecountsAll};
 ghost use Rattle.mc_guests.specs.Turns.{HaveTurns};
 ghost use Rattle.mc_guests.specs.Books.{nobody, swapped, cut, joined, HasNumber, StandsAt};
 ghost use Rattle.mc_guests.specs.Guests.{newcomer};
@@ -12,11 +13,12 @@ use crate::budget::Budget;
 use crate::guest::Guest;
 use crate::link::Link;
 use crate::numbers::Numbers;
+use crate::reports::Reports;
 use crate::rounds::round_within;
 use crate::weighed::{Judged, Line, Weighed};
 use mc_protocol::Steps;
 use mc_time::Moment;
-use std::alloc::Global;
+use std::alloc::{AllocFailed, Global};
 use std::marker::Model;
 
 /// Guests in a row. Contracts see them, and the number of each one's link.
@@ -76,7 +78,10 @@ impl<L: Link + Drop> Row<L> {
     /// Drops the last guest, which is no longer counted.
     pub fn pop(&mut self, budget: &mut Budget)
         requires { 0 < length self.old.guests }
-        ensures { self.new ≡ cut (length self.old.guests - 1) self.old }
+        ensures cut { self.new ≡ cut (length self.old.guests - 1) self.old }
+        ensures counts { CountsAll budget.old self.old.guests →
+            CountsAll budget.new self.new.guests }
+        ensures share { budget.new.share ≡ budget.old.share }
     {
         let Some(mut guest) = self.guests.pop() else {
             return;
@@ -146,7 +151,7 @@ impl<L: Link + Drop> Row<L> {
     }
 
     /// Visits each of the first `count` guests once, within the budget.
-    pub fn visit_front<S: Steps>(
+    pub fn visit_front<S: Reports>(
         &mut self,
         alloc: Global,
         count: usize,
@@ -157,11 +162,15 @@ impl<L: Link + Drop> Row<L> {
         requires { count ≤ length self.old.guests }
         ensures round { MakesRound S.Steps now store.old store.new }
         ensures turns { HaveTurns S.Steps now (take count self.old.guests)
-            (take count self.new.guests) store.old store.new }
+            (take count self.new.guests) store.old store.new budget.old budget.new }
+        ensures counts { CountsAll budget.old self.old.guests →
+            CountsAll budget.new self.new.guests }
+        ensures share { budget.new.share ≡ budget.old.share }
         ensures rest { drop count self.new.guests ≡ drop count self.old.guests }
         ensures all { length self.new.guests ≡ length self.old.guests }
         ensures numbers { self.new.numbers ≡ self.old.numbers }
     {
+        let _all = self.guests.len();
         visit_front_of(alloc, self.guests.as_mut_slice(), count, store, now, budget);
     }
 
@@ -180,7 +189,7 @@ impl<L: Link + Drop> Row<L> {
 }
 
 /// Visits each of the first `count` guests once, within the budget.
-fn visit_front_of<L: Link + Drop, S: Steps>(
+fn visit_front_of<L: Link + Drop, S: Reports>(
     alloc: Global,
     guests: &mut [Weighed<L>],
     count: usize,
@@ -191,7 +200,9 @@ fn visit_front_of<L: Link + Drop, S: Steps>(
     requires { count ≤ length guests.old }
     ensures round { MakesRound S.Steps now store.old store.new }
     ensures turns { HaveTurns S.Steps now (take count guests.old) (take count guests.new) store.old
-        store.new }
+        store.new budget.old budget.new }
+    ensures counts { RecountsAll (take count guests.old) (take count guests.new) budget.old
+        budget.new }
     ensures rest { drop count guests.new ≡ drop count guests.old }
     ensures all { length guests.new ≡ length guests.old }
 {
@@ -205,12 +216,19 @@ fn push_behind<L: Link + Drop>(guests: &mut Vec<Weighed<L>>, guest: Guest<L>) ->
         guests.new.items ≡ guests.old.items ++ newcomer guest ∷ [] }
     ensures refused { IsFalse result → guests.new.items ≡ guests.old.items }
 {
-    guests.push(Weighed::new(guest)).is_ok()
+    match guests.push(Weighed::new(guest)) {
+        Ok(()) => true,
+        Err(AllocFailed { mut value }) => {
+            value.refuse();
+            false
+        }
+    }
 }
 
 /// Drops a guest that isn't put into the row, and returns false.
-fn turned_away<L: Link + Drop>(_guest: Guest<L>) -> bool
+fn turned_away<L: Link + Drop>(mut guest: Guest<L>) -> bool
     ensures { result ≡ false }
 {
+    guest.refuse();
     false
 }

@@ -112,6 +112,7 @@ impl Talk {
     }
 
     /// Wakes the guests whose links are named, and rests if nobody was awake and none was named.
+    /// After a rest it wakes those whose links are named then.
     pub(crate) fn wait<L: Link + Drop, Q: Links<L>>(
         &mut self,
         links: &mut Q,
@@ -122,17 +123,22 @@ impl Talk {
         ensures { ComesNothing is_quiet self.old guests.old self.new guests.new }
     {
         self.wake_named(links, guests);
-        self.rest_if(links, is_quiet);
+        if self.rest_if(links, is_quiet) {
+            self.wake_named(links, guests);
+        }
     }
 
-    /// Rests if nobody was awake and none was named.
-    fn rest_if<L: Link + Drop, Q: Links<L>>(&mut self, links: &mut Q, is_quiet: bool)
-        ensures { self.new ≡ record self.old { has_rested = is_quiet && self.old.names == 0 } }
+    /// Rests if nobody was awake and none was named, and returns whether it did.
+    fn rest_if<L: Link + Drop, Q: Links<L>>(&mut self, links: &mut Q, is_quiet: bool) -> bool
+        ensures rests { result ≡ (is_quiet && self.old.names == 0) }
+        ensures notes { self.new ≡ record self.old { has_rested = result } }
+        ensures none { IsTrue result → self.new.names ≡ 0 }
     {
         let rests = is_quiet && self.names == 0;
         self.has_rested = rests;
         if rests {
             links.rest();
         }
+        rests
     }
 }

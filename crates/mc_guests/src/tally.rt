@@ -46,10 +46,18 @@ impl Outcome {
     }
 }
 
-/// A receiver of the steps that are taken.
+/// A receiver of what a worker counts.
 pub trait Tally {
     /// Gets a step that was taken, with its outcome.
     fn took(&self, step: &KeyStep<'_>, outcome: Outcome);
+
+    /// Gets a request that was answered `SERVER_ERROR object too large for cache`, whether its line
+    /// announced too much or its step was refused. Does nothing by default.
+    fn too_large(&self) {}
+
+    /// Gets the bytes that a worker's guests hold, and the number of guests that wait for room.
+    /// It is called once a round if one of both changed; both begin at 0. Does nothing by default.
+    fn holds(&self, _held: usize, _waiting: usize) {}
 }
 
 /// A tally that does nothing.

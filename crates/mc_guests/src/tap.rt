@@ -3,7 +3,7 @@ ghost use Rattle.std.specs.Prelude.{IsTrue};
 ghost use Rattle.mc_guests.specs.Links.{IsRoom};
 
 use crate::link::{Got, Link, LinkFault};
-use mc_parse::Source;
+use mc_bytes::Source;
 
 /// The most bytes of a read.
 pub const LONGEST_PIECE: usize = 16384;

@@ -9,7 +9,7 @@ ghost use Rattle.std.specs.Prelude.{◌≡◌, ◌<◌, ◌≤◌, length, not, 
 ghost use Rattle.std.specs.Prelude.{IsTrue, IsFalse};
 ghost use Rattle.mc_protocol.specs.Commands.{longest_key};
 ghost use Rattle.mc_guests.specs.Asks.{AsksAndVisits, IsKeptWaiting, StaysOrLosesLink};
-ghost use Rattle.mc_guests.specs.Asks.{little, MayAsk, MayName};
+ghost use Rattle.mc_guests.specs.Asks.{little, MayAsk, NamesKey};
 ghost use Rattle.mc_guests.specs.Budgets.{uncounted, counted_too, IsHeldBack, Recounts};
 ghost use Rattle.mc_guests.specs.Guests.{newcomer, has_ended};
 ghost use Rattle.mc_guests.specs.Visits.{Visited};
@@ -19,6 +19,7 @@ use crate::guest::{Guest, Visit};
 use crate::link::Link;
 use crate::measure::next_length;
 use crate::pace::Pace;
+use crate::reports::Reports;
 use mc_protocol::Steps;
 use mc_time::Moment;
 use std::alloc::Global;
@@ -174,6 +175,13 @@ impl<L: Link + Drop> Weighed<L> {
         }
     }
 
+    /// Records at its link that memory was refused.
+    pub fn refuse(&mut self)
+        ensures { self.new ≡ self.old }
+    {
+        self.guest.refuse();
+    }
+
     /// Frees what it holds, and uncounts it.
     pub fn leave(&mut self, budget: &mut Budget)
         ensures { budget.new ≡ record (uncounted self.old.counted self.old.waits budget.old) {
@@ -188,7 +196,7 @@ impl<L: Link + Drop> Weighed<L> {
     /// Visits the guest. Returns `None` if it wants more than `LITTLE` and there is no room.
     ///
     /// Then it waits and is unchanged, or has ended if its link failed or is to end.
-    pub fn visit<S: Steps>(
+    pub fn visit<S: Reports>(
         &mut self,
         alloc: Global,
         store: &mut S,
@@ -212,7 +220,7 @@ impl<L: Link + Drop> Weighed<L> {
     }
 
     /// Visits the guest, and counts it for what it holds then.
-    fn visit_guest<S: Steps>(
+    fn visit_guest<S: Reports>(
         &mut self,
         alloc: Global,
         store: &mut S,
@@ -225,8 +233,17 @@ impl<L: Link + Drop> Weighed<L> {
         ensures counts { Recounts self.old self.new budget.old budget.new }
     {
         let answer = self.guest.visit(alloc, store, now);
+        self.report(answer, store);
         self.weigh(answer, budget);
         answer
+    }
+
+    /// Reports the request of a visit with this answer, if it was answered that its object is too
+    /// large.
+    fn report<S: Reports>(&self, answer: Visit, store: &S) {
+        if answer == Visit::Turned && self.guest.is_told_too_large() {
+            store.too_large();
+        }
     }
 
     /// Returns whether it may go on with a request of `asked` bytes; otherwise it waits.
@@ -309,14 +326,14 @@ impl<L: Link + Drop> Weighed<L> {
 
     /// Returns the bytes that its next visit may reserve, if they are many: for a large block that
     /// has begun to come, or for an answer once memory is tight.
-    fn asked_bytes<S: Steps>(
+    fn asked_bytes<S: Reports>(
         &self,
         alloc: Global,
         store: &mut S,
         now: Moment,
         budget: &Budget,
     ) -> usize
-        ensures { MayAsk S.Steps now (MayName self.now.guest.session) store.old store.new }
+        ensures { MayAsk S.Steps now (NamesKey self.now.guest.session) store.old store.new }
     {
         if self.unit > LITTLE {
             let announced = self.guest.announced_bytes();
@@ -327,7 +344,7 @@ impl<L: Link + Drop> Weighed<L> {
         if !budget.is_tight() {
             return 0;
         }
-        next_length(alloc, store, &self.guest, now)
+        next_length(alloc, store, &self.guest, now).unwrap_or(0)
     }
 
     /// Returns whether it may go on with `wanted` bytes.

@@ -1,5 +1,5 @@
 //! Purges of a shelf, and its growth.
-ghost use Rattle.std.specs.Prelude.{◌≡◌, ◌<◌, ◌≤◌, IfOk, IfErr};
+ghost use Rattle.std.specs.Prelude.{◌≡◌, ◌-◌, ◌<◌, ◌≤◌, min, IfOk, IfErr};
 ghost use Rattle.mc_shared.specs.History.{start_of, Purged};
 ghost use Rattle.mc_shared.specs.Past.{call};
 ghost use Rattle.mc_shared.specs.Steps.{entry_of, Agrees};
@@ -56,6 +56,8 @@ impl<'a, K: KeyHash + Drop> AtShelf<'a, K> {
     fn grow(&mut self, n: usize) -> usize
         ensures same { (self.new.shared ≡ self.old.shared) × (self.new.past ≡ self.old.past) }
         ensures moved { result ≤ n }
+        ensures left { (result ≡ min n self.old.shelf.left)
+            × (self.new.shelf.left ≡ self.old.shelf.left - result) }
     {
         self.shelf.grow(n)
     }

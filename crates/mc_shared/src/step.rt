@@ -3,7 +3,7 @@
 //! A refused look of a write isn't a reply yet: the step takes the desk and checks there for a
 //! number and chunks first, because these errors come before want of memory. A read gets its error
 //! at once. A purge that finds nothing dead, and a miss, are decided without the desk.
-ghost use Rattle.std.specs.Prelude.{◌≡◌, ◌≤◌, length, is_some, true, false, Err, IfOk, IfErr, IfSome, OnErr};
+ghost use Rattle.std.specs.Prelude.{◌≡◌, ◌≤◌, length, is_none, true, false, Err, IfOk, IfErr, IfSome, OnErr};
 ghost use Rattle.std.specs.FinMap.{get};
 ghost use Rattle.mc_protocol.specs.Commands.{key_of};
 ghost use Rattle.mc_protocol.specs.Laws.{IsOnKey};
@@ -222,16 +222,15 @@ impl<'a, K: KeyHash + Drop> AtBoth<'a, K> {
     }
 }
 
-/// Returns whether a step may insert its key into a shelf: it has no item there, or that isn't
-/// known.
+/// Returns whether a step may insert its key into a shelf, where the key has no item.
 fn may_come(looked: &Looked<'_>, shelf: &Shelf, ask: &Ask<'_>) -> bool
-    requires { IsLooked looked.now shelf.now ask.now }
-    ensures { is_some (get shelf.now.content.items (key_of ask.now.step.now)) ≡ false →
-        result ≡ true }
+    requires looked { IsLooked looked.now shelf.now ask.now }
+    requires hash { IsHash shelf.now.content (key_of ask.now.step.now) ask.now.hash }
+    ensures { result ≡ is_none (get shelf.now.content.items (key_of ask.now.step.now)) }
 {
     match looked {
         Looked::Planned(plan) => plan.is_of_new_key(),
-        Looked::AskAgainAtDesk => true,
+        Looked::AskAgainAtDesk => !shelf.has_item(ask.hash, ask.step.key()),
     }
 }
 

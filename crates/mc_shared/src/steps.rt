@@ -3,7 +3,7 @@
 //! Functions come in pairs `take`/`take_as`: the toolchain picks a call's ghost members only at a
 //! call that passes `Brand` for a bound whose trait has no method, so the pick needs a call of its
 //! own.
-ghost use Rattle.std.specs.Prelude.{◌≡◌, ◌≢◌, ◌*◌, ◌/◌, ◌%◌, ◌<◌, ◌≤◌, [], ◌∷◌, ℕ, List, ◌++◌, true, IfOk, IfErr, drop, replicate};
+ghost use Rattle.std.specs.Prelude.{◌≡◌, ◌≢◌, ◌*◌, ◌/◌, ◌%◌, ◌<◌, ◌≤◌, [], ◌∷◌, ℕ, List, ◌++◌, true, false, IfOk, IfErr, drop, replicate};
 ghost use Rattle.mc_protocol.specs.declared.step.KeyStep.{KeyStep as Step};
 ghost use Rattle.mc_protocol.specs.declared.reply.Reply.{Reply as Told};
 ghost use Rattle.mc_shelf.specs.Numbers.{number_of};
@@ -238,6 +238,7 @@ pub fn raise_if<K: KeyHash + Drop>(
     ensures seat { SameSeat seat.old seat.new }
     ensures view { seat.new.me ≡ loaded seat.old.me (replicate result word) }
     ensures one { (comes ≡ true → result ≡ 1) × (result ≤ 1) }
+    ensures none { comes ≡ false → result ≡ 0 }
 {
     if comes {
         raise(board, seat, number, word);
@@ -263,6 +264,7 @@ pub(crate) fn raise_for<K: KeyHash + Drop>(
     ensures inside { result.0 < board.now.shared.table_id.words }
     ensures view { seat.new.me ≡ loaded seat.old.me (replicate result.1 result.0) }
     ensures one { (comes ≡ true → result.1 ≡ 1) × (result.1 ≤ 1) }
+    ensures none { comes ≡ false → result.1 ≡ 0 }
 {
     let number = (hash % NUMBERS as u64) as usize;
     let word = word_at(board, shelves, number);

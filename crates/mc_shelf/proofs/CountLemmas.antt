@@ -2,7 +2,7 @@
 use Rattle.std.proofs.Common.{◌≡◌, ℕ, ◌+◌, ◌*◌, ◌-◌, ◌≤◌, ◌^◌, ◌⊎◌, inl, inr, Bool, true, false, true≢false, not, ◌&&◌, ◌||◌}
 use Rattle.std.proofs.Common.{List, Result, Ok, Err, length, refl, sym, ap}
 use Rattle.std.proofs.Common.{subst, ◌∙◌, arith, ⊎_elim}
-use Rattle.std.specs.Prelude.{min, nat_lt, OnOk, OnErr}
+use Rattle.std.specs.Prelude.{min, nat_lt, IfOk, OnOk, OnErr}
 use Rattle.mc_shelf.proofs.Common.{and_parts, count, entries_of, Entry, EntryMap, EntryState, filled, hash_in, IndexState, is_due, ItemIsChanged, items_in}
 use Rattle.mc_shelf.proofs.Common.{items_of, key_in, lags, left, len, ltb-false, ltb-true, StandsAs}
 use Rattle.std.proofs.lemmas.Grind.{pow_more}
@@ -10,7 +10,7 @@ use Rattle.mc_grow.specs.Indexes as grow
 use Rattle.mc_grow.specs.Adding.{AreMoved}
 use Rattle.mc_grow.proofs.CellLemmas.{count_parts}
 use Rattle.mc_shelf.specs.declared.counts.ShelfCounts.{ShelfCounts}
-use Rattle.mc_shelf.specs.Counts.{CaughtUp, DropsAlone, GoesOn, GrowthIsDue, IsLoaded, KeepsTable, MovesFew, counts_in}
+use Rattle.mc_shelf.specs.Counts.{Begins, CatchesUp, CaughtUp, DropsAlone, GoesOn, GrowthIsDue, IsLoaded, KeepsTable, MovesFew, counts_in}
 
 -- ---- an index after a change
 
@@ -43,8 +43,28 @@ module _ (old new : IndexState EntryState) (once : len (items_of old) ≡ count 
           let none : left new ≤ 0 = ltb-false 0 (left new) (sym are.growing ∙ over) in omega (arith, none, rest, is),
           loaded load.1,
         );
+        lags = λ _ _. omega (arith, rest, is);
+        none_left = λ e. absurd (true≢false (sym load.0 ∙ e));
         rests = λ e. absurd (true≢false (sym load.0 ∙ e));
       }
+
+-- where no growth lags
+other_false : (b c : Bool) → (b && c) ≡ false → b ≡ true → c ≡ false
+other_false true c e runs = e
+other_false false c e runs = cc
+
+pub caught_none : (index : IndexState EntryState) (n : ℕ) → len (items_of index) ≡ count index → lags index ≡ false → n ≡ left index → (index.growing ≡ false → n ≡ 0)
+    → CaughtUp (counts_in index) (counts_in index)
+caught_none index n once timely is rests = record {
+  lags = λ runs load.
+      let few = ltb-false (3 * 2 ^ index.k) (4 * (count index + 1)) (other_false index.growing (nat_lt (3 * 2 ^ index.k) (4 * (count index + 1))) timely runs) in
+      absurd (omega (arith, few, load, once));
+  items = refl;
+  goes = record { homes = refl; none_begins = λ e. e; less = omega arith; few = omega arith };
+  ends = λ e over. absurd (true≢false (sym e ∙ over));
+  none_left = λ e. sym is ∙ rests e;
+  rests = λ _. refl;
+}
 
 -- ---- a reserve
 
@@ -77,35 +97,49 @@ module _ (old : ShelfCounts) (mid new : IndexState EntryState) (caught : CaughtU
         why.0,
       )
 
-  due_before : GrowthIsDue (counts_in mid) → mid.growing ≡ false → GrowthIsDue old × (old.growing ≡ true → old.left ≤ 8)
+  due_before : GrowthIsDue (counts_in mid) → mid.growing ≡ false → GrowthIsDue old × (old.left ≤ 8)
   due_before due over =
-      elim (old.growing) as (λ b. old.growing ≡ b → GrowthIsDue old × (old.growing ≡ true → old.left ≤ 8)) [
-        | true ↦ λ runs. let last = caught.ends runs over in (inl last.1, λ _. last.0)
-        | false ↦ λ rests. (subst (λ (c : ShelfCounts). GrowthIsDue c) (caught.rests rests) due, λ runs. absurd (true≢false (sym runs ∙ rests)))
+      elim (old.growing) as (λ b. old.growing ≡ b → GrowthIsDue old × (old.left ≤ 8)) [
+        | true ↦ λ runs. let last = caught.ends runs over in (inl last.1, last.0)
+        | false ↦ λ rests. (subst (λ (c : ShelfCounts). GrowthIsDue c) (caught.rests rests) due, omega (arith, caught.none_left rests))
       ] refl
 
-  begins_so : is_due mid ≡ true → grow.HasBegun mid new → MovesFew 8 old (counts_in new)
+  begins_so : is_due mid ≡ true → grow.HasBegun mid new → Begins old (counts_in new)
   begins_so e is =
       let was = was_due e in
       let before = due_before was.0 was.1 in
       let fewer : filled mid.table ≤ count mid = table_within mid in
       let rest : left new ≡ filled mid.table = ap (λ (s : IndexState EntryState). left s) is in
-      inr (record {
+      record {
         due = before.0;
         last = before.1;
         homes = ap (λ (s : IndexState EntryState). 2 ^ s.k) is ∙ doubled mid.k ∙ ap (λ n. 2 * n) caught.goes.homes;
         growing = ap (λ (s : IndexState EntryState). s.growing) is;
         left = omega (arith, rest, fewer, once, caught.items);
-      })
+      }
 
   pub reserved : {T E : Type 0} (result : Result T E) → OnOk result (is_due mid ≡ true → grow.HasBegun mid new) → OnOk result (is_due mid ≡ false → StandsAs mid new)
       → OnErr result (StandsAs mid new) → MovesFew 8 old (counts_in new)
   reserved (Ok done) begins stays refused =
       elim (is_due mid) as (λ b. is_due mid ≡ b → MovesFew 8 old (counts_in new)) [
-        | true ↦ λ due. begins_so due (begins due)
+        | true ↦ λ due. inr (begins_so due (begins due))
         | false ↦ λ none. stays_so (stays none)
       ] refl
   reserved (Err fault) begins stays refused = stays_so refused
+
+  catches_so : StandsAs mid new → CatchesUp old (counts_in new)
+  catches_so is runs load = inl (subst (λ (c : ShelfCounts). c.left ≤ old.left - 8) (sym same) (caught.lags runs load)) where
+    same : counts_in new ≡ counts_in mid
+    same = ap counts_in is
+
+  pub catches : {T E : Type 0} (result : Result T E) → OnOk result (is_due mid ≡ true → grow.HasBegun mid new) → OnOk result (is_due mid ≡ false → StandsAs mid new)
+      → OnErr result (StandsAs mid new) → CatchesUp old (counts_in new)
+  catches (Ok done) begins stays refused =
+      elim (is_due mid) as (λ b. is_due mid ≡ b → CatchesUp old (counts_in new)) [
+        | true ↦ λ due runs load. inr (begins_so due (begins due))
+        | false ↦ λ none. catches_so (stays none)
+      ] refl
+  catches (Err fault) begins stays refused = catches_so refused
 
 -- ---- the table of a shelf
 
@@ -155,6 +189,22 @@ moved_then old mid new (inr begins) keeps = inr (record {
   growing = keeps.growing ∙ begins.growing;
   left = omega (arith, begins.left, keeps.less);
 })
+
+-- it goes on in a growth that lags, too
+pub catches_then : (old mid new : ShelfCounts) → CatchesUp old mid → KeepsTable 1 mid new → CatchesUp old new
+catches_then old mid new catches keeps runs load =
+    ⊎_elim (λ less. inl (omega (arith, less, keeps.less)))
+    (λ begins. inr (record {
+      due = begins.due;
+      last = begins.last;
+      homes = keeps.homes ∙ begins.homes;
+      growing = keeps.growing ∙ begins.growing;
+      left = omega (arith, begins.left, keeps.less);
+    })) (catches runs load)
+
+pub ok_any : {T E A : Type 0} (r : Result T E) → A → IfOk r (λ _. A)
+ok_any (Ok x) a = a
+ok_any (Err e) a = tt
 
 -- a sweep
 pub drops_none : (counts : ShelfCounts) → DropsAlone counts counts

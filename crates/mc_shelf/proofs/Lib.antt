@@ -22,6 +22,7 @@ pub mod KeyMapLemmas
 pub mod DeathLemmas
 pub mod LenLemmas
 pub mod CountLemmas
+pub mod LeftLemmas
 pub mod NumberLemmas
 pub mod HitLemmas
 pub mod AsideLemmas

@@ -1,5 +1,5 @@
 -- What is counted of a shelf, and how few of its entries a step moves.
-use Rattle.std.specs.Prelude.{◌≡◌, ℕ, ◌+◌, ◌*◌, ◌<◌, ◌≤◌, ◌^◌, ◌⊎◌, true, false, length}
+use Rattle.std.specs.Prelude.{◌≡◌, ℕ, ◌+◌, ◌-◌, ◌*◌, ◌<◌, ◌≤◌, ◌^◌, ◌⊎◌, true, false, length}
 use Rattle.std.specs.FinMap.{len}
 use Rattle.mc_grow.specs.Indexes.{IndexState, left}
 use Rattle.mc_shelf.specs.States.{EntryState, ShelfState}
@@ -70,7 +70,7 @@ GrowthIsDue counts =
 -- for which the last 8 were moved at most.
 pub record Begins (old new : ShelfCounts) : Type 0 where
   pub due : GrowthIsDue old
-  pub last : old.growing ≡ true → old.left ≤ 8
+  pub last : old.left ≤ 8
   pub homes : new.homes ≡ 2 * old.homes
   pub growing : new.growing ≡ true
   pub left : new.left ≤ old.items
@@ -79,10 +79,18 @@ pub record Begins (old new : ShelfCounts) : Type 0 where
 abbrev pub MovesFew : (most : ℕ) → (old new : ShelfCounts) → Type 0
 MovesFew most old new = GoesOn most old new ⊎ Begins old new
 
+-- A growth that lags goes on: if one runs, and by the load the next one is due, at least 8 of the
+-- entries that are left have gone, or all that were left; the next one may have begun then.
+abbrev pub CatchesUp : (old new : ShelfCounts) → Type 0
+CatchesUp old new =
+    old.growing ≡ true → IsLoaded old → (new.left ≤ old.left - 8) ⊎ Begins old new
+
 -- 8 entries were moved at most. A growth that was ended so was lagging; if none ran, all counts are
 -- as they were.
 pub record CaughtUp (old new : ShelfCounts) : Type 0 where
   pub items : new.items ≡ old.items
   pub goes : GoesOn 8 old new
   pub ends : old.growing ≡ true → new.growing ≡ false → (old.left ≤ 8) × IsLoaded old
+  pub lags : old.growing ≡ true → IsLoaded old → new.left ≤ old.left - 8
+  pub none_left : old.growing ≡ false → old.left ≡ 0
   pub rests : old.growing ≡ false → new ≡ old

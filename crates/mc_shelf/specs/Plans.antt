@@ -21,6 +21,7 @@ use Rattle.mc_protocol.specs.Commands.{key_of}
 use Rattle.mc_protocol.specs.Plain.{Plain, Entry, Outcome, Answered, Spent, MayFail, plain, charge, item_need, alive, hit_of, refusal_reply, block_of, written_block, write_reply, row_of}
 use Rattle.mc_protocol.specs.Laws.{IsOnKey, of_class}
 use Rattle.mc_shelf.specs.States.{EntryState, ShelfContent, ShelfState, DeskState, StandsAt, IsHash}
+use Rattle.mc_shelf.specs.Counts.{CatchesUp, counts_of}
 use Rattle.mc_grow.specs.declared.index.Place.{Place}
 use Rattle.mc_shelf.specs.declared.plan.Next.{Next}
 use Rattle.mc_shelf.specs.declared.plan.Next.TheVariants.{Answer, Expire, Discard, Write}
@@ -166,6 +167,12 @@ abbrev pub HasRoom : Plan → ShelfState → KeyStep → Type 0
 HasRoom plan shelf step =
     writes plan.next ≡ true → PutsEntry plan.next shelf.content (key_of step) plan.moment
     → 1 ≤ shelf.room
+
+-- a write that puts in an entry goes on with a growth that lags
+abbrev pub HasCaughtUp : Plan → (old new : ShelfState) → KeyStep → Type 0
+HasCaughtUp plan old new step =
+    writes plan.next ≡ true → PutsEntry plan.next new.content (key_of step) plan.moment
+    → CatchesUp (counts_of old) (counts_of new)
 
 -- a step with that answer is what the plain machine does at the key: of each plain state that stands for the shelf and the
 -- desk before, it makes one that stands for them after

@@ -11,7 +11,7 @@ ghost use Rattle.mc_slab.specs.Needs.{need_for};
 ghost use Rattle.mc_protocol.specs.Plain.{charge, item_need};
 ghost use Rattle.mc_shelf.specs.Plans.{drafted};
 ghost use Rattle.mc_grow.specs.Indexes.{IsFilled, IsNext, KeepsLower, count, entry_at, left};
-ghost use Rattle.mc_shelf.specs.Counts.{CaughtUp, FitTogether, KeepsTable, MovesFew, counts_in};
+ghost use Rattle.mc_shelf.specs.Counts.{CatchesUp, CaughtUp, FitTogether, KeepsTable, MovesFew, counts_in};
 ghost use Rattle.mc_shelf.specs.Deaths.{DieNoSooner, NoneIsDead};
 ghost use Rattle.mc_shelf.specs.KeyMaps.{IsHashOf, EntriesAreKeyed};
 ghost use Rattle.mc_shelf.specs.States.{EntryState};
@@ -139,6 +139,7 @@ impl Index {
         ensures entries { entries_of self.new ≡ entries_of self.old }
         ensures room { OnOk result (1 ≤ self.new.spare) }
         ensures moves { MovesFew 8 (counts_in self.old) (counts_in self.new) }
+        ensures lags { CatchesUp (counts_in self.old) (counts_in self.new) }
     {
         self.catch_up();
         self.entries.reserve(alloc)
@@ -153,6 +154,8 @@ impl Index {
         ensures moves { CaughtUp (counts_in self.old) (counts_in self.new) }
     {
         self.entries.each_entry_counts_once();
+        // for the proof: without a growth no entry is left
+        let _left = self.entries.entries_to_move();
         if self.entries.lags() {
             let _ = self.entries.move_some(CATCH_UP);
         }

@@ -23,6 +23,7 @@ ghost use Rattle.mc_shelf.specs.Counts.{DropsAlone, counts_of};
 ghost use Rattle.mc_shelf.specs.Sweeps.{AreOut, GivesFor};
 ghost use Rattle.mc_shelf.specs.Deaths.{NoneIsDead};
 ghost use Rattle.mc_shelf.specs.Unions.{IsFlushed, lefts};
+ghost use Rattle.mc_shelf.specs.Stores.{NoneRises};
 ghost use Rattle.mc_shelf.specs.Parts.{
   shelf_of,
   IsShelfOf,
@@ -129,13 +130,15 @@ impl Shelf {
 ///
 /// Without a delay all items are dropped. With a delay, which is read as an exptime, the dead ones
 /// are dropped and the others are flushed later. It takes no memory. It costs one pass over the
-/// items of each shelf where one may be dead, or over all items without a delay.
+/// items of each shelf where one may be dead, or over all items without a delay. It moves no entry
+/// of an old table.
 pub fn flush_parts(shelves: &mut [Shelf], desk: &mut Desk, delay: u64, now: Moment)
     requires { (hash_of : List ℕ → ℕ) × (state : Plain) × (count : ℕ)
         × ArePartsOf hash_of state shelves.old count desk.old }
-    ensures { (hash_of : List ℕ → ℕ) (state : Plain) (count : ℕ) →
+    ensures parts { (hash_of : List ℕ → ℕ) (state : Plain) (count : ℕ) →
         ArePartsOf hash_of state shelves.old count desk.old →
         ArePartsOf hash_of (flushed delay state now) shelves.new count desk.new }
+    ensures left { NoneRises (lefts shelves.old) (lefts shelves.new) }
 {
     for shelf in shelves.iter_mut() {
         shelf.flush(delay, now, desk);

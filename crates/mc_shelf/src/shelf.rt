@@ -5,7 +5,7 @@
 //! the desk again; it decides nothing meanwhile.
 
 ghost use Rattle.std.specs.Prelude.{◌≡◌, ◌≢◌, ◌↔◌, ℕ, ◌+◌, ◌-◌, ◌%◌, ◌^◌, ◌<◌, ◌≤◌, length, min, slice_index, slice_set};
-ghost use Rattle.std.specs.Prelude.{Option, Some, None, Err, IfOk, IfSome, OnErr, OnOk, nat_lt, true, false};
+ghost use Rattle.std.specs.Prelude.{Option, Some, None, Err, IfOk, IfSome, OnErr, OnOk, is_some, nat_lt, true, false};
 ghost use Rattle.std.specs.FinMap.{empty, get, len};
 ghost use Rattle.mc_time.specs.declared.expiry.Expiry.{Expiry as Expires};
 ghost use Rattle.mc_slab.specs.Needs.{IsNeed, need_for, size_in};
@@ -14,8 +14,8 @@ ghost use Rattle.mc_protocol.specs.declared.step.KeyStep.{KeyStep as Step};
 ghost use Rattle.mc_protocol.specs.declared.row.Row.TheVariants.{Reads};
 ghost use Rattle.mc_protocol.specs.Commands.{key_of};
 ghost use Rattle.mc_protocol.specs.Plain.{Entry as Item};
-ghost use Rattle.mc_shelf.specs.Counts.{DropsAlone, FitTogether, KeepsTable, MovesFew, counts_of};
-ghost use Rattle.mc_shelf.specs.States.{CanStandAt, nothing_held};
+ghost use Rattle.mc_shelf.specs.Counts.{CatchesUp, DropsAlone, FitTogether, KeepsTable, MovesFew, counts_of};
+ghost use Rattle.mc_shelf.specs.States.{CanStandAt, IsHash, nothing_held};
 ghost use Rattle.mc_shelf.specs.Numbers.{KeysAreCounted, HasPlaces};
 ghost use Rattle.mc_shelf.specs.Plans.{
   CanFinish,
@@ -23,6 +23,7 @@ ghost use Rattle.mc_shelf.specs.Plans.{
   CanSettle,
   CanWrite,
   GivesBack,
+  HasCaughtUp,
   HasRoom,
   IsDropped,
   IsKnown,
@@ -135,6 +136,16 @@ impl Shelf {
         self.index.len()
     }
 
+    /// Returns whether a key has an item, which may be dead.
+    ///
+    /// `hash` is the hash that the shelf has with the key, if it has the key.
+    pub fn has_item(&self, hash: u64, key: &[u8]) -> bool
+        requires { IsHash self.now.content key.now hash }
+        ensures { result ≡ is_some (get self.now.content.items key.now) }
+    {
+        self.index.find(hash, key).is_some()
+    }
+
     /// Counts the keys of each number; a key's number is its hash modulo 4096.
     ///
     /// `counts` must have 4096 places. The place of each number that a key has must be 0, and is
@@ -182,6 +193,10 @@ impl Shelf {
         ensures refused { result ≡ Err StepFault.NoMemory
             → MayWantMemory step.now now self.old.content desk.old }
         ensures moves { MovesFew 9 (counts_of self.old) (counts_of self.new) }
+        ensures lags { IfOk result (λ _. CanWrite (next_of self.old.content step.now now)
+            self.old.content (key_of step.now) now desk.old →
+            PutsEntry (next_of self.old.content step.now now) self.old.content
+            (key_of step.now) now → CatchesUp (counts_of self.old) (counts_of self.new)) }
     {
         let plan = self.plan(alloc, step, hash, now)?;
         self.make_room(alloc, &plan, desk)?;
@@ -206,6 +221,7 @@ impl Shelf {
         ensures room { IfOk result (λ plan. HasRoom plan self.new step.now) }
         ensures content { self.new.content ≡ self.old.content }
         ensures moves { MovesFew 8 (counts_of self.old) (counts_of self.new) }
+        ensures lags { IfOk result (λ plan. HasCaughtUp plan self.old self.new step.now) }
         ensures idle { IfOk result (λ plan. writes plan.next ≡ false → self.new ≡ self.old) }
         ensures asked { OnErr result (LookTakesMemory step.now now self.old.content) }
         ensures most { self.old.content.greatest ≤ 8388608 }
@@ -520,6 +536,9 @@ impl Shelf {
         ensures room { OnOk result (CanWrite plan.now.next self.old.content plan.now.key
             plan.now.moment desk.now → PutsEntry plan.now.next self.old.content plan.now.key
             plan.now.moment → 1 ≤ self.new.room) }
+        ensures lags { OnOk result (CanWrite plan.now.next self.old.content plan.now.key
+            plan.now.moment desk.now → PutsEntry plan.now.next self.old.content plan.now.key
+            plan.now.moment → CatchesUp (counts_of self.old) (counts_of self.new)) }
         ensures refused { OnErr result (CanWrite plan.now.next self.old.content plan.now.key
             plan.now.moment desk.now) }
         ensures slab { IsSlab desk.now.slab }

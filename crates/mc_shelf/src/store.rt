@@ -5,11 +5,20 @@
 //! `into_parts` returns shelves and desk under contracts, for a store with other locks.
 
 ghost use Rattle.std.specs.Prelude.{◌≡◌, ◌↔◌, ◌-◌, ◌≤◌, min, length, replicate, slice_index, slice_set, IfOk, OnErr, Err, refl};
+ghost use Rattle.std.proofs.Common.{inl};
 ghost use Rattle.mc_protocol.specs.Commands.{key_of, longest_key};
 ghost use Rattle.mc_protocol.specs.Plain.{Plain, opening, starting, plain, Answered, Spent, MayFail};
 ghost use Rattle.mc_protocol.specs.Laws.{IsOnKey};
-ghost use Rattle.mc_shelf.specs.Parts.{ArePartsOf};
-ghost use Rattle.mc_shelf.specs.Stores.{IsSetUp, AreAlike, HoldSame, TookStep, shelf_purged};
+ghost use Rattle.mc_shelf.specs.Parts.{ArePartsOf, shelf_of};
+ghost use Rattle.mc_shelf.specs.Stores.{
+  IsSetUp,
+  AreAlike,
+  FallsAt,
+  FewMoveAt,
+  HoldSame,
+  TookStep,
+  shelf_purged,
+};
 ghost use Rattle.mc_shelf.specs.Unions.{lefts};
 
 use crate::desk::Desk;
@@ -142,12 +151,13 @@ impl<K: KeyHash + Drop> Store<K> {
 
     /// Drops the dead items of a shelf, and none if there is no such shelf.
     ///
-    /// It takes no memory. It costs one pass over the shelf's items, and walks none if none may be
-    /// dead.
+    /// It takes no memory and moves no entry. It costs one pass over the shelf's items, and walks
+    /// none if none may be dead.
     pub fn purge(&mut self, shelf: u32, now: Moment)
         ensures plain { self.new.plain ≡ shelf_purged (K.hash_of self.old.hasher)
             self.old.settings.shelves shelf now self.old.plain }
         ensures set_up { AreAlike self.old self.new }
+        ensures left { FallsAt shelf self.old.left self.new.left }
     {
         if shelf < self.parts.settings.shelves {
             let StoreParts { shelves, desk, .. } = &mut self.parts;
@@ -174,6 +184,9 @@ impl<K: KeyHash + Drop> Store<K> {
     }
 
     /// Takes a step on one key, on the key's shelf. After an error the store holds what it held.
+    ///
+    /// At most 8 entries of that shelf's old table are moved, beside the key's own, which may be
+    /// removed, and no other shelf's.
     fn step_on_key(
         &mut self,
         alloc: Global,
@@ -188,6 +201,9 @@ impl<K: KeyHash + Drop> Store<K> {
         ensures err { OnErr result (HoldSame self.old self.new) }
         ensures refused { result ≡ Err StepFault.NoMemory
             → MayFail (plain self.old.plain step.now now) }
+        ensures moves { FewMoveAt
+            (shelf_of (K.hash_of self.old.hasher) self.old.settings.shelves (key_of step.now))
+            self.old.left self.new.left }
     {
         let hash = self.parts.hasher.hash(step.key());
         let at = hash % u64::from(self.parts.settings.shelves);
@@ -213,8 +229,18 @@ impl<K: KeyHash + Drop> Steps for Store<K> {
 
     ghost same = { λ old new. HoldSame old new };
 
-    ghost holds_itself = { λ _. record { plain = refl; settings = refl; hasher = refl } };
+    ghost holds_itself = { λ _. record {
+      plain = refl;
+      settings = refl;
+      hasher = refl;
+      moves = inl refl;
+    } };
 
+    /// Takes a step, on the key's shelf, or a flush on all.
+    ///
+    /// A step on a key moves at most 8 entries of its shelf's old table, beside the key's own,
+    /// which may be removed, and no other shelf's. A growth of that shelf may begin. A flush moves
+    /// none.
     fn step(&mut self, alloc: Global, step: &KeyStep<'_>, now: Moment) -> Result<Reply, StepFault>
         requires { length (key_of step.now) ≤ longest_key }
         ensures took { IfOk result (λ reply. TookStep self.old step.now now reply self.new) }
@@ -223,6 +249,9 @@ impl<K: KeyHash + Drop> Steps for Store<K> {
         ensures err { OnErr result (HoldSame self.old self.new) }
         ensures refused { result ≡ Err StepFault.NoMemory
             → MayFail (plain self.old.plain step.now now) }
+        ensures moves { IsOnKey step.now → FewMoveAt
+            (shelf_of (K.hash_of self.old.hasher) self.old.settings.shelves (key_of step.now))
+            self.old.left self.new.left }
     {
         match step {
             KeyStep::Flush { delay } => Ok(self.flush(*delay, now)),

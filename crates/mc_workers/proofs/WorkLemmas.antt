@@ -15,7 +15,7 @@ use Rattle.mc_shared.specs.Asking.{AskingState, AsksOnce, moment_of, Further, no
 use Rattle.mc_workers.specs.Tending.{Tidied, none, and_one}
 use Rattle.mc_guests.specs.Guests.{GuestState}
 use Rattle.mc_guests.specs.Visits.{Does, Visited}
-use Rattle.mc_guests.specs.Asks.{MayAsk, MayName, AsksAndVisits, IsKeptWaiting, MakesRound, nobody, asks, visits}
+use Rattle.mc_guests.specs.Asks.{MayAsk, NamesKey, AsksAndVisits, IsKeptWaiting, MakesRound, nobody, asks, visits}
 use Rattle.mc_guests.specs.declared.guest.Visit.{Visit}
 use Rattle.mc_guests.specs.declared.guest.Visit.TheVariants.{Wrote, Turned, Read, Later, Served, Broken, Refused}
 
@@ -71,7 +71,7 @@ module _ {S : Type 0} (relations : Relations S) (now : ℕ) (Keeps : S → S →
       → MakesRound relations now a b → Keeps a b
   round_keeps both a b nobody = none a
   round_keeps both a c (asks {between = b} {session = session} goes asked) =
-      both a b c (round_keeps both a b goes) (ask_keeps (MayName session) b c asked)
+      both a b c (round_keeps both a b goes) (ask_keeps (NamesKey session) b c asked)
   round_keeps both a c (visits {between = b} {answer = answer} {old = old} {new = new} goes visit) =
       both a b c (round_keeps both a b goes) (visit_keeps answer old new b c visit)
 

@@ -10,18 +10,18 @@ use Rattle.mc_workers.specs.Rounds.{TidiesAndVisits, WorkState, WorksRound, Work
 use Rattle.mc_guests.specs.declared.door.Door.{Door}
 use Rattle.mc_guests.specs.declared.guests.WorkEnd.{WorkEnd}
 
-module _ {K : Type 0} (hash_of : K → List ℕ → ℕ) (may_give : ℕ → Type 0) (first : ℕ) (began : StoreState K) (caller : CallerState) where
-  pub works_from : (moment : ℕ) (may_try : Bool) (asking : AskingState K) (books : BooksState) (door : Door) → may_give moment
-      → asking ≡ asked_by began caller → books ≡ no_books may_try → (greatest : ℕ) → door ≡ shut greatest → greatest ≡ began.settings.greatest
-      → WorksSince hash_of may_give first began caller (record { asking = asking; books = books; door = door; end = record { served = 0; broken = 0; refused = 0 }; turn = first; moment = moment })
-  works_from moment may_try asking books door given asks none greatest closed is = record {
+module _ {K : Type 0} (hash_of : K → List ℕ → ℕ) (may_give : ℕ → Type 0) (first share : ℕ) (began : StoreState K) (caller : CallerState) where
+  pub works_from : (moment : ℕ) (asking : AskingState K) (books : BooksState) (door : Door) → may_give moment
+      → asking ≡ asked_by began caller → books ≡ no_books share → (greatest : ℕ) → door ≡ shut greatest → greatest ≡ began.settings.greatest
+      → WorksSince hash_of may_give first share began caller
+      (record { asking = asking; books = books; door = door; end = record { served = 0; broken = 0; refused = 0 }; turn = first; moment = moment })
+  works_from moment asking books door given asks none greatest closed is = record {
     moment = moment;
     given = given;
-    may_try = may_try;
-    rounds = subst (λ (s : WorkState K). Works hash_of may_give (begins first began caller may_try moment) s) (sym (
+    rounds = subst (λ (s : WorkState K). Works hash_of may_give (begins first share began caller moment) s) (sym (
         ap (λ (a : AskingState K). record { asking = a; books = books; door = door; end = record { served = 0; broken = 0; refused = 0 }; turn = first; moment = moment }) asks
         ∙ ap (λ (b : BooksState). record { asking = asked_by began caller; books = b; door = door; end = record { served = 0; broken = 0; refused = 0 }; turn = first; moment = moment }) none
-        ∙ ap (λ (d : Door). record { asking = asked_by began caller; books = no_books may_try; door = d; end = record { served = 0; broken = 0; refused = 0 }; turn = first; moment = moment })
+        ∙ ap (λ (d : Door). record { asking = asked_by began caller; books = no_books share; door = d; end = record { served = 0; broken = 0; refused = 0 }; turn = first; moment = moment })
         (closed ∙ ap shut is)
         )) nothing;
   }
@@ -41,21 +41,20 @@ module _ {K : Type 0} (hash_of : K → List ℕ → ℕ) (may_give : ℕ → Typ
     opens = subst (OpensForAll old.door new.door settled new.books counted new.end) so opens;
   }
 
-  pub works_on : (old new : WorkState K) (visited settled : BooksState) (counted : WorkEnd) (opened : Bool) → WorksSince hash_of may_give first began caller old
+  pub works_on : (old new : WorkState K) (visited settled : BooksState) (counted : WorkEnd) (opened : Bool) → WorksSince hash_of may_give first share began caller old
       → may_give new.moment → TidiesAndVisits hash_of old.moment new.moment old.turn new.turn old.asking new.asking old.books visited → SettlesFrom 0 visited settled old.end counted
       → OpensForAll old.door new.door settled new.books counted new.end opened → opened ≡ true
-      → WorksSince hash_of may_give first began caller new
+      → WorksSince hash_of may_give first share began caller new
   works_on old new visited settled counted opened since given visits settles opens so = record {
     moment = since.moment;
     given = since.given;
-    may_try = since.may_try;
     rounds = and_round since.rounds (round_so old new visited settled counted opened true given visits settles opens so);
   }
 
-  pub works_over : (old new : WorkState K) (visited settled : BooksState) (counted : WorkEnd) (opened : Bool) (back : CallerState) → WorksSince hash_of may_give first began caller old
+  pub works_over : (old new : WorkState K) (visited settled : BooksState) (counted : WorkEnd) (opened : Bool) (back : CallerState) → WorksSince hash_of may_give first share began caller old
       → may_give new.moment → TidiesAndVisits hash_of old.moment new.moment old.turn new.turn old.asking new.asking old.books visited → SettlesFrom 0 visited settled old.end counted
       → OpensForAll old.door new.door settled new.books counted new.end opened → opened ≡ false
-      → back.past ≡ new.asking.past → WorksToEnd hash_of may_give first began caller (back, new.end)
+      → back.past ≡ new.asking.past → WorksToEnd hash_of may_give first share began caller (back, new.end)
   works_over old new visited settled counted opened back since given visits settles opens so past = record {
     last = old;
     final = new;

@@ -25,11 +25,11 @@ pub record WorkState (K : Type 0) : Type 0 where
   pub turn : ℕ
   pub moment : ℕ
 
--- what a worker begins with: no guests, and storage commands may charge as much as its store's greatest
-abbrev pub begins : {K : Type 0} → (first : ℕ) → StoreState K → CallerState → (may_try : Bool) (moment : ℕ) → WorkState K
-begins first began caller may_try moment = record {
+-- what a worker begins with: no guests, their share, and storage commands may charge as much as its store's greatest
+abbrev pub begins : {K : Type 0} → (first share : ℕ) → StoreState K → CallerState → (moment : ℕ) → WorkState K
+begins first share began caller moment = record {
   asking = asked_by began caller;
-  books = no_books may_try;
+  books = no_books share;
   door = shut began.settings.greatest;
   end = record { served = 0; broken = 0; refused = 0 };
   turn = first;
@@ -69,19 +69,19 @@ module _ {K : Type 0} (hash_of : K → List ℕ → ℕ) where
         → Works may_give old new
 
   -- from its beginning on it made rounds, and each said that more can come
-  pub record WorksSince (may_give : ℕ → Type 0) (first : ℕ) (began : StoreState K) (caller : CallerState) (state : WorkState K) : Type 0 where
+  pub record WorksSince (may_give : ℕ → Type 0) (first share : ℕ) (began : StoreState K) (caller : CallerState)
+      (state : WorkState K) : Type 0 where
     pub moment : ℕ
     pub given : may_give moment
-    pub may_try : Bool
-    pub rounds : Works may_give (begins first began caller may_try moment) state
+    pub rounds : Works may_give (begins first share began caller moment) state
 
   -- It made rounds until one said that nothing can come any more, and gives back the caller that made them and what it
   -- counted.
-  pub record WorksToEnd (may_give : ℕ → Type 0) (first : ℕ) (began : StoreState K) (caller : CallerState)
+  pub record WorksToEnd (may_give : ℕ → Type 0) (first share : ℕ) (began : StoreState K) (caller : CallerState)
       (given_back : CallerState × WorkEnd) : Type 0 where
     pub last : WorkState K
     pub final : WorkState K
-    pub rounds : WorksSince may_give first began caller last
+    pub rounds : WorksSince may_give first share began caller last
     pub ends : WorksRound may_give last final false
     pub past : given_back.0.past ≡ final.asking.past
     pub end : given_back.1 ≡ final.end

@@ -7,7 +7,7 @@ ghost use Rattle.std.specs.Prelude.{◌≡◌, ◌%◌};
 ghost use Rattle.mc_workers.specs.Tending.{tidied_at_once, Tidied};
 
 use crate::tending::Tending;
-use mc_guests::{Outcome, Tally};
+use mc_guests::{Outcome, Reports, Tally, length_at};
 use mc_hop::KeyHash;
 use mc_protocol::{Answer, Bytes, KeyStep, Reply, StepFault, Steps, Unanswered};
 use mc_shared::Gate;
@@ -56,18 +56,14 @@ impl<'a, S: Steps + Drop, T: Tally> Counting<'a, S, T> {
     }
 
     /// Reports a step whose reply goes to an `Answer` to the tally, if it was taken.
-    ///
-    /// A read that delivered nothing isn't reported: it only measured a block.
     fn count_told(
         &self,
         step: &KeyStep<'_>,
         told: &Result<(), Unanswered>,
         noted: Option<Outcome>,
     ) {
-        let is_read = matches!(step, KeyStep::Read { .. });
         match (told, noted) {
-            (Ok(()), Some(outcome)) => self.tally.took(step, outcome),
-            (Err(Unanswered::Untold), Some(outcome)) if !is_read => self.tally.took(step, outcome),
+            (Ok(()) | Err(Unanswered::Untold), Some(outcome)) => self.tally.took(step, outcome),
             _ => {}
         }
     }
@@ -114,6 +110,16 @@ impl<'a, S: Steps + Drop, T: Tally> Steps for Counting<'a, S, T> {
         let told = self.steps.step_telling(alloc, step, now, &mut noting);
         self.count_told(step, &told, noted.get());
         told
+    }
+}
+
+impl<'a, S: Steps + Drop, T: Tally> Reports for Counting<'a, S, T> {
+    fn too_large(&self) {
+        self.tally.too_large();
+    }
+
+    fn length_at(&mut self, alloc: Global, key: &[u8], now: Moment) -> Result<usize, Unanswered> {
+        length_at(alloc, &mut self.steps, key, now)
     }
 }
 

@@ -3,7 +3,7 @@
 //! Each shelf is tidied once in 64 clock ticks, at any number of shelves, and before the visits of
 //! a round: all workers' clocks rise together, so tidying after visits made three workers wait for
 //! each other.
-ghost use Rattle.std.specs.Prelude.{◌≡◌};
+ghost use Rattle.std.specs.Prelude.{◌≡◌, ◌-◌, ◌^◌};
 ghost use Rattle.mc_shared.specs.Asking.{GoesFurther, Further};
 ghost use Rattle.mc_shared.specs.History.{start_of};
 ghost use Rattle.mc_shared.specs.Steps.{Agrees};
@@ -23,7 +23,7 @@ use std::sync::Wait;
 pub struct Worker<'a, G: Gate, T: Tally, C: Clock> {
     /// Called once in each step, while the step's shelf is held.
     pub gate: &'a G,
-    /// Gets each step that was taken, and its outcome.
+    /// Gets each step that was taken with its outcome, and what the guests hold.
     pub tally: &'a T,
     pub clock: &'a C,
     /// The shelf that is tidied first, modulo their number. Workers that start apart don't meet.
@@ -60,8 +60,8 @@ impl<'a, G: Gate, T: Tally, C: Clock> Worker<'a, G, T, C> {
         ensures same { result.0.table ≡ caller.table }
         ensures calls { Further (C.may_give self.now.clock.now) caller.past result.0.past }
         ensures kept { Agrees (start_of K.hash_of shared.now.began) result.0.past }
-        ensures works { WorksToEnd K.hash_of (C.may_give self.now.clock.now) self.now.first shared.now.began
-            caller result }
+        ensures works { WorksToEnd K.hash_of (C.may_give self.now.clock.now) self.now.first
+            self.now.share shared.now.began caller result }
     {
         let tending = Tending::new(rt, shared, caller, self.gate);
         let mut counting = Counting::new(tending, self.tally);
@@ -78,6 +78,7 @@ impl<'a, G: Gate, T: Tally, C: Clock> Worker<'a, G, T, C> {
             let now = self.clock.now();
             turn = make_round(alloc, &mut guests, &mut counting, turn, before, now);
             guests.settle(&mut end);
+            guests.report(self.tally);
             make_room(&mut guests, links);
             if !door.open_for_all(alloc, links, &mut guests, &mut end) {
                 return (counting.into_steps().into_caller(), end);
@@ -102,7 +103,8 @@ pub fn work<R: Wait, K: KeyHash + Drop, L: Link + Drop, Q: Links<L>, G: Gate, C:
     ensures same { result.0.table ≡ caller.table }
     ensures calls { Further (C.may_give clock.now) caller.past result.0.past }
     ensures kept { Agrees (start_of K.hash_of shared.now.began) result.0.past }
-    ensures works { WorksToEnd K.hash_of (C.may_give clock.now) 0 shared.now.began caller result }
+    ensures works { WorksToEnd K.hash_of (C.may_give clock.now) 0 (2 ^ 64 - 1) shared.now.began
+        caller result }
 {
     let worker = Worker {
         gate,

@@ -8,6 +8,9 @@ module _ {S L : Type 0} (Step : S → L → S → Type 0) where
   join (x ∷ front) rest old mid new chain after = (chain.0, chain.1, join front rest chain.0 mid new chain.2 after)
 
   -- a single step
+  pub alone : (label : L) (old new : S) → Step old label new → Chain Step old (label ∷ []) new
+  alone label old new step = (new, step, refl)
+
   pub one : (label : L) (old new : S) → Chain Step old (label ∷ []) new → Step old label new
   one label old new (mid, step, same) = subst (Step old label) (sym same) step
 

@@ -241,9 +241,9 @@ all_one (c ∷ cs) (s ∷ ss) [] x y = absurd y
 all_one (c ∷ cs) (s ∷ ss) (r ∷ rs) x y = ap (λ (z : SessionState). z ∷ ss) (stand_one_at c s r c.is_open x.0 y.0) ∙ ap (λ l. r ∷ l) (all_one cs ss rs x.1 y.1)
 
 -- a plain world stands as one state only
-pub stands_one : {K : Type 0} (p : PlainWorld) (a b : WorldState K) → WorldStandsAs p a → WorldStandsAs p b → b.settings ≡ a.settings → b.hasher ≡ a.hasher → b ≡ a
+pub stands_one : {K : Type 0} (p : PlainWorld) (a b : WorldState K) → WorldStandsAs p a → WorldStandsAs p b → b.settings ≡ a.settings → b.hasher ≡ a.hasher → record b { left = a.left } ≡ a
 stands_one p a b x y settings hasher = let same = all_one p.connections b.sessions a.sessions y.sessions x.sessions in
-    λ i. record { settings = settings i; hasher = hasher i; state = (y.state ∙ sym x.state) i; moment = (y.now ∙ sym x.now) i; sessions = same i }
+    λ i. record { settings = settings i; hasher = hasher i; state = (y.state ∙ sym x.state) i; moment = (y.now ∙ sym x.now) i; sessions = same i; left = a.left }
 
 -- The sessions of a world are what is left of the connections.
 -- there are as many of both

@@ -7,7 +7,7 @@ use Rattle.mc_world.proofs.Words.{Seat, ◌+◌, ◌<◌, length-append, ◌⊎�
 use Rattle.mc_world.proofs.Words.{OnOk, mod-eq_of_lt, lt-ltb, IsAtEnd, Appends-nil, Appends-trans, Consumes-trans, Settings, Exchange, Wrote, Exchanges, HasEnded, Refusal, no_turn, no_piece}
 use Rattle.mc_world.proofs.Words.{FallsShort, ServeFault, fresh, ended, Runs, at_connection, Happens, RunsUntil, named, with_end, GivesUp, next_session, waiting, most_waiting, most_turns, shelf_of}
 use Rattle.mc_world.proofs.Words.{turn_events, IsService, starts, turn, piece, write, scene, IsRefusal, refused_turn, refused_piece, UntilRefused, Served, ServedAll, seat, one_more, Begins, HasServed}
-use Rattle.mc_world.proofs.Words.{Open, Piece, Turn, Clock, Close, Came}
+use Rattle.mc_world.proofs.Words.{Open, Piece, Turn, Clock, Close, Came, longest_piece}
 use Rattle.mc_session.specs.Exchanges as exchanges
 use Rattle.mc_world.proofs.ChainLemmas as chain
 use Rattle.mc_world.proofs.ConnectionLemmas.{StandsIf, stand_out, stand_length}
@@ -50,7 +50,7 @@ fronts n bytes p w stands = let (ds, stand, is) = parts bytes n p.connections w.
 -- what is told where no session is opened is told with bytes in front too
 pub told_written : {K : Type 0} {hash_of : K → List ℕ → ℕ} (n : ℕ) (bytes : List ℕ) {events : List Event} {old new : WorldState K} → NoneOpens events
     → Told hash_of old events new → Told hash_of (with_written n bytes old) events (with_written n bytes new)
-told_written {hash_of = hash_of} n bytes {events = events} {old = old} {new = new} none told = told_by told.settings told.hasher (λ p stands.
+told_written {hash_of = hash_of} n bytes {events = events} {old = old} {new = new} none told = told_by told.settings told.hasher told.moves (λ p stands.
     let (q, is, there) = fronts n bytes p old stands in let (last, runs, ends) = told.told q there in
     let passed = runs_passed (hash_of old.hasher) old.settings.shelves n bytes events q last none runs in
     (with_front n bytes last, subst (λ (v : PlainWorld). RunsIn hash_of old v events (with_front n bytes last)) is passed, put_on n bytes last new ends))
@@ -120,7 +120,7 @@ service_opens : {K : Type 0} {hash_of : K → List ℕ → ℕ} {may_give : ℕ 
     → IsService hash_of may_give n old events read written turns → BeginsOpen events
 service_opens starts = ([], refl)
 service_opens (turn now gives room service) = opens_more _ _ (service_opens service)
-service_opens (piece bytes idle all_written service) = opens_more _ _ (service_opens service)
+service_opens (piece bytes short idle all_written service) = opens_more _ _ (service_opens service)
 service_opens (write bytes service) = service_opens service
 
 -- one connection more is there behind an opening
@@ -165,10 +165,11 @@ module _ {K : Type 0} {hash_of : K → List ℕ → ℕ} {may_give : ℕ → Typ
       record { events = served.events; service = write part served.service; told = all }
 
   -- a read
-  then_read : {turns : ℕ} {read written : List ℕ} {old new : WorldState K} (bytes : List ℕ) → IsIdle (numbered n old.sessions) → output_of (numbered n old.sessions) ≡ []
+  then_read : {turns : ℕ} {read written : List ℕ} {old new : WorldState K} (bytes : List ℕ) → length bytes ≤ longest_piece
+      → IsIdle (numbered n old.sessions) → output_of (numbered n old.sessions) ≡ []
       → Told hash_of old (Piece n bytes ∷ []) new → HasServed hash_of may_give n first turns read written old → HasServed hash_of may_give n first turns (read ++ bytes) written new
-  then_read {old = old} bytes idle all_written told served =
-      record { events = served.events ++ Piece n bytes ∷ []; service = piece bytes (record { world = old; told = served.told; idle = idle }) all_written served.service; told = told_behind served tt told }
+  then_read {old = old} bytes short idle all_written told served =
+      record { events = served.events ++ Piece n bytes ∷ []; service = piece bytes short (record { world = old; told = served.told; idle = idle }) all_written served.service; told = told_behind served tt told }
 
   -- what was done with the session as an endpoint of its world
   pub served_by : {start : WorldState K} {turns : ℕ} {read written : List ℕ} {last : Seat} {after : WorldState K}
@@ -180,9 +181,9 @@ module _ {K : Type 0} {hash_of : K → List ℕ → ℕ} {may_give : ℕ → Typ
     then_turned now gives (subst (λ (s : Seat). waiting s.number between < most_waiting) is small)
         (subst (λ (s : Seat). Told hash_of between (turn_events s.number (shelf_of s.turns between.settings.shelves) now) after) is told) served,
   )
-  served_by {after = after} (exchanges.piece {between = between} bytes exchange idle all_written (same, told)) few begun = let (is, served) = served_by exchange few begun in (
+  served_by {after = after} (exchanges.piece {between = between} bytes short exchange idle all_written (same, told)) few begun = let (is, served) = served_by exchange few begun in (
     same ∙ is,
-    then_read bytes (subst (λ (s : Seat). IsIdle (numbered s.number between.sessions)) is idle) (subst (λ (s : Seat). output_of (numbered s.number between.sessions) ≡ []) is all_written)
+    then_read bytes short (subst (λ (s : Seat). IsIdle (numbered s.number between.sessions)) is idle) (subst (λ (s : Seat). output_of (numbered s.number between.sessions) ≡ []) is all_written)
         (subst (λ (s : Seat). Told hash_of between (Piece s.number bytes ∷ []) after) is told) served,
   )
   served_by {after = after} (exchanges.write {between = between} bytes exchange writes) few begun = let (is, served) = served_by exchange few begun in let wrote = was_written writes in
@@ -243,9 +244,9 @@ module _ {K : Type 0} (hash_of : K → List ℕ → ℕ) where
     lost_of {old = old} {new = new} few served (no_turn now fewer small gives (refused, told)) = let tells : TellsUntil old (Clock now ∷ []) refused.decided (Turn n) new =
         λ plain stands. let moved : PlainWorld = record plain { now = now } in (moved, (moved, refl, refl), (until_only told).told moved (moment_stands {old = old} now stands)) in
         let refusal = refused_turn now gives (record { world = old; told = served.told; room = small }) in (Clock now ∷ [], Turn n, 1, refused.decided, refusal, omega (arith, fewer), tt, refl, tells)
-    lost_of {old = old} {new = new} few served (no_piece bytes some idle (refused, told)) =
+    lost_of {old = old} {new = new} few served (no_piece bytes some short idle (refused, told)) =
         let tells : TellsUntil old [] refused.decided (Piece n bytes) new = λ plain stands. (plain, refl, (until_only told).told plain stands) in
-        let refusal = refused_piece bytes some (record { world = old; told = served.told; idle = idle }) in ([], Piece n bytes, 0, refused.decided, refusal, omega (arith, few), tt, refl, tells)
+        let refusal = refused_piece bytes some short (record { world = old; told = served.told; idle = idle }) in ([], Piece n bytes, 0, refused.decided, refusal, omega (arith, few), tt, refl, tells)
 
 -- A whole run: the worlds before it, after the opening, after the rounds and after the close, and the seat after the rounds.
 pub record Ran {K : Type 0} (hash_of : K → List ℕ → ℕ) (may_give : ℕ → Type 0) (w0 w2 w3 : WorldState K) (s : Seat) (r0 r1 o0 o1 : Option (List ℕ)) : Type 0 where

@@ -3,26 +3,33 @@ use Rattle.mc_world.proofs.Words.{◌≡◌, inl, inr, ℕ, List, Bool, true, fa
 use Rattle.mc_world.proofs.Words.{slice_set, sym, ◌∙◌, arith, add-one, if◌then◌else◌, set-get_or, get_or_from_slice_get, Command, steps, plain, Spent, KeyStep, Relations, ProtocolUnit, Request, Fault}
 use Rattle.mc_world.proofs.Words.{LongLine, plain_text, SessionState, Answers, AnswersStep, TakesTurn, closed, DecidesStep, TurnIsDue, FindsNoTurn, FindsClosed, SessionTurn, TurnFault, Store}
 use Rattle.mc_world.proofs.Words.{HoldSame, TookStep, Did, Idle, Closed, WorldState, open_session, in_plain, numbered, if_open, put, changed, TurnBy, TurnOf, DecidedOf, SessionIsDue, Done, Undone}
-use Rattle.mc_world.proofs.Words.{at_session, IsOpenAt, TurnGiven, Turn, IsIdle}
+use Rattle.mc_world.proofs.Words.{at_session, IsOpenAt, TurnGiven, Turn, IsIdle, StepMoves, TurnMoves}
+use Rattle.mc_protocol.specs.declared.step.KeyStep.TheVariants.{Flush}
 
 -- a store's steps
 abbrev in_store : {K : Type 0} → Relations (Store K)
 in_store = record { took = λ old step now reply new. TookStep old step now reply new; spent = λ old step now. plain old.plain step now ≡ Spent; same = λ old new. HoldSame old new }
 
+-- what a step leaves to move is what a turn may
+turn_moves : (step : KeyStep) {old new : List ℕ} → StepMoves step old new → TurnMoves old new
+turn_moves (Flush delay) moves = inr moves
+turn_moves step moves = inl moves
+
 -- What a turn keeps of a store, beside what it is to the plain state.
 module _ {K : Type 0} where
   abbrev Kept : Store K → Store K → Type 0
-  Kept b a = (a.settings ≡ b.settings) × (a.hasher ≡ b.hasher)
+  Kept b a = ((a.settings ≡ b.settings) × (a.hasher ≡ b.hasher)) × TurnMoves b.left a.left
 
   same_kept : (b a : Store K) → a ≡ b → Kept b a × (a.plain ≡ b.plain)
-  same_kept b a e = ((ap (λ (s : Store K). s.settings) e, ap (λ (s : Store K). s.hasher) e), ap (λ (s : Store K). s.plain) e)
+  same_kept b a e =
+      (((ap (λ (s : Store K). s.settings) e, ap (λ (s : Store K). s.hasher) e), inl (inl (ap (λ (s : Store K). s.left) e))), ap (λ (s : Store K). s.plain) e)
 
   request_seen : (command : Command) (at now : ℕ) (b a : Store K) (text : List ℕ) (o : Option KeyStep)
       → MatchOption o ((text ≡ plain_text command) × (a ≡ b)) (λ step. AnswersStep in_store command at step now b a text)
       → Kept b a × MatchOption o ((text ≡ plain_text command) × (a.plain ≡ b.plain)) (λ step. AnswersStep in_plain command at step now b.plain a.plain text)
   request_seen command at now b a text None h = let same = same_kept b a h.1 in (same.0, (h.0, same.1))
-  request_seen command at now b a text (Some step) (inl (reply, took, is)) = (took.1, inl (reply, took.0, is))
-  request_seen command at now b a text (Some step) (inr (spent, same, is)) = ((same.settings, same.hasher), inr (spent, same.plain, is))
+  request_seen command at now b a text (Some step) (inl (reply, took, is)) = ((took.1, turn_moves step took.2), inl (reply, took.0, is))
+  request_seen command at now b a text (Some step) (inr (spent, same, is)) = (((same.settings, same.hasher), inl same.moves), inr (spent, same.plain, is))
 
   answers_seen : (unit : ProtocolUnit) (at now : ℕ) (b a : Store K) (text : List ℕ) → Answers in_store unit at now b a text → Kept b a × Answers in_plain unit at now b.plain a.plain text
   answers_seen (Request command) at now b a text h = request_seen command at now b a text (slice_get (steps command) at) h
@@ -40,20 +47,20 @@ module _ {K : Type 0} where
   decided_seen : (n now : ℕ) (old : List SessionState) (b a : Store K) → DecidedOf in_store n now old b a → Kept b a × DecidedOf in_plain n now old b.plain a.plain
   decided_seen n now old b a (session, here, h) = let took = h.took_it.0 in let seen : DecidesStep in_plain now session b.plain a.plain =
       record { command = h.command; front = h.front; rest = h.rest; step = h.step; reply = h.reply; opens = h.opens; parts = h.parts; spelled = h.spelled; is_step = h.is_step; took_it = took } in
-      (h.took_it.1, (session, here, seen))
+      ((h.took_it.1, turn_moves h.step h.took_it.2), (session, here, seen))
 
 -- What a turn of a session with a store says of the world.
 module _ {K : Type 0} (n now : ℕ) (old new : List SessionState) (b a : Store K) where
   abbrev with_store : List SessionState → Store K → WorldState K
-  with_store sessions store = record { settings = store.settings; hasher = store.hasher; state = store.plain; moment = now; sessions = sessions }
+  with_store sessions store = record { settings = store.settings; hasher = store.hasher; state = store.plain; moment = now; sessions = sessions; left = store.left }
 
   pub result_done : (hash_of : K → List ℕ → ℕ) (r : Result SessionTurn TurnFault) → OnOk r (TurnOf in_store n now old new b a) → OnOk r (Done hash_of (with_store old b) (Turn n) (with_store new a))
-  result_done hash_of (Ok t) h = let (kept, seen) = turn_seen (open_session n old) n now old new b a h in (kept.0, kept.1, refl, seen)
+  result_done hash_of (Ok t) h = let (kept, seen) = turn_seen (open_session n old) n now old new b a h in (kept.0.0, kept.0.1, refl, seen, kept.1)
   result_done hash_of (Err fault) h = tt
 
   decided_kept : (decided : Bool) → (IsFalse decided → HoldSame b a) → (IsTrue decided → DecidedOf in_store n now old b a) → Kept b a
   decided_kept true undecided decides = (decided_seen n now old b a (decides refl)).0
-  decided_kept false undecided decides = let same = undecided refl in (same.settings, same.hasher)
+  decided_kept false undecided decides = let same = undecided refl in ((same.settings, same.hasher), inl same.moves)
 
   pub result_undone : (r : Result SessionTurn TurnFault) → OnErr r (new ≡ at_session old n closed) → OnErr r (SessionIsDue n old)
       → IfErr r (λ fault. IsFalse fault.decided → HoldSame b a) → IfErr r (λ fault. IsTrue fault.decided → DecidedOf in_store n now old b a)
@@ -62,7 +69,7 @@ module _ {K : Type 0} (n now : ℕ) (old new : List SessionState) (b a : Store K
   result_undone (Err fault) shut due undecided decides =
       let kept : Kept b a = decided_kept fault.decided undecided decides in let state : IsFalse fault.decided → a.plain ≡ b.plain = λ is. (undecided is).plain in
       let seen : IsTrue fault.decided → DecidedOf in_plain n now old b.plain a.plain = λ is. (decided_seen n now old b a (decides is)).1 in
-      record { settings = kept.0; hasher = kept.1; moment = refl; sessions = shut; takes = due; undecided = state; decides = seen }
+      record { settings = kept.0.0; hasher = kept.0.1; moment = refl; sessions = shut; moves = kept.1; takes = due; undecided = state; decides = seen }
 
 -- The turn of one session among others.
 -- the session x at the place is the open one of number n, and y comes in its place

@@ -4,9 +4,10 @@ use Rattle.mc_world.proofs.Words.{◌≡◌, ℕ, zero, suc, ◌+◌, ◌<◌, B
 use Rattle.mc_world.proofs.Words.{true, false, arith, if◌then◌else◌, take_more, Settings, TurnFault, Plain, PlainWorld}
 use Rattle.mc_world.proofs.Words.{WorldState, Happens, Runs, WorldStandsAs, RunsIn, Told, named, Refuses, RunsUntil}
 use Rattle.mc_world.proofs.Words.{ToldRefused, ToldUntil, CanStand, with_end, EventDecides, GivesUp, Event, Turn}
-use Rattle.mc_world.proofs.Words.{Open, Close, Refused, turn_events, EventOutcome, was_done, was_refused, refusals, Goes}
+use Rattle.mc_world.proofs.Words.{Open, Close, Purge, Refused, turn_events, EventOutcome, was_done, was_refused, refusals, Goes}
 use Rattle.mc_world.proofs.Words.{RunsThrough, ToldThrough, inl, inr, drop, Option, MatchOption, nat_lt, slice_get_within, steps, Request, SessionState, opened, fed, closed, sent, Connection, IsRest}
 use Rattle.mc_world.proofs.Words.{Stands, at_start, fresh, with_piece, after_turn, ended, in_plain, put, changed, numbered, open_connection, open_session, Turns, StandAll, TakesMemory, at_session}
+use Rattle.mc_world.proofs.Words.{EventMoves, EventsMove, eight_moved}
 use Rattle.mc_world.proofs.Words.{TurnBy, Done, sessions_ended, DecidedIn, EventTakesMemory, Undone, Piece}
 use Rattle.mc_world.proofs.ChainLemmas as chain
 use Rattle.mc_world.proofs.ConnectionLemmas.{stands_one, rest_fed, rest_closed, rest_idle, rest_due, next_of, is_next, stands_after, AreOpen, Opens, stand_length, stand_open, stand_put, stand_more}
@@ -16,6 +17,10 @@ use Rattle.mc_world.proofs.EventLemmas.{change, number, grown}
 -- at another moment
 pub moment_stands : {K : Type 0} {first : PlainWorld} {old : WorldState K} (now : ℕ) → WorldStandsAs first old → WorldStandsAs (record first { now = now }) (record old { moment = now })
 moment_stands now stands = record { greatest = stands.greatest; state = stands.state; now = refl; sessions = stands.sessions }
+
+-- with other entries left to move
+pub left_stands : {K : Type 0} {first : PlainWorld} {old : WorldState K} (left : List ℕ) → WorldStandsAs first old → WorldStandsAs first (record old { left = left })
+left_stands left stands = record { greatest = stands.greatest; state = stands.state; now = stands.now; sessions = stands.sessions }
 
 -- with the hasher and settings that a world still has
 pub runs_still : {K : Type 0} (hash_of : K → List ℕ → ℕ) (old mid : WorldState K) → mid.settings ≡ old.settings → mid.hasher ≡ old.hasher
@@ -30,18 +35,24 @@ refuses_only hash_of old new first zero decided e event here (mid, same, refuses
     subst (λ (w : PlainWorld). Refuses hash_of w decided e new) same (subst (λ (x : Event). Refuses hash_of mid decided x new) it refuses)
 refuses_only hash_of old new first (suc at) decided e event here until = let none : None ≡ Some event = here in absurd (cc)
 
+-- what it leaves to move
+moves_only : (old new : List ℕ) (at : ℕ) (e event : Event) → slice_get (e ∷ []) at ≡ Some event → EventsMove old (take at (e ∷ []) ++ event ∷ []) new → EventMoves old e new
+moves_only old new zero e event here moves = let it : event ≡ e = cc in subst (λ (x : Event). EventMoves old x new) it (chain.one EventMoves event old new moves)
+moves_only old new (suc at) e event here moves = let none : None ≡ Some event = here in absurd (cc)
+
 module _ {K : Type 0} {hash_of : K → List ℕ → ℕ} where
   -- what is told, from its parts
-  pub told_by : {old new : WorldState K} {events : List Event} → new.settings ≡ old.settings → new.hasher ≡ old.hasher
+  pub told_by : {old new : WorldState K} {events : List Event} → new.settings ≡ old.settings → new.hasher ≡ old.hasher → EventsMove old.left events new.left
       → ((first : PlainWorld) → WorldStandsAs first old → (last : PlainWorld) × RunsIn hash_of old first events last × WorldStandsAs last new) → Told hash_of old events new
-  told_by settings hasher told = record { settings = settings; hasher = hasher; told = told }
+  told_by settings hasher moves told = record { settings = settings; hasher = hasher; moves = moves; told = told }
 
   -- no event
   pub told_none : (world : WorldState K) → Told hash_of world [] world
-  told_none world = record { settings = refl; hasher = refl; told = λ first stands. (first, refl, stands) }
+  told_none world = record { settings = refl; hasher = refl; moves = refl; told = λ first stands. (first, refl, stands) }
 
   pub told_join : {old mid new : WorldState K} {events more : List Event} → Told hash_of old events mid → Told hash_of mid more new → Told hash_of old (events ++ more) new
-  told_join {old = old} {mid = between} {events = events} {more = more} told after = told_by (after.settings ∙ told.settings) (after.hasher ∙ told.hasher) (λ first stands.
+  told_join {old = old} {mid = between} {new = new} {events = events} {more = more} told after = told_by (after.settings ∙ told.settings) (after.hasher ∙ told.hasher)
+      (chain.join EventMoves events more old.left between.left new.left told.moves after.moves) (λ first stands.
       let (mid, runs, there) = told.told first stands in let (last, others, ends) = after.told mid there in let still = runs_still hash_of old between told.settings told.hasher mid more last others in
       (last, chain.join (Happens (hash_of old.hasher) old.settings.shelves) events more first mid last runs still, ends))
 
@@ -54,8 +65,19 @@ module _ {K : Type 0} {hash_of : K → List ℕ → ℕ} where
   -- what is told of the events before a refused one, and of it
   pub told_until : {old mid new : WorldState K} {events : List Event} {event : Event} {refused : Refused} → Told hash_of old (take refused.at events) mid
       → slice_get events refused.at ≡ Some event → refused.session ≡ named event → ToldRefused hash_of refused.decided mid event new → ToldUntil hash_of refused old events new
-  told_until {event = event} told here session after = let settings = after.settings ∙ told.settings in let hasher = after.hasher ∙ told.hasher in
-      record { settings = settings; hasher = hasher; event = event; here = here; session = session; told = λ p stands. let (q, runs, there) = told.told p stands in (q, runs, after.told q there) }
+  told_until {old = old} {mid = mid} {new = new} {events = events} {event = event} {refused = refused} told here session after =
+      let settings = after.settings ∙ told.settings in let hasher = after.hasher ∙ told.hasher in
+      let moves = chain.join EventMoves (take refused.at events) (event ∷ []) old.left mid.left new.left told.moves (chain.alone EventMoves event mid.left new.left after.moves) in
+      record {
+        settings = settings;
+        hasher = hasher;
+        event = event;
+        here = here;
+        session = session;
+        moves = moves;
+        told = λ p stands.
+            let (q, runs, there) = told.told p stands in (q, runs, after.told q there);
+      }
 
   -- the one event is refused, and so it is told
   pub told_refused : {old new : WorldState K} {event : Event} {refused : Refused} → refused.at ≡ 0 → refused.session ≡ named event → ToldRefused hash_of refused.decided old event new
@@ -65,13 +87,16 @@ module _ {K : Type 0} {hash_of : K → List ℕ → ℕ} where
 
   pub until_only : {refused : Refused} {old new : WorldState K} {event : Event} → ToldUntil hash_of refused old (event ∷ []) new → ToldRefused hash_of refused.decided old event new
   until_only {refused = refused} {old = old} {new = new} {event = event} until = let only = refuses_only hash_of old new in
-      record { settings = until.settings; hasher = until.hasher; told = λ first stands. only first refused.at refused.decided event until.event until.here (until.told first stands) }
+      let moves = moves_only old.left new.left refused.at event until.event until.here until.moves in
+      record { settings = until.settings; hasher = until.hasher; moves = moves; told = λ first stands. only first refused.at refused.decided event until.event until.here (until.told first stands) }
 
   -- the three events of a turn
-  pub turn_told : (n shelf now : ℕ) {old new : WorldState K} → Told hash_of (record old { moment = now }) (Turn n ∷ []) new → Told hash_of old (turn_events n shelf now) new
-  turn_told n shelf now {old = old} told = told_by told.settings told.hasher (λ first stands.
+  pub turn_told : (n shelf now : ℕ) {old new : WorldState K} → Told hash_of (record old { moment = now }) (Turn n ∷ []) new
+      → Told hash_of old (turn_events n shelf now) (record new { left = eight_moved shelf new.left })
+  turn_told n shelf now {old = old} {new = new} told = told_by told.settings told.hasher
+      (old.left, refl, (new.left, chain.one EventMoves (Turn n) old.left new.left told.moves, (eight_moved shelf new.left, refl, refl))) (λ first stands.
       let moved : PlainWorld = record first { now = now } in let (last, (mid, turns, same), ends) = told.told moved (moment_stands {old = old} now stands) in
-      (last, (moved, refl, (mid, turns, (mid, refl, same))), ends))
+      (last, (moved, refl, (mid, turns, (mid, refl, same))), left_stands {old = new} (eight_moved shelf new.left) ends))
 
 -- What is told of some events that went in some way, and of one more.
 -- one outcome more
@@ -99,15 +124,16 @@ module _ (hash : List ℕ → ℕ) (shelves : ℕ) where
 module _ {K : Type 0} {hash_of : K → List ℕ → ℕ} where
   -- no event
   pub through_none : (world : WorldState K) → ToldThrough hash_of 0 world [] world
-  through_none world = record { settings = refl; hasher = refl; outcomes = []; count = refl; told = λ first stands. (first, refl, stands) }
+  through_none world = record { settings = refl; hasher = refl; moves = refl; outcomes = []; count = refl; told = λ first stands. (first, refl, stands) }
 
   through_on : {count refused : ℕ} {old mid new : WorldState K} {events : List Event} (event : Event) (outcome : EventOutcome) → count + refusals (outcome ∷ []) ≡ refused
-      → ToldThrough hash_of count old events mid → new.settings ≡ mid.settings → new.hasher ≡ mid.hasher
+      → ToldThrough hash_of count old events mid → new.settings ≡ mid.settings → new.hasher ≡ mid.hasher → EventMoves mid.left event new.left
       → ((first : PlainWorld) → WorldStandsAs first mid → (last : PlainWorld) × Goes (hash_of mid.hasher) mid.settings.shelves first event outcome last × WorldStandsAs last new)
       → ToldThrough hash_of refused old (events ++ event ∷ []) new
-  through_on {old = old} {mid = mid} {events = events} event outcome is told settings hasher goes = record {
+  through_on {old = old} {mid = mid} {new = new} {events = events} event outcome is told settings hasher moves goes = record {
     settings = settings ∙ told.settings;
     hasher = hasher ∙ told.hasher;
+    moves = chain.join EventMoves events (event ∷ []) old.left mid.left new.left told.moves (chain.alone EventMoves event mid.left new.left moves);
     outcomes = told.outcomes ++ outcome ∷ [];
     count = refusals_more told.outcomes outcome ∙ ap (λ (n : ℕ). n + refusals (outcome ∷ [])) told.count ∙ is;
     told = λ first stands. let (between, runs, there) = told.told first stands in let (last, went, ends) = goes between there in
@@ -120,18 +146,20 @@ module _ {K : Type 0} {hash_of : K → List ℕ → ℕ} where
   pub through_next : {T : Type 0} {count : ℕ} {old mid new : WorldState K} (events : List Event) (at : ℕ) (event : Event) (r : Result T TurnFault) → event ≡ get_or events at event
       → at < length events → ToldThrough hash_of count old (take at events) mid → OnOk r (Told hash_of mid (event ∷ []) new)
       → IfErr r (λ fault. ToldRefused hash_of fault.decided mid event new) → (b : Bool) → is_err r ≡ b → ToldThrough hash_of (if b then count + 1 else count) old (take (at + 1) events) new
-  through_next {count = count} {old = old} {new = new} events at event (Ok x) here inside told ok err false is = let same : count + 0 ≡ count = omega arith in
+  through_next {count = count} {old = old} {mid = mid} {new = new} events at event (Ok x) here inside told ok err false is = let same : count + 0 ≡ count = omega arith in
       subst (λ (es : List Event). ToldThrough hash_of count old es new) (ap (λ (e : Event). take at events ++ e ∷ []) here ∙ sym (take_more events at event inside))
-      (through_on event was_done same told ok.settings ok.hasher (λ first stands. let (last, runs, there) = ok.told first stands in (last, chain.one (Happens _ _) event first last runs, there)))
+      (through_on event was_done same told ok.settings ok.hasher (chain.one EventMoves event mid.left new.left ok.moves) (λ first stands.
+      let (last, runs, there) = ok.told first stands in (last, chain.one (Happens _ _) event first last runs, there)))
   through_next {count = count} {old = old} {new = new} events at event (Err fault) here inside told ok err true is =
       subst (λ (es : List Event). ToldThrough hash_of (count + 1) old es new) (ap (λ (e : Event). take at events ++ e ∷ []) here ∙ sym (take_more events at event inside))
-      (through_on event (was_refused fault.decided) refl told err.settings err.hasher (λ first stands. let (last, gives, there, takes) = err.told first stands in (last, (gives, takes), there)))
+      (through_on event (was_refused fault.decided) refl told err.settings err.hasher err.moves (λ first stands.
+      let (last, gives, there, takes) = err.told first stands in (last, (gives, takes), there)))
   through_next events at event (Ok x) here inside told ok err true is = cc
   through_next events at event (Err fault) here inside told ok err false is = cc
 
   -- where none was refused
   pub told_whole : {refused : ℕ} {old new : WorldState K} {events : List Event} → ToldThrough hash_of refused old events new → refused ≡ 0 → Told hash_of old events new
-  told_whole {old = old} {events = events} told none = told_by told.settings told.hasher (λ first stands. let (last, runs, ends) = told.told first stands in
+  told_whole {old = old} {events = events} told none = told_by told.settings told.hasher told.moves (λ first stands. let (last, runs, ends) = told.told first stands in
       (last, through_done (hash_of old.hasher) old.settings.shelves events told.outcomes (told.count ∙ none) first last runs, ends))
 
 -- A single event that is refused memory.
@@ -145,13 +173,15 @@ module _ {K : Type 0} (hash_of : K → List ℕ → ℕ) where
   pub open_refused : (refused : Refused) (old new : WorldState K) → CanStand old → ToldUntil hash_of refused old (Open ∷ []) new → new ≡ old
   open_refused refused old new can until = let (last, gives, ends, takes) = (until_only until).told can.plain can.stands in
       let same = nothing_done refused.decided can.plain last Open (λ state decides. decides) gives in
-      stands_one can.plain old new can.stands (subst (λ (p : PlainWorld). WorldStandsAs p new) same ends) until.settings until.hasher
+      let left = (until_only until).moves in
+      (λ i. record new { left = left i }) ∙ stands_one can.plain old new can.stands (subst (λ (p : PlainWorld). WorldStandsAs p new) same ends) until.settings until.hasher
 
   -- so a close is done
   pub closes : (n : ℕ) (r : Result (Unit {0}) Refused) (old new : WorldState K) → OnOk r (Told hash_of old (Close n ∷ []) new)
       → IfErr r (λ refused. ToldUntil hash_of refused old (Close n ∷ []) new) → Told hash_of old (Close n ∷ []) new
   closes n (Ok x) old new told until = told
-  closes n (Err refused) old new told until = told_by until.settings until.hasher (λ first stands. let (last, gives, ends, takes) = (until_only until).told first stands in
+  closes n (Err refused) old new told until = told_by until.settings until.hasher (chain.alone EventMoves (Close n) old.left new.left (until_only until).moves) (λ first stands.
+      let (last, gives, ends, takes) = (until_only until).told first stands in
       (last, (last, nothing_done refused.decided first last (Close n) (λ state decides. decides) gives, refl), ends))
 
 -- What one event makes of the sessions is what it makes of the connections.
@@ -193,6 +223,10 @@ opened_set_up : {K : Type 0} (w : WorldState K) (b : Bool) → ((opened_more b w
 opened_set_up w true = (refl, refl)
 opened_set_up w false = (refl, refl)
 
+opened_left : {K : Type 0} (w : WorldState K) (b : Bool) → (opened_more b w).left ≡ w.left
+opened_left w true = refl
+opened_left w false = refl
+
 -- a session's connection is open with it
 both_by : (c : Option Connection) (s : SessionState) → Opens c (Some s) → (d : Connection) × (c ≡ Some d) × IsRest d s
 both_by None s both = absurd both
@@ -202,8 +236,9 @@ open_both : (cs : List Connection) (ss : List SessionState) (n : ℕ) (s : Sessi
 open_both cs ss n s all is = both_by (open_connection n cs) s (subst (Opens (open_connection n cs)) is (stand_open cs ss n all))
 
 -- a world that is set up as another, at the same moment
-set_up_as : {K : Type 0} (old new : WorldState K) → new.settings ≡ old.settings → new.hasher ≡ old.hasher → new.moment ≡ old.moment → new ≡ record old { state = new.state; sessions = new.sessions }
-set_up_as old new settings hasher moment = λ i. record { settings = settings i; hasher = hasher i; state = new.state; moment = moment i; sessions = new.sessions }
+set_up_as : {K : Type 0} (old new : WorldState K) → new.settings ≡ old.settings → new.hasher ≡ old.hasher → new.moment ≡ old.moment
+    → new ≡ record old { state = new.state; sessions = new.sessions; left = new.left }
+set_up_as old new settings hasher moment = λ i. record { settings = settings i; hasher = hasher i; state = new.state; moment = moment i; sessions = new.sessions; left = new.left }
 
 -- the connection that is named closes
 end_plain : (w : PlainWorld) (o : Option ℕ) → record w { connections = change (number o) w.connections ended } ≡ with_end o w
@@ -231,19 +266,28 @@ module _ {K : Type 0} (hash_of : K → List ℕ → ℕ) where
   goes old new cs Open all done =
       subst (EventGoes old cs Open) (sym (done ∙ ap (λ (k : ℕ). opened_more (nat_lt k 65535) old) (stand_length cs old.sessions all))) (open_by old cs (nat_lt (length cs) 65535) all)
   goes old new cs (Piece n piece) all done = subst (EventGoes old cs (Piece n piece)) (sym done) (change n cs (with_piece piece), refl, piece_stands cs old.sessions n piece all)
-  goes old new cs (Turn n) all (settings, hasher, moment, turn) = subst (EventGoes old cs (Turn n)) (sym (set_up_as old new settings hasher moment))
+  goes old new cs (Turn n) all (settings, hasher, moment, turn, moves) = subst (EventGoes old cs (Turn n)) (sym (set_up_as old new settings hasher moment))
       (turn_goes old cs n new.state new.sessions (open_connection n cs) (open_session n old.sessions) all (stand_open cs old.sessions n all) turn)
   goes old new cs (Close n) all done = subst (EventGoes old cs (Close n)) (sym done) (change n cs ended, refl, end_stands cs old.sessions (Some n) all)
+  goes old new cs (Purge shelf) all done = subst (EventGoes old cs (Purge shelf)) (sym done.0) (cs, refl, all)
   goes old new cs event all done = subst (EventGoes old cs event) (sym done) (cs, refl, all)
 
   done_set_up : (old new : WorldState K) (event : Event) → Done hash_of old event new → (new.settings ≡ old.settings) × (new.hasher ≡ old.hasher)
   done_set_up old new Open done = subst (λ (w : WorldState K). (w.settings ≡ old.settings) × (w.hasher ≡ old.hasher)) (sym done) (opened_set_up old (nat_lt (length old.sessions) 65535))
   done_set_up old new (Turn n) done = (done.0, done.1)
+  done_set_up old new (Purge shelf) done = (λ i. (done.0 i).settings, λ i. (done.0 i).hasher)
   done_set_up old new event done = (λ i. (done i).settings, λ i. (done i).hasher)
+
+  done_moves : (old new : WorldState K) (event : Event) → Done hash_of old event new → EventMoves old.left event new.left
+  done_moves old new Open done = ap (λ (w : WorldState K). w.left) done ∙ opened_left old (nat_lt (length old.sessions) 65535)
+  done_moves old new (Turn n) (settings, hasher, moment, turn, moves) = moves
+  done_moves old new (Purge shelf) done = done.1
+  done_moves old new event done = λ i. (done i).left
 
   -- what is done is told
   told_one : (old new : WorldState K) (event : Event) → Done hash_of old event new → Told hash_of old (event ∷ []) new
-  told_one old new event done = let set_up = done_set_up old new event done in told_by set_up.0 set_up.1 (λ first stands.
+  told_one old new event done = let set_up = done_set_up old new event done in
+      told_by set_up.0 set_up.1 (chain.alone EventMoves event old.left new.left (done_moves old new event done)) (λ first stands.
       let (ds, happens, all) = goes old new first.connections event stands.sessions done in let Ran : PlainWorld → Type 0 = λ w. RunsIn hash_of old w (event ∷ []) (plain_of new ds) in
       (plain_of new ds, subst Ran (is_plain first old stands) (plain_of new ds, happens, refl), plain_stands new ds all))
 
@@ -276,7 +320,7 @@ module _ {K : Type 0} (hash_of : K → List ℕ → ℕ) where
       (plain_of new ds, gives_up decided old new cs event stands.sessions undone is, plain_stands new ds all, takes_memory old cs event stands.sessions undone.takes)
 
   refused_one : (decided : Bool) (old new : WorldState K) (event : Event) → Undone decided old event new → ToldRefused hash_of decided old event new
-  refused_one decided old new event undone = record { settings = undone.settings; hasher = undone.hasher; told = refuses decided old new event undone }
+  refused_one decided old new event undone = record { settings = undone.settings; hasher = undone.hasher; moves = undone.moves; told = refuses decided old new event undone }
 
   -- what the result of an event tells of a world as contracts see it; and a plain world still stands
   pub result_told : {T : Type 0} (old new world : WorldState K) (event : Event) (r : Result T TurnFault) → old ≡ world → OnOk r (Done hash_of old event new)
@@ -304,6 +348,10 @@ sent_stands old number n can = record {
 -- at another moment
 pub can_move : {K : Type 0} (old : WorldState K) (now : ℕ) → CanStand old → CanStand (record old { moment = now })
 can_move old now can = record { plain = record can.plain { now = now }; stands = moment_stands {old = old} now can.stands }
+
+-- with other entries left to move
+pub can_grow : {K : Type 0} (old : WorldState K) (left : List ℕ) → CanStand old → CanStand (record old { left = left })
+can_grow old left can = record { plain = can.plain; stands = left_stands {old = old} left can.stands }
 
 -- a world of no sessions stands
 pub new_stands : {K : Type 0} (world : WorldState K) → world.sessions ≡ [] → CanStand world

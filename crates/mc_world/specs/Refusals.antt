@@ -1,6 +1,6 @@
 -- A run that goes on past refusals of memory.
 use Rattle.std.specs.Prelude.{◌≡◌, ℕ, suc, Bool, List, [], ◌∷◌}
-use Rattle.mc_world.specs.Worlds.{PlainWorld, WorldState, Happens, GivesUp, TakesMemory, WorldStandsAs}
+use Rattle.mc_world.specs.Worlds.{PlainWorld, WorldState, EventsMove, Happens, GivesUp, TakesMemory, WorldStandsAs}
 use Rattle.mc_world.specs.declared.event.Event.{Event}
 
 -- How an event ended: it was done; or memory was refused in it, and the step of its turn was
@@ -32,11 +32,12 @@ module _ (hash : List ℕ → ℕ) (shelves : ℕ) where
 
 -- What the events make of a world if this many of them were refused memory, whatever came before:
 -- from every plain world that represents the old one, they make one that represents the new one.
--- The store's settings are unchanged.
+-- The store's settings are unchanged, and its growths move on as the events have it.
 pub record ToldThrough {K : Type 0} (hash_of : K → List ℕ → ℕ) (refused : ℕ)
     (old : WorldState K) (events : List Event) (new : WorldState K) : Type 0 where
   pub settings : new.settings ≡ old.settings
   pub hasher : new.hasher ≡ old.hasher
+  pub moves : EventsMove old.left events new.left
   pub outcomes : List EventOutcome
   pub count : refusals outcomes ≡ refused
   pub told : (first : PlainWorld) → WorldStandsAs first old → (last : PlainWorld)

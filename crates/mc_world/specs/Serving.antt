@@ -1,6 +1,7 @@
 -- A whole run of one session of a world over a reader and a writer.
 use Rattle.std.specs.Prelude.{◌≡◌, ◌⊎◌, ℕ, ◌+◌, ◌%◌, ◌^◌, ◌<◌, ◌≤◌, max, Bool, List, [], ◌∷◌, ◌++◌, length, Option}
 use Rattle.std.specs.Io.KnownBytes.{Appends, Consumes, IsAtEnd}
+use Rattle.mc_session.specs.Exchanges.{longest_piece, most_waiting}
 use Rattle.mc_world.specs.Connections.{Connection}
 use Rattle.mc_world.specs.Worlds.{PlainWorld, WorldState, numbered, changed, output_of, IsIdle, IsClosed, WorldStandsAs, Told, RunsUntil}
 use Rattle.mc_world.specs.declared.event.Event.{Event}
@@ -9,10 +10,6 @@ use Rattle.mc_world.specs.declared.event.Event.TheVariants.{Open, Piece, Turn, C
 -- the most turns of a run
 abbrev pub most_turns : ℕ
 most_turns = 2 ^ 40
-
--- a turn is taken only with less output than this
-abbrev pub most_waiting : ℕ
-most_waiting = 65536
 
 -- a world, what is left to be read, and what was written
 pub record WorldScene (K : Type 0) : Type 0 where
@@ -74,9 +71,10 @@ module _ {K : Type 0} (hash_of : K → List ℕ → ℕ) (may_give : ℕ → Typ
     pub idle : IsIdle (numbered n world.sessions)
 
   -- The events that serve the session before it closes, the bytes that they bring, those that were
-  -- written meanwhile, and the number of turns. It opens. Then pieces come, while no turn is due
-  -- and all output is written; bytes are written; and turns are taken, each at a moment that the
-  -- clock may give, with less than 64 KiB of output, and with growth of the next shelf after it.
+  -- written meanwhile, and the number of turns. It opens. Then pieces of at most 16384 bytes come,
+  -- while no turn is due and all output is written; bytes are written; and turns are taken, each at
+  -- a moment that the clock may give, with less than 64 KiB of output, and with growth of the next
+  -- shelf after it.
   pub data IsService : List Event → (read written : List ℕ) → (turns : ℕ) → Type 0 where
     starts : IsService (Open ∷ []) [] [] 0
     turn : {events : List Event} {read written : List ℕ} {turns : ℕ} (now : ℕ) → may_give now
@@ -84,6 +82,7 @@ module _ {K : Type 0} (hash_of : K → List ℕ → ℕ) (may_give : ℕ → Typ
         → IsService (events ++ turn_events n (shelf_of turns old.settings.shelves) now) read written
         (turns + 1)
     piece : {events : List Event} {read written : List ℕ} {turns : ℕ} (bytes : List ℕ)
+        → length bytes ≤ longest_piece
         → (found : FindsIdle events written) → output_of (numbered n found.world.sessions) ≡ []
         → IsService events read written turns
         → IsService (events ++ Piece n bytes ∷ []) (read ++ bytes) written turns
@@ -98,7 +97,8 @@ module _ {K : Type 0} (hash_of : K → List ℕ → ℕ) (may_give : ℕ → Typ
       → (brings : List ℕ) → (calls : ℕ) → Type 0 where
     refused_turn : (now : ℕ) → may_give now → HasRoom events written
         → IsRefusal events written (Clock now ∷ []) (Turn n) [] 1
-    refused_piece : (bytes : List ℕ) → 0 < length bytes → FindsIdle events written
+    refused_piece : (bytes : List ℕ) → 0 < length bytes → length bytes ≤ longest_piece
+        → FindsIdle events written
         → IsRefusal events written [] (Piece n bytes) bytes 0
 
   -- A session was served until memory was refused: what came before the refused event, and that

@@ -8,7 +8,8 @@ use Rattle.mc_session.specs.declared.session.Turn.{Turn as SessionTurn}
 use Rattle.mc_session.specs.declared.session.Turn.TheVariants.{Did, Idle, Closed}
 use Rattle.mc_session.specs.declared.session.TurnFault.{TurnFault}
 use Rattle.mc_protocol.specs.Purge.{purged}
-use Rattle.mc_world.specs.Worlds.{WorldState, numbered, put, changed, open_session, IsIdle, in_plain, named}
+use Rattle.mc_shelf.specs.Stores.{FallsAt}
+use Rattle.mc_world.specs.Worlds.{WorldState, EventMoves, TurnMoves, eight_moved, numbered, put, changed, open_session, IsIdle, in_plain, named}
 use Rattle.mc_world.specs.declared.event.Event.{Event}
 use Rattle.mc_world.specs.declared.event.Event.TheVariants.{Open, Piece, Turn, Clock, Grow, Purge, Close}
 use Rattle.mc_world.specs.declared.parts.Parts.{Parts}
@@ -92,9 +93,12 @@ module _ {K : Type 0} (hash_of : K → List ℕ → ℕ) where
   Done old (Turn n) new =
       (new.settings ≡ old.settings) × (new.hasher ≡ old.hasher) × (new.moment ≡ old.moment)
       × TurnOf in_plain n old.moment old.sessions new.sessions old.state new.state
+      × TurnMoves old.left new.left
   Done old (Clock now) new = new ≡ record old { moment = now }
-  Done old (Grow shelf) new = new ≡ old
-  Done old (Purge shelf) new = new ≡ record old { state = without_dead shelf old }
+  Done old (Grow shelf) new = new ≡ record old { left = eight_moved shelf old.left }
+  Done old (Purge shelf) new =
+      (new ≡ record old { state = without_dead shelf old; left = new.left })
+      × FallsAt shelf old.left new.left
   Done old (Close n) new = new ≡ record old { sessions = at_session old.sessions n ended }
 
 -- the session of an event is closed
@@ -130,6 +134,7 @@ pub record Undone {K : Type 0} (decided : Bool) (old : WorldState K) (event : Ev
   pub hasher : new.hasher ≡ old.hasher
   pub moment : new.moment ≡ old.moment
   pub sessions : new.sessions ≡ sessions_ended (named event) old.sessions
+  pub moves : EventMoves old.left event new.left
   pub takes : EventTakesMemory old event
   pub undecided : IsFalse decided → new.state ≡ old.state
   pub decides : IsTrue decided → DecidedIn old event new.state
@@ -143,4 +148,5 @@ state_of w =
       state = w.store.plain;
       moment = w.moment;
       sessions = w.sessions;
+      left = w.store.left;
     }

@@ -1,5 +1,5 @@
 -- The plain world: what a list of events makes of a store and its connections.
-use Rattle.std.specs.Prelude.{◌≡◌, ◌⊎◌, ℕ, zero, suc, ◌-◌, ◌%◌, ◌<◌, ◌==◌, Bool, true, false, List, [], ◌∷◌, ◌++◌, length, take, Option, Some, None, slice_get, slice_set, nat_lt, if◌then◌else◌, IsTrue, IsFalse, refl}
+use Rattle.std.specs.Prelude.{◌≡◌, ◌⊎◌, ℕ, zero, suc, ◌-◌, ◌%◌, ◌<◌, ◌==◌, Bool, true, false, List, [], ◌∷◌, ◌++◌, length, take, Option, Some, None, slice_get, slice_index, slice_set, min, nat_lt, if◌then◌else◌, IsTrue, IsFalse, refl}
 use Rattle.std.specs.Coded.{Coded, code_by, coded×, coded_ℕ, coded_bool, coded_list}
 use Rattle.std.specs.Option.{MatchOption}
 use Rattle.mc_protocol.specs.Commands.{steps}
@@ -11,7 +11,7 @@ use Rattle.mc_protocol.specs.declared.reply.Reply.{Reply}
 use Rattle.mc_parse.specs.Units.{ProtocolUnit, Request}
 use Rattle.mc_parse.specs.Feeds.{Unread}
 use Rattle.mc_session.specs.Turns.{SessionState, Answers, NoTurnDue}
-use Rattle.mc_shelf.specs.Stores.{coded_settings}
+use Rattle.mc_shelf.specs.Stores.{coded_settings, FallsAt, FewMoveSomewhere, NoneRises}
 use Rattle.mc_shelf.specs.declared.settings.Settings.{Settings}
 use Rattle.mc_protocol.specs.Purge.{purged}
 use Rattle.mc_world.specs.Chains.{Chain}
@@ -29,13 +29,15 @@ pub record PlainWorld : Type 0 where
   pub connections : List Connection
 
 -- What contracts see of a world: its store's settings, the hasher of its keys, the plain machine's
--- state, the moment, and the sessions, which have what is left of their streams.
+-- state, the moment, and the sessions, which have what is left of their streams; and beside these,
+-- of each shelf how many entries of an old table are left to move.
 pub record WorldState (K : Type 0) : Type 0 where
   pub settings : Settings
   pub hasher : K
   pub state : Plain
   pub moment : ℕ
   pub sessions : List SessionState
+  pub left : List ℕ
 
 abbrev pub coded_unread : Coded Unread
 coded_unread =
@@ -54,16 +56,19 @@ coded_session =
 
 abbrev pub coded_world : {K : Type 0} → Coded K → Coded (WorldState K)
 coded_world {K} coded_hasher =
-    code_by (Settings × (K × (Plain × (ℕ × List SessionState))))
+    code_by (Settings × (K × (Plain × (ℕ × (List SessionState × List ℕ)))))
     (coded× coded_settings
-    (coded× coded_hasher (coded× coded_plain (coded× coded_ℕ (coded_list coded_session)))))
-    (λ w. (w.settings, (w.hasher, (w.state, (w.moment, w.sessions)))))
+    (coded× coded_hasher
+    (coded× coded_plain
+    (coded× coded_ℕ (coded× (coded_list coded_session) (coded_list coded_ℕ))))))
+    (λ w. (w.settings, (w.hasher, (w.state, (w.moment, (w.sessions, w.left))))))
     (λ p. record {
       settings = p.0;
       hasher = p.1.0;
       state = p.1.1.0;
       moment = p.1.1.1.0;
-      sessions = p.1.1.1.1;
+      sessions = p.1.1.1.1.0;
+      left = p.1.1.1.1.1;
     })
     (λ _. refl)
 
@@ -168,6 +173,29 @@ module _ (hash : List ℕ → ℕ) (shelves : ℕ) where
   abbrev pub Runs : PlainWorld → List Event → PlainWorld → Type 0
   Runs old events new = Chain Happens old events new
 
+-- what an event of growth leaves to move: of this shelf 8 entries are moved, or as many as are left
+abbrev pub eight_moved : (shelf : ℕ) → (left : List ℕ) → List ℕ
+eight_moved shelf left =
+    slice_set left shelf (slice_index left shelf - min 8 (slice_index left shelf))
+
+-- what a turn leaves to move: few entries of one shelf were moved, or it flushed, which moves none
+abbrev pub TurnMoves : (old new : List ℕ) → Type 0
+TurnMoves old new = FewMoveSomewhere old new ⊎ NoneRises old new
+
+-- what one event leaves to move, of each shelf
+abbrev pub EventMoves : (old : List ℕ) → Event → (new : List ℕ) → Type 0
+EventMoves old Open new = new ≡ old
+EventMoves old (Piece n piece) new = new ≡ old
+EventMoves old (Turn n) new = TurnMoves old new
+EventMoves old (Clock now) new = new ≡ old
+EventMoves old (Grow shelf) new = new ≡ eight_moved shelf old
+EventMoves old (Purge shelf) new = FallsAt shelf old new
+EventMoves old (Close n) new = new ≡ old
+
+-- what events in order leave to move
+abbrev pub EventsMove : (old : List ℕ) → List Event → (new : List ℕ) → Type 0
+EventsMove old events new = Chain EventMoves old events new
+
 -- the sessions are what is left of the connections
 abbrev pub StandAll : List Connection → List SessionState → Type 0
 StandAll [] [] = Unit {0}
@@ -255,10 +283,11 @@ module _ {K : Type 0} (hash_of : K → List ℕ → ℕ) where
 
   -- What the events make of a world, whatever came before: from every plain world that represents
   -- the old one, the events make one that represents the new one. The store's settings are
-  -- unchanged.
+  -- unchanged, and its growths move on as the events have it.
   pub record Told (old : WorldState K) (events : List Event) (new : WorldState K) : Type 0 where
     pub settings : new.settings ≡ old.settings
     pub hasher : new.hasher ≡ old.hasher
+    pub moves : EventsMove old.left events new.left
     pub told : (first : PlainWorld) → WorldStandsAs first old → (last : PlainWorld)
         × RunsIn old first events last × WorldStandsAs last new
 
@@ -271,6 +300,7 @@ module _ {K : Type 0} (hash_of : K → List ℕ → ℕ) where
       (new : WorldState K) : Type 0 where
     pub settings : new.settings ≡ old.settings
     pub hasher : new.hasher ≡ old.hasher
+    pub moves : EventMoves old.left event new.left
     pub told : (first : PlainWorld) → WorldStandsAs first old → Refuses first decided event new
 
   -- events, and then one that is refused
@@ -287,5 +317,6 @@ module _ {K : Type 0} (hash_of : K → List ℕ → ℕ) where
     pub event : Event
     pub here : slice_get events refused.at ≡ Some event
     pub session : refused.session ≡ named event
+    pub moves : EventsMove old.left (take refused.at events ++ event ∷ []) new.left
     pub told : (first : PlainWorld) → WorldStandsAs first old
         → RunsUntil old first (take refused.at events) refused.decided event new

@@ -14,7 +14,7 @@ pub enum Event<'a> {
     Turn(u32),
     /// The moment from now on.
     Clock(Moment),
-    /// Up to 8 entries of a shelf move to its new table. No session sees that.
+    /// 8 entries of a shelf move to its new table, or as many as are left. No session sees that.
     Grow(u32),
     /// The dead items of a shelf are dropped.
     Purge(u32),

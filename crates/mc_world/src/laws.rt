@@ -53,12 +53,13 @@ pub fn a_session_follows_its_own_answers()
 
 /// States that a plain world represents only one state with given settings and hasher.
 ///
-/// So the contract about a world determines it.
+/// So the contract about a world determines it, but for what its growths have left to move.
 #[tactic(auto, using(crate::proofs::ConnectionLemmas::stands_one))]
 pub fn a_plain_world_stands_one_way<K: KeyHash>()
     ensures { (plain : PlainWorld) (one other : WorldState K) →
         WorldStandsAs plain one → WorldStandsAs plain other →
-        other.settings ≡ one.settings → other.hasher ≡ one.hasher → other ≡ one }
+        other.settings ≡ one.settings → other.hasher ≡ one.hasher →
+        record other { left = one.left } ≡ one }
 {}
 
 /// States that a turn of an open session is due exactly if its connection has a next one.

@@ -1,7 +1,7 @@
 //! The parts of a world.
 
 ghost use Rattle.std.specs.Prelude.{◌≡◌, [], IfErr, OnOk, Ok, None};
-ghost use Rattle.mc_world.specs.Worlds.{numbered, open_session, IsIdle};
+ghost use Rattle.mc_world.specs.Worlds.{eight_moved, numbered, open_session, IsIdle};
 ghost use Rattle.mc_world.specs.Sessions.{Done, Undone, SessionIsDue, state_of};
 
 use crate::event::Event;
@@ -32,6 +32,7 @@ impl<K: KeyHash + Drop> Parts<K> {
           state = store.plain;
           moment = now;
           sessions = [];
+          left = store.left;
         } }
     {
         Parts {
@@ -82,9 +83,12 @@ impl<K: KeyHash + Drop> Parts<K> {
             .turn(alloc, number, &mut self.store, self.moment)
     }
 
-    /// Moves up to 8 entries of a shelf to its new table.
+    /// Moves 8 entries of a shelf to its new table, or as many as are left.
+    ///
+    /// If there is no such shelf it does nothing. It takes no memory.
     pub fn grow(&mut self, shelf: u32)
-        ensures { state_of self.new ≡ state_of self.old }
+        ensures { state_of self.new
+            ≡ record (state_of self.old) { left = eight_moved shelf self.old.store.left } }
     {
         let _ = self.store.grow(shelf, MOVED);
     }

@@ -1,11 +1,11 @@
 //! Worlds: many sessions over one store, driven by events.
 
-ghost use Rattle.std.specs.Prelude.{◌≡◌, ◌≤◌, ◌↔◌, ◌∷◌, [], length};
+ghost use Rattle.std.specs.Prelude.{◌≡◌, ◌≤◌, ◌↔◌, ◌∷◌, [], length, replicate};
 ghost use Rattle.std.specs.Prelude.{IsTrue, IfOk, IfErr, OnOk, Ok, None};
 ghost use Rattle.mc_protocol.specs.Plain.{opening, starting};
 ghost use Rattle.mc_session.specs.Turns.{sent};
 ghost use Rattle.mc_world.specs.Worlds.{CanStand, Told, ToldRefused, ToldUntil};
-ghost use Rattle.mc_world.specs.Worlds.{numbered, open_session, changed};
+ghost use Rattle.mc_world.specs.Worlds.{eight_moved, numbered, open_session, changed};
 ghost use Rattle.mc_world.specs.Worlds.{output_of, IsIdle, IsClosed};
 ghost use Rattle.mc_world.specs.Refusals.{ToldThrough};
 ghost use Rattle.mc_world.specs.Sessions.{SessionIsDue};
@@ -22,7 +22,8 @@ use std::marker::Model;
 /// A store, a moment, and the sessions that use the store in turn.
 ///
 /// Contracts see the store's settings, its hasher, the plain machine's state, the moment and the
-/// sessions; and a plain world represents them.
+/// sessions, and a plain world represents them. Beside these they see for each shelf how many
+/// entries of an old table are still to be moved.
 #[derive(Drop)]
 pub struct World<K: KeyHash + Drop> {
     parts: Parts<K>,
@@ -55,6 +56,7 @@ impl<K: KeyHash + Drop> World<K> {
           state = opening settings.pages settings.greatest;
           moment = now;
           sessions = [];
+          left = replicate settings.shelves 0;
         }) }
     {
         World::starting(alloc, settings, hasher, now, 1)
@@ -77,6 +79,7 @@ impl<K: KeyHash + Drop> World<K> {
           state = starting settings.pages settings.greatest next;
           moment = now;
           sessions = [];
+          left = replicate settings.shelves 0;
         }) }
     {
         let store = Store::starting(alloc, settings, hasher, next)?;
@@ -159,11 +162,11 @@ impl<K: KeyHash + Drop> World<K> {
         self.parts.moment = now;
     }
 
-    /// Moves up to 8 entries of a shelf to its new table, which no session sees.
+    /// Moves 8 entries of a shelf to its new table, or as many as are left. No session sees that.
     ///
     /// If there is no such shelf it does nothing. It takes no memory.
     pub fn grow(&mut self, shelf: u32)
-        ensures { self.new ≡ self.old }
+        ensures { self.new ≡ record self.old { left = eight_moved shelf self.old.left } }
     {
         self.parts.grow(shelf);
     }

@@ -1,24 +1,31 @@
 use Rattle.std.proofs.Common.{sym, subst, refl, ◌<◌}
 use Rattle.mc_guests.specs.Asks.{nobody as no_round}
+use Rattle.mc_guests.specs.Budgets.{uncounted, IsHeldBack, Recounts}
 use Rattle.mc_guests.specs.Guests.{RowGuest}
 use Rattle.mc_guests.specs.Turns.{nobody, HasTurn}
+use Rattle.mc_guests.proofs.BudgetLemmas.{recounts_nobody, recounts_more}
 use Rattle.mc_guests.proofs.RoundLemmas.{round_goes_on}
 use Rattle.mc_guests.proofs.TurnLemmas.{has_turn, turns_more}
 use Rattle.mc_guests.proofs.rounds.round_within.Goals as goal
 
 pub loop-guest-init : goal.loop-guest-init
-loop-guest-init g c = (no_round, nobody, refl)
+loop-guest-init g c = (no_round, nobody, refl, recounts_nobody c.args.guests.now c.args.budget.now)
 
 pub loop-guest-preserved : goal.loop-guest-preserved
 loop-guest-preserved g c =
     let loop = c.loop-guest in
     let inside = subst (λ n. loop.guest-index < n) (sym loop.auto.guests) c.loop-guest-test.true in
-    let turn = subst (λ (x : RowGuest). HasTurn g.S.Steps c.args.now x c.visit.new.self loop.store c.visit.new.store) (sym c.guest-item.is)
-    (has_turn g.S.Steps c.args.now c.visit.result _ c.visit.new.self loop.store c.visit.new.store c.visit.ensures.some c.visit.ensures.none c.visit.ensures.waits) in
+    let turn = subst (λ (x : RowGuest). HasTurn g.S.Steps c.args.now x c.visit.new.self loop.store c.visit.new.store loop.budget c.visit.new.budget) (sym c.guest-item.is)
+    (has_turn g.S.Steps c.args.now c.visit.result _ c.visit.new.self loop.store c.visit.new.store loop.budget c.visit.new.budget
+    c.visit.ensures.some c.visit.ensures.none c.visit.ensures.held_back c.visit.ensures.waits c.visit.ensures.counts) in
+    let counts = subst (λ (x : RowGuest). Recounts x c.visit.new.self loop.budget c.visit.new.budget) (sym c.guest-item.is) c.visit.ensures.counts in
     let turns = turns_more g.S.Steps c.args.now c.args.guests.now loop.guests loop.guest-index c.guest-item.result
-    c.visit.new.self c.args.store.now loop.store c.visit.new.store loop.auto.guests inside c.guest-item.is (loop.invariant.1, loop.invariant.2) turn in (
+    c.visit.new.self c.args.store.now loop.store c.visit.new.store c.args.budget.now loop.budget c.visit.new.budget loop.auto.guests inside c.guest-item.is
+    (loop.invariant.1, loop.invariant.2) turn in (
       round_goes_on g.S.Steps c.args.now c.visit.result _ c.visit.new.self.guest c.args.store.now loop.store c.visit.new.store
           loop.invariant.0 c.visit.ensures.some c.visit.ensures.none,
       turns.0,
       turns.1,
+      recounts_more c.args.guests.now loop.guests loop.guest-index c.guest-item.result c.visit.new.self c.args.budget.now loop.budget c.visit.new.budget
+          loop.auto.guests inside c.guest-item.is loop.invariant.3 counts,
     )

@@ -1,4 +1,4 @@
-use Rattle.std.proofs.Common.{arith, ◌≡◌, ◌+◌, ◌-◌, ◌%◌, ℕ, [], ◌∷◌, is_some, false, Err, replicate, refl, sym, ap, ◌∙◌, subst}
+use Rattle.std.proofs.Common.{arith, ◌≡◌, ◌+◌, ◌-◌, ◌%◌, ℕ, [], ◌∷◌, Option, Some, None, is_some, is_none, true, false, Err, replicate, refl, sym, ap, ◌∙◌, subst}
 use Rattle.mc_shared.proofs.Words.{get, len, key_of, Plain, ShelfState, ShelfContent, DeskState, IsShelfOf, IsDeskOf, number_of, OfShelf, OfDesk, Operation, start_of}
 use Rattle.mc_shared.proofs.Words.{Stepped, Past, call, word_of, MayDecide, IsAnswered, SharedState, CallerState, Refuses, holds_one, holds_two, Mine, Agrees, HoldsThis}
 use Rattle.mc_shared.proofs.Words.{loaded, decided_by, entry_of, HoldsBoth, IsAsked, caller_of, StoreState}
@@ -29,9 +29,15 @@ is_asked g c = (
 was : (g : _) → (c : After-deref_mut-2 g) → c.len-before.result ≡ len c.deref_mut.result.now.content.items
 was g c = c.len-before.ensures.count ∙ ap (λ (s : ShelfState). len s.content.items) (c.deref.ensures ∙ sym c.deref_mut.ensures.value)
 
+none_there : {A : Type 0} (o : Option A) → is_some o ≡ false → is_none o ≡ true
+none_there None none = refl
+none_there (Some x) none = cc
+
 adds : (g : _) → (c : After-raise_for-word g) → is_some (get c.deref_mut.result.now.content.items (key_of c.args.ask.now.step.now)) ≡ false → c.raise_for-word.result.1 ≡ 1
 adds g c none = c.raise_for-word.ensures.one.0
-    (c.may_come-comes.ensures (subst (λ (s : ShelfState). is_some (get s.content.items (key_of c.args.ask.now.step.now)) ≡ false) (c.deref_mut.ensures.value ∙ sym c.deref-2.ensures) none))
+    (c.may_come-comes.ensures
+    ∙ none_there (get c.deref-2.result.now.content.items (key_of c.args.ask.now.step.now))
+    (subst (λ (s : ShelfState). is_some (get s.content.items (key_of c.args.ask.now.step.now)) ≡ false) (c.deref_mut.ensures.value ∙ sym c.deref-2.ensures) none))
 
 pub begin_step-requires-clause-stands : goal.begin_step-requires-clause-stands
 begin_step-requires-clause-stands g c =

@@ -2,7 +2,7 @@ use Rattle.std.proofs.Common.{◌≡◌, ap, sym, subst, ◌∙◌}
 use Rattle.mc_shelf.proofs.Common.{count, entries_of, EntryMap, EntryState, IndexState, items_in, items_of, len}
 use Rattle.mc_shelf.specs.Counts.{CaughtUp, counts_in}
 use Rattle.mc_shelf.proofs.LenLemmas.{len_items}
-use Rattle.mc_shelf.proofs.CountLemmas.{caught_up}
+use Rattle.mc_shelf.proofs.CountLemmas.{caught_none, caught_up}
 use Rattle.mc_shelf.proofs.index.Index.catch_up.Goals as goal
 
 pub returns-then-lags-clause-count : goal.returns-then-lags-clause-count
@@ -25,3 +25,10 @@ returns-else-lags-clause-count c =
     let i = c.self.inside.entries in
     subst (λ (s : IndexState EntryState). len (items_of s) ≡ count s) c.self.view_is
     (len_items (count i) (entries_of i) c.self.invariant.0 c.each_entry_counts_once.ensures)
+
+pub returns-else-lags-clause-moves : goal.returns-else-lags-clause-moves
+returns-else-lags-clause-moves c =
+    let i = c.self.inside.entries in
+    subst (λ (s : IndexState EntryState). CaughtUp (counts_in s) (counts_in s)) c.self.view_is
+    (caught_none i c.entries_to_move-left.result (len_items (count i) (entries_of i) c.self.invariant.0 c.each_entry_counts_once.ensures) (sym c.lags.ensures ∙ c.if-lags.false)
+    c.entries_to_move-left.ensures.value c.entries_to_move-left.ensures.rests)

@@ -1,4 +1,5 @@
 use Rattle.std.proofs.Common.{lt-ltb}
+use Rattle.mc_shelf.proofs.LeftLemmas.{falls_at, falls_not}
 use Rattle.mc_shelf.proofs.StoreLemmas.{shelf_here, kept_after, plain_after}
 use Rattle.mc_shelf.proofs.store.Store.purge.Goals as goal
 
@@ -25,3 +26,13 @@ returns-then-shelf-self-clause-plain g c =
     let fits = parts.each c.args.shelf c.index_mut-shelf.result.now (shelf_here settings parts c.if-shelf-self.true c.index_mut-shelf.ensures.value) in
     rw (← c.self.view_is, lt-ltb c.args.shelf settings.shelves c.if-shelf-self.true)
     (plain_after settings parts c.purge_part.new.self (c.purge_part.ensures.goes _ _ c.args.shelf _ fits parts.account))
+
+pub returns-then-shelf-self-clause-left : goal.returns-then-shelf-self-clause-left
+returns-then-shelf-self-clause-left g c =
+    let parts = c.self.invariant.parts in
+    let s = c.self.inside.parts in
+    let here = shelf_here s.settings parts c.if-shelf-self.true c.index_mut-shelf.ensures.value in
+    rw (← c.self.view_is) (falls_at s.shelves.items c.args.shelf c.purge_part.new.self here c.purge_part.ensures.table.less)
+
+pub returns-else-shelf-self-clause-left : goal.returns-else-shelf-self-clause-left
+returns-else-shelf-self-clause-left g c = falls_not c.args.shelf c.args.self.now.left

@@ -1,7 +1,8 @@
 use Rattle.std.proofs.Common.{sym, ap, ◌∙◌, subst}
 use Rattle.mc_shared.specs.Asking.{AskingState, Further}
 use Rattle.mc_shared.specs.Past.{Past}
-use Rattle.mc_guests.specs.Books.{BooksState, SettlesFrom}
+use Rattle.mc_guests.specs.Books.{BooksState, SettlesFrom, no_books}
+use Rattle.mc_guests.specs.declared.budget.Budget.{Budget}
 use Rattle.mc_workers.proofs.WorkLemmas.{goes_same, goes_both, goes_at}
 use Rattle.mc_workers.proofs.WorksLemmas.{works_from, works_on, works_over}
 use Rattle.mc_workers.proofs.worker.Worker.work.Goals as goal
@@ -9,15 +10,15 @@ use Rattle.mc_workers.proofs.worker.Worker.work.Goals as goal
 pub loop-init : goal.loop-init
 loop-init g c = (
   goes_same _ _ _ (c.new-counting.ensures ∙ c.new-tending.ensures),
-  works_from g.K.KeyHash.hash_of (g.C.Clock.may_give c.args.self.now.clock.now) c.args.self.now.first c.args.shared.now.began c.args.caller c.now-before.result _
+  works_from g.K.KeyHash.hash_of (g.C.Clock.may_give c.args.self.now.clock.now) c.args.self.now.first c.args.self.now.share c.args.shared.now.began c.args.caller c.now-before.result
       c.new-counting.result c.new-guests.result c.new-door.result c.now-before.ensures (c.new-counting.ensures ∙ c.new-tending.ensures)
-      c.new-guests.ensures c.greatest.result c.new-door.ensures c.greatest.ensures,
+      (c.new-guests.ensures ∙ ap (λ (b : Budget). no_books b.share) c.new.ensures) c.greatest.result c.new-door.ensures c.greatest.ensures,
 )
 
 pub loop-preserved : goal.loop-preserved
 loop-preserved g c = (
   goes_both _ _ _ _ c.loop.invariant.0 (goes_at _ _ c.now-now.ensures _ _ c.make_round-turn.ensures.further),
-  works_on g.K.KeyHash.hash_of (g.C.Clock.may_give c.args.self.now.clock.now) c.args.self.now.first c.args.shared.now.began c.args.caller _
+  works_on g.K.KeyHash.hash_of (g.C.Clock.may_give c.args.self.now.clock.now) c.args.self.now.first c.args.self.now.share c.args.shared.now.began c.args.caller _
       (record {
         asking = c.make_round-turn.new.counting;
         books = c.open_for_all.new.guests;
@@ -28,7 +29,8 @@ loop-preserved g c = (
       })
       c.make_round-turn.new.guests c.make_room.new.guests c.settle.new.end c.open_for_all.result c.loop.invariant.1 c.now-now.ensures
       c.make_round-turn.ensures.round
-      (subst (λ (b : BooksState). SettlesFrom 0 c.make_round-turn.new.guests b c.loop.end c.settle.new.end) (sym c.make_room.ensures) c.settle.ensures) c.open_for_all.ensures (cc),
+      (subst (λ (b : BooksState). SettlesFrom 0 c.make_round-turn.new.guests b c.loop.end c.settle.new.end) (sym (c.make_room.ensures ∙ c.report.ensures)) c.settle.ensures)
+      c.open_for_all.ensures (cc),
 )
 
 pub returns-then-not-open_for_all-clause-calls : goal.returns-then-not-open_for_all-clause-calls
@@ -39,7 +41,7 @@ returns-then-not-open_for_all-clause-calls g c =
 
 pub returns-then-not-open_for_all-clause-works : goal.returns-then-not-open_for_all-clause-works
 returns-then-not-open_for_all-clause-works g c =
-    works_over g.K.KeyHash.hash_of (g.C.Clock.may_give c.args.self.now.clock.now) c.args.self.now.first c.args.shared.now.began c.args.caller _
+    works_over g.K.KeyHash.hash_of (g.C.Clock.may_give c.args.self.now.clock.now) c.args.self.now.first c.args.self.now.share c.args.shared.now.began c.args.caller _
     (record {
       asking = c.make_round-turn.new.counting;
       books = c.open_for_all.new.guests;
@@ -50,5 +52,5 @@ returns-then-not-open_for_all-clause-works g c =
     })
     c.make_round-turn.new.guests c.make_room.new.guests c.settle.new.end c.open_for_all.result _ c.loop.invariant.1 c.now-now.ensures
     c.make_round-turn.ensures.round
-    (subst (λ (b : BooksState). SettlesFrom 0 c.make_round-turn.new.guests b c.loop.end c.settle.new.end) (sym c.make_room.ensures) c.settle.ensures) c.open_for_all.ensures (cc)
+    (subst (λ (b : BooksState). SettlesFrom 0 c.make_round-turn.new.guests b c.loop.end c.settle.new.end) (sym (c.make_room.ensures ∙ c.report.ensures)) c.settle.ensures) c.open_for_all.ensures (cc)
     (c.into_caller.ensures.same.1 ∙ ap (λ (s : AskingState g.row.K.Denot). s.past) c.into_steps.ensures)
