@@ -1,3 +1,9 @@
+pub mod Channels
 pub mod Crowds
 pub mod Partings
+pub mod Phases
+pub mod Places
+pub mod Readiness
 pub mod Remedies
+pub mod Streams
+pub mod Wakeups

@@ -17,3 +17,4 @@ parting_place parting.ListenerFailed = 8
 parting_place parting.Hoarding = 9
 parting_place parting.LineTooLong = 10
 parting_place parting.Stopped = 11
+parting_place parting.OutOfMemory = 12

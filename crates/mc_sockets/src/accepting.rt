@@ -173,7 +173,7 @@ impl Door {
             return self.let_in(rt, stream, peer);
         }
         if let Some(mut connection) = self.count_connection(stream, peer) {
-            connection.note(Parting::NoDescriptor);
+            connection.entry.note(Parting::NoDescriptor);
         }
         self.spare = self.listener.try_clone().ok();
         Came::Nothing
@@ -184,7 +184,7 @@ impl Door {
         let Some(mut connection) = self.count_connection(stream, peer) else {
             return Came::Nothing;
         };
-        if connection.is_one_too_many() {
+        if connection.entry.is_one_too_many() {
             connection.refuse();
             self.crowd.warn(rt, Warning::TooManyConnections);
             return Came::Nothing;

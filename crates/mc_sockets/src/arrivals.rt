@@ -5,12 +5,13 @@
 //! own: `-c` bounds it.
 
 use crate::connection::Connection;
+use crate::phase::{Phase, SharedPhase};
 use crossbeam_queue::SegQueue;
 use mio::Waker;
 use std::alloc::{AllocError, Global};
 use std::net::{Shutdown, TcpStream};
 use std::sync::Wait;
-use std::sync::atomic::{AtomicBool, AtomicU32, AtomicU64, Ordering};
+use std::sync::atomic::{AtomicBool, AtomicU64, Ordering};
 use std::time::{Clock, Duration, Instant};
 
 /// The longest rest of a worker, in milliseconds, short enough for what is done once a second.
@@ -27,20 +28,6 @@ const PATIENCE: u64 = 10;
 /// It will run soon. If others took its connections meanwhile, they would have more to do than it
 /// from then on.
 const LONG_PATIENCE: u64 = 250;
-
-/// The phases of accepting connections, in order.
-///
-/// `OPEN`: connections are accepted. `ASKED`: the same, and the acceptors are asked to stop.
-/// `CLOSING`: no more are accepted, and open ones may end by themselves. `OVER`: all end.
-const OPEN: u32 = 0;
-
-const ASKED: u32 = 1;
-
-const CLOSING: u32 = 2;
-
-const OVER: u32 = 3;
-/// The phase after a failed listener: all connections end.
-const FAILED: u32 = 4;
 
 /// The connections that were dealt to a worker and wait for it, and the worker's waker.
 ///
@@ -126,7 +113,7 @@ pub struct Arrivals {
     inboxes: Vec<Inbox>,
     /// The listeners' sockets as streams, which can be shut down.
     sockets: Vec<TcpStream>,
-    phase: AtomicU32,
+    phase: SharedPhase,
 }
 
 impl Arrivals {
@@ -137,7 +124,7 @@ impl Arrivals {
         Arrivals {
             inboxes,
             sockets,
-            phase: AtomicU32::new(OPEN),
+            phase: SharedPhase::new(),
         }
     }
 
@@ -246,16 +233,16 @@ impl Arrivals {
     /// Asks the acceptors to stop, and returns whether it did. If none can be woken, nothing
     /// changes.
     pub fn ask_to_close(&self) -> bool {
-        let is_first = self.turn(OPEN, ASKED);
+        let is_first = self.phase.turn(Phase::Open, Phase::Asked);
         // a listener that was shut down before can't be again, and its thread is awake
-        self.wake_acceptors() || !is_first || !self.turn(ASKED, OPEN)
+        self.wake_acceptors() || !is_first || !self.phase.turn(Phase::Asked, Phase::Open)
     }
 
     /// Returns whether the acceptors are asked to stop; each calls it after every connection.
     ///
     /// The first call that returns true enters the closing phase, and wakes all workers.
     pub fn begins_to_close(&self) -> bool {
-        if self.turn(ASKED, CLOSING) {
+        if self.phase.turn(Phase::Asked, Phase::Closing) {
             self.call_all();
         }
         self.is_closing()
@@ -263,8 +250,8 @@ impl Arrivals {
 
     /// Ends all connections: no more are accepted. It wakes all acceptors and all workers.
     pub fn end(&self) {
-        if !self.turn(CLOSING, OVER) {
-            self.phase.store(FAILED, Ordering::SeqCst);
+        if !self.phase.turn(Phase::Closing, Phase::Over) {
+            self.phase.set(Phase::Failed);
         }
         self.wake_acceptors();
         self.call_all();
@@ -282,25 +269,17 @@ impl Arrivals {
 
     /// Returns whether all ended because that was asked for.
     pub fn is_over_as_asked(&self) -> bool {
-        self.phase.load(Ordering::SeqCst) == OVER
+        self.phase.get().is_over_as_asked()
     }
 
     /// Returns whether no more connections are accepted.
     pub fn is_closing(&self) -> bool {
-        self.phase.load(Ordering::SeqCst) >= CLOSING
+        self.phase.get().is_closing()
     }
 
     /// Returns whether no more connections are accepted, and all open ones end.
     pub fn is_over(&self) -> bool {
-        self.phase.load(Ordering::SeqCst) >= OVER
-    }
-
-    /// Changes the phase, and returns whether it was `from`.
-    fn turn(&self, from: u32, to: u32) -> bool {
-        let turned = self
-            .phase
-            .compare_exchange(from, to, Ordering::SeqCst, Ordering::SeqCst);
-        turned.is_ok()
+        self.phase.get().is_over()
     }
 
     /// Wakes all workers.

@@ -1,49 +1,26 @@
-//! A connection, and its last known readiness.
+//! Channels: the one owner of a connection.
 //!
-//! A link answers `Later` only after the system reported it, by an error or a short count. The
-//! program frees one block of 5 MiB at its start, so that glibc keeps up to about 10 MiB per
+//! A channel owns a connection's stream, its entry among the open connections, its readiness and
+//! its counters, and is a link over them. It is proved for any stream: contracts see the bytes that
+//! the stream gave and took, and how each answer comes of the stream's answer and the readiness.
+//!
+//! The program frees one block of 5 MiB at its start, so that glibc keeps up to about 10 MiB per
 //! worker: without it a get of 1 MB met 100 to 220 page faults.
-ghost use Rattle.std.specs.Prelude.{◌≡◌, ◌≤◌, ◌+◌, length, IfOk};
-ghost use Rattle.std.specs.Io.{ReadsAtMost};
+ghost use Rattle.std.specs.Prelude.{◌≡◌, ◌≤◌, ◌+◌, ◌++◌, length};
+ghost use Rattle.mc_sockets.specs.Channels.{ReadsBy, WritesBy};
+ghost use Rattle.mc_sockets.specs.Streams.{MovesIn, MovesOut};
 
-use crate::connection::{Connection, Parting};
+use crate::connection::{Entry, Parting};
+use crate::readiness::{Readiness, ReadinessCell, SharedReadiness};
+use crate::stream::{Hindrance, Received, Sent, Stream, receive_again, send_again};
 use mc_guests::{Got, Link, LinkFault, Took};
 use mc_metrics::{Counted, Counts};
+use mio::net::TcpStream;
 use std::cell::Cell;
-use std::io::{self, ErrorKind, IoSlice, Read, Write};
+use std::io::{self, ErrorKind, Read};
 use std::net::Shutdown;
 use std::rc::Rc;
 use std::sync::Arc;
-
-/// The readiness of a connection, as the system last reported it.
-#[derive(Clone, Copy)]
-pub struct Readiness {
-    /// There may be something to read.
-    pub reads: bool,
-    /// There may be room to write.
-    pub writes: bool,
-    /// The other end sends no more, or the connection failed.
-    pub is_final: bool,
-    /// The connection failed, or both ends have closed it.
-    pub has_failed: bool,
-    /// Its link answered `Later`, and is named at the next event.
-    pub waits: bool,
-    /// It began to wait since the last look at idle connections.
-    pub is_fresh: bool,
-    /// Its link was dropped, and its client may still send or read.
-    pub leaves: bool,
-    /// The input bytes dropped since its write side was shut down; `None` before that.
-    pub dropped: Option<usize>,
-    /// The time for its client to read its last answers is over.
-    pub has_lingered: bool,
-    /// The reason for which it is to be closed.
-    pub ends: Option<Parting>,
-    /// Urgent data arrived; a read stops short there.
-    pub is_marked: bool,
-}
-
-/// How often a call that a signal interrupts is made again at once.
-const INTERRUPTIONS: u32 = 1000;
 
 /// The most input bytes that are dropped behind the last answer.
 const DROPPED: usize = 1_048_576;
@@ -54,230 +31,85 @@ const DROPPED_PIECE: usize = 16_384;
 /// The most such reads at once, so that a client that sends on holds no worker.
 const DROPPED_PIECES: u32 = 128;
 
-impl Readiness {
-    /// A new connection without any report.
-    pub const NEW: Readiness = Readiness {
-        reads: true,
-        writes: true,
-        is_final: false,
-        has_failed: false,
-        waits: false,
-        is_fresh: false,
-        leaves: false,
-        dropped: None,
-        has_lingered: false,
-        ends: None,
-        is_marked: false,
-    };
-}
-
-/// A non-blocking connection.
+/// A connection as a link.
 ///
-/// A socket's bytes are unspecified, so contracts see how often it failed, whether it is at its
-/// end, whether its last call was a read, and for how many bytes that call was.
+/// It answers `Later` where its stream would block, and from then on until its readiness says that
+/// the stream may go on. A socket's bytes are unspecified: over one, contracts see how often it
+/// failed, whether it is at its end, whether its last call was a read, and for how many bytes that
+/// call was.
 ///
-/// A call returns `WouldBlock` only after the system reported it, by an error or a short count, and
-/// then lowers the flag. From then on the system reports the next change, and that event raises the
-/// flag again. A read is short at urgent data too; after the event of such data, only an error
-/// lowers the flag. Flags are lowered by calls and raised by events of the same thread, and an
-/// event between a call and the next poll waits in the system, so none is lost.
+/// Its fields are dropped in their order: it is counted until the system has closed its stream.
 #[derive(Drop)]
-pub struct Channel {
-    wire: Wire,
-    faults: u64,
-    is_ended: bool,
-    was_read: bool,
-    /// The length of the last call's piece or bytes.
-    requested: usize,
-}
-
-/// A connection, with its readiness and its counters.
-#[derive(Drop)]
-struct Wire {
-    connection: Connection,
-    readiness: Rc<Cell<Readiness>>,
+pub struct Channel<S: Stream + Drop, F: ReadinessCell + Drop> {
+    stream: S,
+    entry: Entry,
+    readiness: F,
     /// The bytes that all channels of the worker moved.
     moved: Rc<Cell<usize>>,
     /// The worker's counters.
     counts: Arc<Counts>,
+    calls: Calls,
 }
 
-impl Channel {
-    /// Returns the channel of a non-blocking connection.
+/// What is known of the calls on a channel.
+#[derive(Clone, Copy)]
+struct Calls {
+    faults: u64,
+    is_ended: bool,
+    /// Whether the last call was a read.
+    was_read: bool,
+    /// The length of its piece or bytes.
+    requested: usize,
+}
+
+/// The channel of a socket, whose readiness its worker shares.
+pub type SocketChannel = Channel<TcpStream, SharedReadiness>;
+
+impl<S: Stream + Drop, F: ReadinessCell + Drop> Channel<S, F> {
+    ghost use Rattle.std.specs.Prelude.{◌<◌, ◌-◌, ◌^◌, IsErr};
+
+    /// Returns the channel of a stream that never blocks.
     ///
     /// It adds the bytes that it moves to `moved` and to the counters. It takes no memory.
     pub fn new(
-        connection: Connection,
-        readiness: Rc<Cell<Readiness>>,
+        stream: S,
+        entry: Entry,
+        readiness: F,
         moved: Rc<Cell<usize>>,
         counts: Arc<Counts>,
-    ) -> Channel {
-        let wire = Wire {
-            connection,
+    ) -> Channel<S, F> {
+        Channel {
+            stream,
+            entry,
             readiness,
             moved,
             counts,
-        };
-        Channel {
-            wire,
-            faults: 0,
-            is_ended: false,
-            was_read: false,
-            requested: 0,
+            calls: Calls {
+                faults: 0,
+                is_ended: false,
+                was_read: false,
+                requested: 0,
+            },
         }
     }
 
     /// Returns whether nothing more is to be sent: it failed, or is to be closed.
     pub fn is_over(&self) -> bool {
-        self.faults > 0 || self.wire.readiness.get().ends.is_some()
+        self.calls.faults > 0 || self.readiness.look().ends.is_some()
     }
 
-    /// Shuts down the write side, drops what the client sent, and returns whether that was all.
-    ///
-    /// A connection that is closed with unread input is reset, and its client may lose answers. It
-    /// is all too if the connection failed, 1 MiB was dropped, or it has lingered.
-    pub fn has_drained(&self) -> bool {
-        if self.is_ended || self.wire.readiness.get().has_lingered {
-            return true;
-        }
-        self.wire.end_output();
-        self.wire.drop_input()
-    }
-
-    /// Notes that the link was dropped.
-    pub fn leave(&self) {
-        self.wire.readiness.set(Readiness {
-            leaves: true,
-            ..self.wire.readiness.get()
-        });
-    }
-}
-
-impl Wire {
-    /// Reads into the piece. `Ok(0)` is the end of the stream; `WouldBlock` is that nothing is
-    /// there now.
-    fn read(&mut self, piece: &mut [u8]) -> io::Result<usize>
-        ensures { ReadsAtMost result piece.new }
+    /// Notes a fault, for which the connection is to be closed.
+    fn fail<T>(&mut self, parting: Parting) -> Result<T, LinkFault>
+        requires { self.old.calls.faults < 2 ^ 64 - 1 }
+        ensures failed { IsErr result }
+        ensures noted { self.new ≡ record self.old {
+          calls = record self.old.calls { faults = self.old.calls.faults + 1 };
+          entry = record self.old.entry { parting = parting };
+        } }
     {
-        let known = self.goes_on();
-        if let Some(parting) = known.ends {
-            self.connection.note(parting);
-            return Ok(0);
-        }
-        if !known.reads {
-            return Err(self.later());
-        }
-        self.receive(piece, known)
-    }
-
-    /// Reads into the piece from a connection that may have something to read.
-    fn receive(&mut self, piece: &mut [u8], known: Readiness) -> io::Result<usize>
-        ensures { ReadsAtMost result piece.new }
-    {
-        let wanted = piece.len();
-        match self.read_again(piece) {
-            Ok(0) => {
-                self.connection.note(Parting::Ended);
-                Ok(0)
-            }
-            Ok(count) => {
-                self.count(Counted::Received, count);
-                // if the other end has closed, its last bytes and the end came as one event
-                if count < wanted && !known.is_final && !known.is_marked {
-                    self.readiness.set(Readiness {
-                        reads: false,
-                        ..known
-                    });
-                }
-                Ok(count)
-            }
-            Err(error) if error.kind() == ErrorKind::WouldBlock => {
-                self.readiness.set(Readiness {
-                    reads: false,
-                    ..known
-                });
-                Err(self.later())
-            }
-            Err(error) => {
-                self.connection.note(Parting::ReadFault);
-                Err(error)
-            }
-        }
-    }
-
-    /// Asks the system for bytes, and again if a signal interrupts the call.
-    fn read_again(&mut self, piece: &mut [u8]) -> io::Result<usize>
-        ensures { ReadsAtMost result piece.new }
-    {
-        for _interruption in 0..INTERRUPTIONS {
-            match self.connection.stream.read(piece) {
-                Err(error) if error.kind() == ErrorKind::Interrupted => {}
-                result => return result,
-            }
-        }
-        self.connection.stream.read(piece)
-    }
-
-    /// Sends two texts in one call, and returns how many bytes were taken.
-    ///
-    /// `WouldBlock` is that none is taken now.
-    fn write(&mut self, first: &[u8], second: &[u8]) -> io::Result<usize>
-        ensures { IfOk result (λ count. count ≤ length first.now + length second.now) }
-    {
-        if !self.goes_on().writes {
-            return Err(self.later());
-        }
-        let end = if second.is_empty() { first } else { second };
-        self.connection.note_output(end);
-        match self.send_again(first, second) {
-            Ok(count) => {
-                let all = first.len().saturating_add(second.len());
-                self.count(Counted::Sent, count);
-                if count < all {
-                    self.takes_no_more();
-                }
-                Ok(count.min(all))
-            }
-            Err(error) if error.kind() == ErrorKind::WouldBlock => {
-                self.takes_no_more();
-                Err(self.later())
-            }
-            Err(error) => {
-                self.connection.note(Parting::WriteFault);
-                Err(error)
-            }
-        }
-    }
-
-    /// Sends two texts by one system call, and again if a signal interrupts it.
-    fn send_again(&mut self, first: &[u8], second: &[u8]) -> io::Result<usize> {
-        for _interruption in 0..INTERRUPTIONS {
-            match self.send(first, second) {
-                Err(error) if error.kind() == ErrorKind::Interrupted => {}
-                result => return result,
-            }
-        }
-        self.send(first, second)
-    }
-
-    /// Sends two texts by one system call.
-    fn send(&mut self, first: &[u8], second: &[u8]) -> io::Result<usize> {
-        if first.is_empty() {
-            return self.connection.stream.write(second);
-        }
-        if second.is_empty() {
-            return self.connection.stream.write(first);
-        }
-        let parts = [IoSlice::new(first), IoSlice::new(second)];
-        self.connection.stream.write_vectored(&parts)
-    }
-
-    /// Notes that the system takes no more output now.
-    fn takes_no_more(&self) {
-        self.readiness.set(Readiness {
-            writes: false,
-            ..self.readiness.get()
-        });
+        self.entry.note(parting);
+        self.calls.faults += 1;
+        Err(LinkFault)
     }
 
     /// Counts bytes that were moved.
@@ -285,13 +117,179 @@ impl Wire {
         self.moved.set(self.moved.get().saturating_add(bytes));
         self.counts.add(counted, bytes as u64);
     }
+}
+
+/// Reads from a stream whose readiness is this.
+fn receive_by<S: Stream>(stream: &mut S, known: Readiness, piece: &mut [u8]) -> Received
+    ensures answers { ReadsBy S.receives known piece.new stream.old result stream.new }
+    ensures moves { MovesIn (S.flow stream.old) piece.new result (S.flow stream.new) }
+{
+    if known.ends.is_some() {
+        Received::End
+    } else if known.reads {
+        receive_again(stream, piece)
+    } else {
+        Received::Hindered(Hindrance::WouldBlock)
+    }
+}
+
+/// Writes two texts to a stream whose readiness is this.
+fn send_by<S: Stream>(stream: &mut S, known: Readiness, first: &[u8], second: &[u8]) -> Sent
+    ensures answers { WritesBy S.sends known (first.now ++ second.now) stream.old result
+        stream.new }
+    ensures moves { MovesOut (S.flow stream.old) (first.now ++ second.now) result
+        (S.flow stream.new) }
+{
+    if known.writes {
+        send_again(stream, first, second)
+    } else {
+        Sent::Hindered(Hindrance::WouldBlock)
+    }
+}
+
+impl<S: Stream + Drop, F: ReadinessCell + Drop> Link for Channel<S, F> {
+    ghost use Rattle.std.specs.Prelude.{◌<◌, ◌-◌, ◌^◌, [], Ok};
+    ghost use Rattle.mc_guests.specs.Links.{Gives, IsWrite, OffersFront};
+    ghost use Rattle.mc_sockets.specs.Channels.{link_of, at, AnswersRead, AnswersWrite, GivesLeft};
+
+    ghost shown = { λ c. link_of (S.flow c.stream) c.calls };
+
+    fn try_read(&mut self, piece: &mut [u8]) -> Result<Got, LinkFault>
+        ensures gives { Gives (link_of (S.flow self.old.stream) self.old.calls) piece.new result
+            (link_of (S.flow self.new.stream) self.new.calls) }
+        ensures lent { self.new.calls.requested ≡ length piece.new }
+        ensures full { self.old.calls.faults ≡ 2 ^ 64 - 1 → result ≡ Ok Got.Later }
+        ensures answers { self.old.calls.faults < 2 ^ 64 - 1 → 0 < length piece.new →
+            AnswersRead S.receives piece.new result
+            (at self.old.stream (F.known self.old.readiness) self.old.entry.parting)
+            (at self.new.stream (F.known self.new.readiness) self.new.entry.parting) }
+        ensures left { GivesLeft (S.flow self.old.stream) piece.new result
+            (S.flow self.new.stream) }
+    {
+        self.calls.was_read = true;
+        self.calls.requested = piece.len();
+        if self.calls.faults == u64::MAX || piece.is_empty() {
+            return Ok(Got::Later);
+        }
+        let known = self.readiness.look();
+        let answer = receive_by(&mut self.stream, known, piece);
+        self.readiness.note(known.after_read(answer, piece.len()));
+        match answer {
+            Received::Bytes(count) => {
+                self.count(Counted::Received, count);
+                Ok(Got::Bytes(count))
+            }
+            Received::End => {
+                self.entry.note(known.ends.unwrap_or(Parting::Ended));
+                self.calls.is_ended = true;
+                Ok(Got::End)
+            }
+            Received::Hindered(Hindrance::WouldBlock) => Ok(Got::Later),
+            Received::Hindered(_) => self.fail(Parting::ReadFault),
+        }
+    }
+
+    fn try_write(&mut self, bytes: &[u8]) -> Result<Took, LinkFault>
+        ensures takes { IsWrite (link_of (S.flow self.old.stream) self.old.calls) bytes.now result
+            (link_of (S.flow self.new.stream) self.new.calls) }
+        ensures offered { self.new.calls.requested ≡ length bytes.now }
+        ensures full { self.old.calls.faults ≡ 2 ^ 64 - 1 → result ≡ Ok Took.Later }
+        ensures answers { self.old.calls.faults < 2 ^ 64 - 1 →
+            AnswersWrite S.sends bytes.now (length bytes.now) result
+            (at self.old.stream (F.known self.old.readiness) self.old.entry.parting)
+            (at self.new.stream (F.known self.new.readiness) self.new.entry.parting) }
+    {
+        self.try_write_both(bytes, &[])
+    }
+
+    fn try_write_both(&mut self, first: &[u8], second: &[u8]) -> Result<Took, LinkFault>
+        ensures takes { IsWrite (link_of (S.flow self.old.stream) self.old.calls)
+            (first.now ++ second.now) result (link_of (S.flow self.new.stream) self.new.calls) }
+        ensures offered { OffersFront first.now second.now self.new.calls.requested }
+        ensures full { self.old.calls.faults ≡ 2 ^ 64 - 1 → result ≡ Ok Took.Later }
+        ensures empty { second.now ≡ [] → self.new.calls.requested ≡ length first.now }
+        ensures answers { self.old.calls.faults < 2 ^ 64 - 1 →
+            AnswersWrite S.sends (first.now ++ second.now) self.new.calls.requested result
+            (at self.old.stream (F.known self.old.readiness) self.old.entry.parting)
+            (at self.new.stream (F.known self.new.readiness) self.new.entry.parting) }
+    {
+        self.calls.was_read = false;
+        self.calls.requested = first.len().saturating_add(second.len());
+        if self.calls.faults == u64::MAX {
+            return Ok(Took::Later);
+        }
+        let known = self.readiness.look();
+        if known.writes {
+            let end = if second.is_empty() { first } else { second };
+            self.entry.note_output(end);
+        }
+        let answer = send_by(&mut self.stream, known, first, second);
+        self.readiness
+            .note(known.after_write(answer, self.calls.requested));
+        match answer {
+            Sent::Bytes(count) => {
+                self.count(Counted::Sent, count);
+                Ok(Took::Bytes(count))
+            }
+            Sent::Hindered(Hindrance::WouldBlock) => match known.ends {
+                None => Ok(Took::Later),
+                Some(parting) => self.fail(parting),
+            },
+            Sent::Hindered(_) => self.fail(Parting::WriteFault),
+        }
+    }
+
+    fn pause(&mut self) -> Result<(), LinkFault> {
+        if self.calls.faults == u64::MAX {
+            return Ok(());
+        }
+        let known = self.readiness.look();
+        match known.ends {
+            Some(parting) => self.fail(parting),
+            None if known.has_failed => self.fail(Parting::ReadFault),
+            None => {
+                self.readiness.note(known.after_pause());
+                Ok(())
+            }
+        }
+    }
+
+    fn refused(&mut self) {
+        self.entry.note(Parting::OutOfMemory);
+    }
+
+    fn faults(&self) -> u64 {
+        self.calls.faults
+    }
+}
+
+impl Channel<TcpStream, SharedReadiness> {
+    /// Shuts down the write side, drops what the client sent, and returns whether that was all.
+    ///
+    /// A connection that is closed with unread input is reset, and its client may lose answers. It
+    /// is all too if the connection failed, 1 MiB was dropped, or it has lingered.
+    pub fn has_drained(&self) -> bool {
+        if self.calls.is_ended || self.readiness.get().has_lingered {
+            return true;
+        }
+        self.end_output();
+        self.drop_input()
+    }
+
+    /// Notes that the link was dropped.
+    pub fn leave(&self) {
+        self.readiness.set(Readiness {
+            leaves: true,
+            ..self.readiness.get()
+        });
+    }
 
     /// Shuts down the write side, unless it was before.
     fn end_output(&self) {
         let known = self.readiness.get();
         if known.dropped.is_none() {
             // if that fails, the next read reports why
-            let _ = self.connection.stream.shutdown(Shutdown::Write);
+            let _ = self.stream.shutdown(Shutdown::Write);
             self.readiness.set(Readiness {
                 dropped: Some(0),
                 ..known
@@ -303,7 +301,7 @@ impl Wire {
     fn drop_input(&self) -> bool {
         let mut piece = [0u8; DROPPED_PIECE];
         for _piece in 0..DROPPED_PIECES {
-            match (&self.connection.stream).read(&mut piece) {
+            match (&self.stream).read(&mut piece) {
                 Ok(0) => return true,
                 Ok(count) if self.has_dropped(count) => return true,
                 Ok(_) => {}
@@ -328,121 +326,6 @@ impl Wire {
             ..known
         });
         dropped >= DROPPED
-    }
-
-    /// Has the link named at the next event, because its guest waits for memory. Fails if the
-    /// connection failed or is to end.
-    fn pause(&mut self) -> io::Result<()> {
-        let known = self.readiness.get();
-        let parting = match known.ends {
-            Some(parting) => Some(parting),
-            None if known.has_failed => Some(Parting::ReadFault),
-            None => None,
-        };
-        if let Some(parting) = parting {
-            self.connection.note(parting);
-            return Err(io::Error::from(ErrorKind::ConnectionAborted));
-        }
-        self.readiness.set(Readiness {
-            waits: true,
-            is_fresh: known.is_fresh || !known.waits,
-            ..known
-        });
-        Ok(())
-    }
-
-    /// Returns the readiness, and clears `waits`: the link goes on.
-    fn goes_on(&self) -> Readiness {
-        let known = self.readiness.get();
-        if known.waits {
-            self.readiness.set(Readiness {
-                waits: false,
-                ..known
-            });
-        }
-        self.readiness.get()
-    }
-
-    /// Returns `WouldBlock`, and has the link named at the next event.
-    ///
-    /// If the connection is to be closed it returns `ConnectionAborted`.
-    fn later(&mut self) -> io::Error {
-        let known = self.readiness.get();
-        if let Some(parting) = known.ends {
-            self.connection.note(parting);
-            return io::Error::from(ErrorKind::ConnectionAborted);
-        }
-        self.readiness.set(Readiness {
-            waits: true,
-            is_fresh: true,
-            ..known
-        });
-        io::Error::from(ErrorKind::WouldBlock)
-    }
-}
-
-impl Link for Channel {
-    ghost use Rattle.std.specs.Prelude.{None};
-
-    ghost shown = { λ c. record {
-      given = None;
-      taken = None;
-      faults = c.faults;
-      is_ended = c.is_ended;
-      was_read = c.was_read;
-      requested = c.requested;
-    } };
-
-    fn try_read(&mut self, piece: &mut [u8]) -> Result<Got, LinkFault> {
-        self.was_read = true;
-        self.requested = piece.len();
-        if self.faults == u64::MAX || piece.is_empty() {
-            return Ok(Got::Later);
-        }
-        match self.wire.read(piece) {
-            Ok(0) => {
-                self.is_ended = true;
-                Ok(Got::End)
-            }
-            Ok(count) => Ok(Got::Bytes(count)),
-            Err(error) if is_later(&error) => Ok(Got::Later),
-            Err(_) => {
-                self.faults += 1;
-                Err(LinkFault)
-            }
-        }
-    }
-
-    fn try_write(&mut self, bytes: &[u8]) -> Result<Took, LinkFault> {
-        self.try_write_both(bytes, &[])
-    }
-
-    fn try_write_both(&mut self, first: &[u8], second: &[u8]) -> Result<Took, LinkFault> {
-        self.was_read = false;
-        self.requested = first.len().saturating_add(second.len());
-        if self.faults == u64::MAX {
-            return Ok(Took::Later);
-        }
-        match self.wire.write(first, second) {
-            Ok(count) => Ok(Took::Bytes(count)),
-            Err(error) if is_later(&error) => Ok(Took::Later),
-            Err(_) => {
-                self.faults += 1;
-                Err(LinkFault)
-            }
-        }
-    }
-
-    fn pause(&mut self) -> Result<(), LinkFault> {
-        if self.faults == u64::MAX || self.wire.pause().is_ok() {
-            return Ok(());
-        }
-        self.faults += 1;
-        Err(LinkFault)
-    }
-
-    fn faults(&self) -> u64 {
-        self.faults
     }
 }
 

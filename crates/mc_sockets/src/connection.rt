@@ -2,7 +2,7 @@
 //!
 //! A connection is counted from its accept until it is dropped, after the system closed it, so
 //! never more than `-c` are open. One more is accepted, answered with an error and closed. The
-//! reason for its close is kept in it.
+//! reason for its close is kept in its [`Entry`].
 
 use crate::lines::Line;
 use crate::log::Log;
@@ -32,7 +32,7 @@ pub enum Parting {
     Ended,
     ReadFault,
     WriteFault,
-    /// Its session closed it by `quit`, or had no memory.
+    /// Its session closed it by `quit`.
     SessionOver,
     /// It was idle for the idle timeout.
     Idle,
@@ -44,10 +44,12 @@ pub enum Parting {
     LineTooLong,
     /// The program was asked to end.
     Stopped,
+    /// Its session was refused memory.
+    OutOfMemory,
 }
 
 /// The number of reasons.
-pub const PARTINGS: usize = 12;
+pub const PARTINGS: usize = 13;
 
 /// The reply to a line that is too long. Nothing is sent behind it.
 const TOO_LONG: &[u8] = b"CLIENT_ERROR line too long\r\n";
@@ -72,12 +74,13 @@ impl Parting {
             Parting::Ended => "the client closed it",
             Parting::ReadFault => "read fault",
             Parting::WriteFault => "write fault",
-            Parting::SessionOver => "quit, or out of memory",
+            Parting::SessionOver => "quit",
             Parting::Idle => "idle for as long as --idle-timeout allows",
             Parting::ListenerFailed => "the listener failed",
             Parting::Hoarding => "it held much and was slow while others waited for memory",
             Parting::LineTooLong => "a line was too long",
             Parting::Stopped => "the program was asked to end",
+            Parting::OutOfMemory => "out of memory",
         }
     }
 }
@@ -97,7 +100,7 @@ pub struct Crowd {
 }
 
 impl Crowd {
-    ghost use Rattle.std.specs.Prelude.{◌≡◌, IfOk};
+    ghost use Rattle.std.specs.Prelude.{◌≡◌, ◌≤◌, ◌↔◌, IfOk, IsTrue};
     ghost use Rattle.std.specs.Arc.{arc_value};
     ghost use Rattle.mc_sockets.specs.Crowds.{most_of};
 
@@ -158,7 +161,14 @@ impl Crowd {
 
     /// Counts an open connection, and returns whether it exceeds the limit.
     fn open_one(&self) -> bool {
-        self.open.fetch_add(1, Ordering::SeqCst) >= self.most
+        self.is_full(self.open.fetch_add(1, Ordering::SeqCst))
+    }
+
+    /// Returns whether one more than this many open connections exceeds the limit.
+    fn is_full(&self, count: u32) -> bool
+        ensures { IsTrue result ↔ (most_of self.now ≤ count) }
+    {
+        count >= self.most
     }
 
     /// Uncounts a connection that was closed for this reason.
@@ -173,25 +183,25 @@ impl Crowd {
     }
 }
 
-/// A non-blocking connection. It is counted until it is dropped, which closes it.
-pub struct Connection {
-    pub stream: TcpStream,
+/// The entry of a connection among the open ones. It is counted until it is dropped.
+pub struct Entry {
     crowd: Arc<Crowd>,
     number: u64,
     parting: Parting,
 }
 
-impl Connection {
-    /// Returns a counted connection. It takes no memory.
-    pub fn new(crowd: Arc<Crowd>, stream: TcpStream, peer: SocketAddr) -> Connection {
+impl Entry {
+    ghost use Rattle.std.specs.Prelude.{◌≡◌};
+
+    /// Counts a connection. It takes no memory.
+    pub fn new(crowd: Arc<Crowd>, peer: SocketAddr) -> Entry {
         let number = crowd.enter(peer);
         let parting = if crowd.open_one() {
             Parting::OneTooMany
         } else {
             Parting::NoRoom
         };
-        Connection {
-            stream,
+        Entry {
             crowd,
             number,
             parting,
@@ -203,13 +213,10 @@ impl Connection {
         matches!(self.parting, Parting::OneTooMany)
     }
 
-    /// Sends the error for the connection limit, as far as the system takes it at once.
-    pub fn refuse(&mut self) {
-        let _ = self.stream.write(TOO_MANY);
-    }
-
     /// Notes the reason for which it will be closed, if it is closed next.
-    pub fn note(&mut self, parting: Parting) {
+    pub fn note(&mut self, parting: Parting)
+        ensures { self.new ≡ record self.old { parting = parting } }
+    {
         self.parting = parting;
     }
 
@@ -226,15 +233,35 @@ impl Connection {
     }
 }
 
-impl Drop for Connection {
+impl Drop for Entry {
     fn drop(self) {
-        let Connection {
-            stream,
+        let Entry {
             crowd,
             number,
             parting,
         } = self;
-        drop(stream);
         crowd.leave(number, parting);
+    }
+}
+
+/// A connection that was accepted, on its way to its worker.
+///
+/// Its fields are dropped in their order: it is counted until the system has closed it.
+#[derive(Drop)]
+pub struct Connection {
+    pub stream: TcpStream,
+    pub entry: Entry,
+}
+
+impl Connection {
+    /// Returns a counted connection. It takes no memory.
+    pub fn new(crowd: Arc<Crowd>, stream: TcpStream, peer: SocketAddr) -> Connection {
+        let entry = Entry::new(crowd, peer);
+        Connection { stream, entry }
+    }
+
+    /// Sends the error for the connection limit, as far as the system takes it at once.
+    pub fn refuse(&mut self) {
+        let _ = self.stream.write(TOO_MANY);
     }
 }

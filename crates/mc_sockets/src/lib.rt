@@ -1,17 +1,25 @@
 //! Connections over sockets: accepted and counted, dealt to workers, and made links.
 //!
 //! The way of a connection: it is accepted and counted (`accepting.rt`, `connection.rt`), dealt to
-//! a worker (`arrivals.rt`), and made a link (`links.rt`, `link.rt`) over a socket that never
-//! blocks (`channel.rt`). Its events wake its guest (`place.rt`, `idle.rt`). Output that isn't sent
-//! when its session ends is sent later (`yard.rt`). `closing.rt` is how all of it ends when it is
-//! asked to. Lines about connections, and that the store is full, wait in a [`Log`] (`log.rt`,
-//! `lines.rt`, `shortage.rt`) for the one thread that writes them, so that no other thread waits
-//! for standard error.
+//! a worker (`arrivals.rt`), and made a link (`links.rt`, `link.rt`). A [`Channel`] owns it from
+//! then on (`channel.rt`), over a [`Stream`] that never blocks (`stream.rt`). Its events wake its
+//! guest (`place.rt`, `idle.rt`). Output that isn't sent when its session ends is sent later
+//! (`yard.rt`). `closing.rt` is how all of it ends when it is asked to, `phase.rt` how far that is.
+//! Lines about connections, and that the store is full, wait in a [`Log`] (`log.rt`, `lines.rt`,
+//! `shortage.rt`) for the one thread that writes them, so that no other thread waits for standard
+//! error.
 //!
-//! Socket bytes and scheduling are unspecified, so contracts state that a socket is a link as
-//! `mc_guests` requires one, and little else. The rest is tested over sockets (tests/sockets).
+//! Channels are proved for any stream: what a link gives is the front of what its stream had left,
+//! what it takes goes to the stream in order, and each answer comes of the stream's answer and of
+//! the readiness (`specs/Channels.antt`). The bytes of a socket are unspecified; those of a stream
+//! in memory can be known. Readiness is a function from what is known and what happens to what is
+//! known then (`specs/Readiness.antt`), and by [`no_wake_up_is_lost`] no wake-up is lost under
+//! edge-triggered polling (`specs/Wakeups.antt`).
 //!
-//! Begin with `src/arrivals.rt`, `src/links.rt` and `src/channel.rt`.
+//! Scheduling, the poll and shared counters are unspecified: tests/sockets tests what comes of
+//! them.
+//!
+//! Begin with `src/channel.rt`, `src/readiness.rt` and `src/links.rt`.
 //!
 //! Tests: mc_server_tests, src/lines_tests.rt.
 #![tactic(auto)]
@@ -22,24 +30,32 @@ mod channel;
 mod closing;
 mod connection;
 mod idle;
+mod laws;
 mod lines;
 mod link;
 mod links;
 mod log;
+mod phase;
 mod place;
+mod readiness;
 mod remedy;
 mod shortage;
+mod stream;
 mod warning;
 mod yard;
 
 pub use accepting::{accept_all, accept_beside};
 pub use arrivals::{Arrivals, Inbox, Share};
+pub use channel::{Channel, SocketChannel};
 pub use closing::ClosingLinks;
-pub use connection::{Connection, Crowd, PARTINGS, Parting};
+pub use connection::{Connection, Crowd, Entry, PARTINGS, Parting};
 pub use idle::Watch;
+pub use laws::no_wake_up_is_lost;
 pub use lines::{Line, Lines, Waiting};
 pub use link::SocketLink;
 pub use links::{EVENTS, SocketLinks, WAKER};
 pub use log::Log;
+pub use readiness::{Readiness, ReadinessCell, Report, SharedReadiness};
 pub use shortage::{Refusals, Wanted};
+pub use stream::{Hindrance, Received, Sent, Stream};
 pub use warning::Warning;

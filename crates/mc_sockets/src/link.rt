@@ -3,7 +3,7 @@
 //! A socket's link shows no bytes to contracts: the system's calls return counts only. Contracts
 //! see how often it failed and whether it is at its end.
 
-use crate::channel::Channel;
+use crate::channel::SocketChannel;
 use crate::yard::Yard;
 use mc_guests::{Gathering, Got, Link, LinkFault, Took};
 use std::alloc::Global;
@@ -14,7 +14,7 @@ use std::rc::Rc;
 ///
 /// When it is dropped, output that the system doesn't take at once stays in the yard.
 pub struct SocketLink {
-    gathering: Gathering<Channel>,
+    gathering: Gathering<SocketChannel>,
     place: usize,
     yard: Rc<RefCell<Yard>>,
 }
@@ -23,7 +23,7 @@ impl SocketLink {
     /// Returns the link of a channel with this place among those of its worker. It takes no memory.
     pub fn new(
         alloc: Global,
-        channel: Channel,
+        channel: SocketChannel,
         place: usize,
         yard: Rc<RefCell<Yard>>,
     ) -> SocketLink {
@@ -50,6 +50,10 @@ impl Link for SocketLink {
 
     fn pause(&mut self) -> Result<(), LinkFault> {
         self.gathering.pause()
+    }
+
+    fn refused(&mut self) {
+        self.gathering.refused();
     }
 
     fn faults(&self) -> u64 {

@@ -1,11 +1,12 @@
 //! The links of a worker, and the events that wake them.
 
 use crate::arrivals::{Arrivals, Share};
-use crate::channel::{Channel, Readiness};
+use crate::channel::Channel;
 use crate::connection::{Connection, Parting};
 use crate::idle::Watch;
 use crate::link::SocketLink;
 use crate::place::Place;
+use crate::readiness::{Readiness, Report, SharedReadiness};
 use crate::yard::Yard;
 use mc_guests::{Links, Next};
 use mc_metrics::Counts;
@@ -87,7 +88,7 @@ pub struct SocketLinks<'a, R: Wait + Clock> {
     share: Share,
     poll: Poll,
     events: Events,
-    places: Vec<Place>,
+    places: Vec<Place<SharedReadiness>>,
     /// What the links share; `None` before the first link.
     common: Option<Common>,
     /// The links to be named, oldest first.
@@ -204,7 +205,7 @@ impl<'a, R: Wait + Clock> SocketLinks<'a, R> {
             told = told.saturating_add(1);
             if let Some(at) = event.token().0.checked_sub(1)
                 && let Some(place) = self.places.get_mut(at)
-                && place.note(event, &mut self.named)
+                && place.note(Report::of(event), &mut self.named)
                 && let Some(common) = &self.common
             {
                 common.send_rest(at);
@@ -273,7 +274,7 @@ impl<'a, R: Wait + Clock> SocketLinks<'a, R> {
         let stream = &mut connection.stream;
         let registered = self.poll.registry().register(stream, token, all);
         if registered.is_ok() {
-            connection.note(Parting::SessionOver);
+            connection.entry.note(Parting::SessionOver);
         }
         if registered.is_err() {
             // it is closed at once, as no event of it would be reported
@@ -282,7 +283,8 @@ impl<'a, R: Wait + Clock> SocketLinks<'a, R> {
                 ..Readiness::NEW
             });
         }
-        let channel = Channel::new(connection, readiness, moved, counts);
+        let Connection { stream, entry } = connection;
+        let channel = Channel::new(stream, entry, readiness, moved, counts);
         let link = SocketLink::new(self.alloc, channel, at, yard);
         registered.ok()?;
         self.given = self.given.wrapping_add(1);
@@ -290,11 +292,7 @@ impl<'a, R: Wait + Clock> SocketLinks<'a, R> {
     }
 
     /// Notes a link at a free place, and reserves room to name it.
-    fn settle(
-        &mut self,
-        yard: &Rc<RefCell<Yard>>,
-        readiness: Rc<Cell<Readiness>>,
-    ) -> Option<usize> {
+    fn settle(&mut self, yard: &Rc<RefCell<Yard>>, readiness: SharedReadiness) -> Option<usize> {
         let room = self.places.len().saturating_add(1);
         self.named.reserve(room).ok()?;
         let place = Place::new(self.given, readiness);
@@ -385,9 +383,7 @@ impl<'a, R: Wait + Clock> Links<SocketLink> for SocketLinks<'a, R> {
 
     fn end(&mut self, number: u64) {
         for place in self.places.iter_mut() {
-            if place.is_of(number) {
-                place.end(Parting::Hoarding, &mut self.named);
-            }
+            place.end_if(number, Parting::Hoarding, &mut self.named);
         }
     }
 
@@ -397,9 +393,7 @@ impl<'a, R: Wait + Clock> Links<SocketLink> for SocketLinks<'a, R> {
 
     fn ask_again(&mut self, number: u64) {
         for place in self.places.iter_mut() {
-            if place.is_of(number) {
-                place.ask_again(&mut self.named);
-            }
+            place.ask_again_if(number, &mut self.named);
         }
     }
 }

@@ -1,19 +1,19 @@
 //! A worker's record of a link.
+ghost use Rattle.std.specs.Prelude.{◌≡◌, ◌≤◌, ◌-◌, ◌↔◌, IsTrue};
+ghost use Rattle.std.specs.Duration.{as_nanos};
+ghost use Rattle.std.specs.Time.{instant_nanos};
 
-use crate::channel::Readiness;
 use crate::connection::Parting;
-use mio::event::Event;
-use std::cell::Cell;
+use crate::readiness::{Readiness, ReadinessCell, Report};
 use std::collections::VecDeque;
-use std::rc::Rc;
 use std::time::{Duration, Instant};
 
 /// A worker's record of a link.
 #[derive(Drop)]
-pub struct Place {
+pub struct Place<F: ReadinessCell + Drop> {
     /// The number by which the link is named.
     number: u64,
-    readiness: Rc<Cell<Readiness>>,
+    readiness: F,
     /// When it was first seen waiting, since the last event; `None` if nobody looked.
     waits_since: Option<Instant>,
     /// The same, since its link was asked again or the last event.
@@ -22,9 +22,16 @@ pub struct Place {
     lingers_since: Option<Instant>,
 }
 
-impl Place {
+impl<F: ReadinessCell + Drop> Place<F> {
+    ghost use Rattle.std.specs.Prelude.{Some, None, IfSome};
+    ghost use Rattle.std.specs.VecDeque.{deque_len, deque_capacity};
+    ghost use Rattle.mc_sockets.specs.Readiness.{Reported, AskedAgain, Ended};
+    ghost use Rattle.mc_sockets.specs.Places.{Finds, Happens, NamesIf, lingers, seen_waiting};
+
     /// Returns the record of a new link with this number.
-    pub fn new(number: u64, readiness: Rc<Cell<Readiness>>) -> Place {
+    pub fn new(number: u64, readiness: F) -> Place<F>
+        ensures { result.number ≡ number }
+    {
         Place {
             number,
             readiness,
@@ -35,65 +42,109 @@ impl Place {
     }
 
     /// Returns whether it is the record of the link with this number.
-    pub fn is_of(&self, number: u64) -> bool {
+    fn is_of(&self, number: u64) -> bool
+        ensures { IsTrue result ↔ (self.now.number ≡ number) }
+    {
         self.number == number
     }
 
-    /// Notes an event, and names the link if it waits. Returns whether the link was dropped.
-    pub fn note(&mut self, event: &Event, named: &mut VecDeque<u64>) -> bool {
+    /// Notes what an event reports, and names the link if it waits. Returns whether the link was
+    /// dropped.
+    pub fn note(&mut self, report: Report, named: &mut VecDeque<u64>) -> bool
+        ensures happens { Happens (Reported report) self.old.number
+            (deque_capacity named.old ≤ deque_len named.old) (F.known self.old.readiness)
+            (F.known self.new.readiness) named.old.items named.new.items }
+        ensures number { self.new.number ≡ self.old.number }
+    {
         self.waits_since = None;
         self.asked_since = None;
-        let known = self.readiness.get();
-        let is_final = event.is_read_closed() || event.is_error();
-        self.readiness.set(Readiness {
-            reads: known.reads || event.is_readable() || is_final,
-            writes: known.writes || event.is_writable() || is_final,
-            is_final: known.is_final || is_final,
-            has_failed: known.has_failed || event.is_error() || event.is_write_closed(),
-            is_marked: known.is_marked || event.is_priority(),
-            waits: false,
-            ..known
-        });
-        if known.waits {
-            // there is room, which was reserved with its place
-            let _ = named.push_back(self.number);
-        }
+        let known = self.readiness.look();
+        self.go_on(known, known.after_report(report), named);
         known.leaves
     }
 
     /// Names the link without an event if it waits, so that it is asked again.
-    pub fn ask_again(&mut self, named: &mut VecDeque<u64>) {
-        let known = self.readiness.get();
-        if known.waits {
-            self.readiness.set(Readiness {
-                reads: true,
-                writes: true,
-                waits: false,
-                ..known
-            });
-            let _ = named.push_back(self.number);
+    fn ask_again(&mut self, named: &mut VecDeque<u64>)
+        ensures happens { Happens AskedAgain self.old.number
+            (deque_capacity named.old ≤ deque_len named.old) (F.known self.old.readiness)
+            (F.known self.new.readiness) named.old.items named.new.items }
+        ensures number { self.new.number ≡ self.old.number }
+    {
+        let known = self.readiness.look();
+        self.go_on(known, known.asked_again(), named);
+    }
+
+    /// Ends the connection for this reason, and names its link if it waits. Returns whether the
+    /// link was dropped.
+    ///
+    /// A link that doesn't wait is asked by its guest, and then answers that it is at its end.
+    pub fn end(&mut self, parting: Parting, named: &mut VecDeque<u64>) -> bool
+        ensures happens { Happens (Ended parting) self.old.number
+            (deque_capacity named.old ≤ deque_len named.old) (F.known self.old.readiness)
+            (F.known self.new.readiness) named.old.items named.new.items }
+        ensures number { self.new.number ≡ self.old.number }
+    {
+        self.waits_since = None;
+        let known = self.readiness.look();
+        self.go_on(known, known.ending(parting), named);
+        known.leaves
+    }
+
+    /// Ends the connection for this reason if its link has this number, and names it if it waits.
+    ///
+    /// It does nothing if the link has another number.
+    pub fn end_if(&mut self, number: u64, parting: Parting, named: &mut VecDeque<u64>)
+        ensures own { self.old.number ≡ number → Happens (Ended parting) number
+            (deque_capacity named.old ≤ deque_len named.old) (F.known self.old.readiness)
+            (F.known self.new.readiness) named.old.items named.new.items }
+        ensures others { (self.old.number ≡ number → ⊥) →
+            (self.new ≡ self.old) × (named.new ≡ named.old) }
+    {
+        if self.is_of(number) {
+            self.end(parting, named);
         }
     }
 
-    /// Ends the connection for this reason, and names its link. Returns whether the link was
-    /// dropped.
-    pub fn end(&mut self, parting: Parting, named: &mut VecDeque<u64>) -> bool {
-        self.waits_since = None;
-        let known = self.readiness.get();
-        self.readiness.set(Readiness {
-            ends: Some(parting),
-            waits: false,
-            ..known
+    /// Names the link if it has this number and waits, so that it is asked again.
+    ///
+    /// It does nothing if the link has another number.
+    pub fn ask_again_if(&mut self, number: u64, named: &mut VecDeque<u64>)
+        ensures own { self.old.number ≡ number → Happens AskedAgain number
+            (deque_capacity named.old ≤ deque_len named.old) (F.known self.old.readiness)
+            (F.known self.new.readiness) named.old.items named.new.items }
+        ensures others { (self.old.number ≡ number → ⊥) →
+            (self.new ≡ self.old) × (named.new ≡ named.old) }
+    {
+        if self.is_of(number) {
+            self.ask_again(named);
+        }
+    }
+
+    /// Notes what is known next, and names the link if it waited.
+    ///
+    /// There is room for its number, which was reserved with its place. Without room it waits on.
+    fn go_on(&mut self, known: Readiness, next: Readiness, named: &mut VecDeque<u64>)
+        ensures names { NamesIf known.waits self.old.number
+            (deque_capacity named.old ≤ deque_len named.old) next (F.known self.new.readiness)
+            named.old.items named.new.items }
+        ensures same { self.new ≡ record self.old { readiness = self.new.readiness } }
+    {
+        let waits_on = known.waits && named.push_back(self.number).is_err();
+        self.readiness.note(Readiness {
+            waits: waits_on,
+            ..next
         });
-        let _ = named.push_back(self.number);
-        known.leaves
     }
 
     /// Returns whether its write side was shut down `limit` before `before`. It does so once.
     ///
     /// The connection has lingered then, and is to be closed.
-    pub fn lingers_too_long(&mut self, limit: Duration, before: Instant, now: Instant) -> bool {
-        let known = self.readiness.get();
+    pub fn lingers_too_long(&mut self, limit: Duration, before: Instant, now: Instant) -> bool
+        ensures finds { Finds (F.known self.old.readiness)
+            (record { limit = limit; before = before; now = now }) (λ known. lingers known)
+            (λ _. self.old.lingers_since) result self.new.lingers_since }
+    {
+        let known = self.readiness.look();
         if known.dropped.is_none() || known.has_lingered {
             return false;
         }
@@ -101,10 +152,10 @@ impl Place {
             self.lingers_since = Some(now);
             return false;
         };
-        if before.duration_since(since) < limit {
+        if !has_passed(since, before, limit) {
             return false;
         }
-        self.readiness.set(Readiness {
+        self.readiness.note(Readiness {
             has_lingered: true,
             ..known
         });
@@ -122,7 +173,7 @@ impl Place {
         now: Instant,
         named: &mut VecDeque<u64>,
     ) -> bool {
-        let known = self.readiness.get();
+        let known = self.readiness.look();
         if !known.waits && !known.leaves {
             return false;
         }
@@ -130,44 +181,46 @@ impl Place {
             self.asked_since = Some(now);
             return false;
         };
-        if before.duration_since(since) < limit {
+        if !has_passed(since, before, limit) {
             return false;
         }
         self.asked_since = Some(now);
-        self.readiness.set(Readiness {
-            reads: true,
-            writes: true,
-            waits: false,
-            ..known
-        });
-        if known.waits {
-            // there is room, as a link that waits isn't named
-            let _ = named.push_back(self.number);
-        }
+        self.go_on(known, known.asked_again(), named);
         known.leaves
     }
 
     /// Returns whether it was idle for `limit` before `before`, with no event since.
     ///
     /// If it waits and wasn't seen waiting before, it is now.
-    pub fn has_waited(&mut self, limit: Duration, before: Instant, now: Instant) -> bool {
-        let known = self.readiness.get();
+    pub fn has_waited(&mut self, limit: Duration, before: Instant, now: Instant) -> bool
+        ensures finds { Finds (F.known self.old.readiness)
+            (record { limit = limit; before = before; now = now }) (λ known. known.waits)
+            (λ known. seen_waiting known self.old.waits_since) result self.new.waits_since }
+    {
+        let known = self.readiness.look();
         if !known.waits {
             return false;
         }
         if known.is_fresh {
             self.waits_since = None;
-            self.readiness.set(Readiness {
+            self.readiness.note(Readiness {
                 is_fresh: false,
                 ..known
             });
         }
         match self.waits_since {
-            Some(since) => before.duration_since(since) >= limit,
+            Some(since) => has_passed(since, before, limit),
             None => {
                 self.waits_since = Some(now);
                 false
             }
         }
     }
+}
+
+/// Returns whether at least `limit` passed from `since` until `until`.
+fn has_passed(since: Instant, until: Instant, limit: Duration) -> bool
+    ensures { IsTrue result ↔ (as_nanos limit ≤ instant_nanos until - instant_nanos since) }
+{
+    until.duration_since(since).as_nanos() >= limit.as_nanos()
 }

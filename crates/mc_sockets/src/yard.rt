@@ -5,7 +5,7 @@
 //! client sends on is dropped until it ends, because a close with unread input resets the
 //! connection and loses answers. After 1 MiB, or 2 seconds (`links.rt`), it is closed all the same.
 
-use crate::channel::Channel;
+use crate::channel::SocketChannel;
 use mc_guests::Gathering;
 use std::alloc::Global;
 use std::collections::BTreeMap;
@@ -14,7 +14,7 @@ use std::collections::BTreeMap;
 #[derive(Drop)]
 pub struct Yard {
     free: Vec<usize>,
-    leaving: BTreeMap<usize, Gathering<Channel>>,
+    leaving: BTreeMap<usize, Gathering<SocketChannel>>,
 }
 
 impl Yard {
@@ -35,7 +35,7 @@ impl Yard {
     ///
     /// It closes the channel if there is nothing left to do, or if memory is refused; the place may
     /// then stay unused.
-    pub fn take_in(&mut self, place: usize, gathering: Gathering<Channel>) {
+    pub fn take_in(&mut self, place: usize, gathering: Gathering<SocketChannel>) {
         if is_done(&gathering) {
             drop(gathering);
             let _ = self.free.push(place);
@@ -72,7 +72,7 @@ impl Yard {
 
 /// Returns whether nothing is left to do: all was sent and the client sends no more, or the channel
 /// failed or is to end.
-fn is_done(gathering: &Gathering<Channel>) -> bool {
+fn is_done(gathering: &Gathering<SocketChannel>) -> bool {
     let channel = gathering.link();
     channel.is_over() || gathering.is_empty() && channel.has_drained()
 }

@@ -1,23 +1,18 @@
-use Rattle.std.proofs.Common.{None, subst, append-nil}
-use Rattle.mc_guests.specs.Links.{LinkState, IsWrite}
+use Rattle.std.proofs.Common.{subst, append-nil, refl}
+use Rattle.mc_guests.specs.Links.{IsWrite}
+use Rattle.mc_sockets.specs.Channels.{AnswersWrite, at, link_of}
 use Rattle.mc_sockets.proofs.channel.ChannelLink.try_write.Goals as goal
 
 pub returns-clause-takes : goal.returns-clause-takes
-returns-clause-takes c =
-    let old : LinkState = record {
-      given = None;
-      taken = None;
-      faults = c.args.self.now.faults;
-      is_ended = c.args.self.now.is_ended;
-      was_read = c.args.self.now.was_read;
-      requested = c.args.self.now.requested;
-    } in
-    let new : LinkState = record {
-      given = None;
-      taken = None;
-      faults = c.try_write_both.new.self.faults;
-      is_ended = c.try_write_both.new.self.is_ended;
-      was_read = c.try_write_both.new.self.was_read;
-      requested = c.try_write_both.new.self.requested;
-    } in
-    subst (λ bytes. IsWrite old bytes c.try_write_both.result new) (append-nil c.args.bytes.now) c.try_write_both.ensures.takes
+returns-clause-takes g c =
+    subst (λ bytes. IsWrite (link_of (g.S.Stream.flow c.args.self.now.stream) c.args.self.now.calls) bytes c.try_write_both.result (link_of (g.S.Stream.flow c.try_write_both.new.self.stream) c.try_write_both.new.self.calls))
+    (append-nil c.args.bytes.now) c.try_write_both.ensures.takes
+
+pub returns-clause-answers : goal.returns-clause-answers
+returns-clause-answers g c = λ few.
+    let old = at c.args.self.now.stream (g.F.ReadinessCell.known c.args.self.now.readiness) c.args.self.now.entry.parting in
+    let new = at c.try_write_both.new.self.stream (g.F.ReadinessCell.known c.try_write_both.new.self.readiness) c.try_write_both.new.self.entry.parting in
+    subst (λ offered. AnswersWrite g.S.Stream.sends c.args.bytes.now offered c.try_write_both.result old new)
+    (c.try_write_both.ensures.empty refl)
+    (subst (λ bytes. AnswersWrite g.S.Stream.sends bytes c.try_write_both.new.self.calls.requested c.try_write_both.result old new)
+    (append-nil c.args.bytes.now) (c.try_write_both.ensures.answers few))

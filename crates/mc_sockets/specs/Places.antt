@@ -1,0 +1,52 @@
+-- What happens at the place of a link.
+use Rattle.std.specs.Prelude.{◌≡◌, ◌≤◌, ◌-◌, ◌↔◌, ◌&&◌, ℕ, List, [], ◌∷◌, ◌++◌, Bool, false, not, if◌then◌else◌, is_some, MatchBool, MatchOption, Option, Some, None, IfSome, IsTrue}
+use Rattle.std.specs.Duration.{as_nanos}
+use Rattle.std.specs.Time.{instant_nanos}
+use Rattle.std.specs.declared.time.Duration.{Duration}
+use Rattle.std.specs.declared.time.Instant.{Instant}
+use Rattle.mc_sockets.specs.declared.readiness.Readiness.{Readiness}
+use Rattle.mc_sockets.specs.Readiness.{Happening, after, names}
+
+-- A link is named if it waits: its number is appended to the queue of names, and it goes on. A queue
+-- that is full may find no memory for the number: then the link waits on.
+pub record NamesIf (waits : Bool) (number : ℕ) (IsFull : Type 0) (next : Readiness) (new : Option Readiness) (old_names new_names : List ℕ) : Type 0 where
+  pub has_room : Bool
+  pub full : has_room ≡ false → IsFull
+  pub names : new_names ≡ (if waits && has_room then old_names ++ number ∷ [] else old_names)
+  pub noted : IfSome new (λ stands. stands ≡ record next { waits = waits && not has_room })
+
+-- what a worker makes of a happening: it notes what is known then, and names the link if that is due
+pub record Happens (happening : Happening) (number : ℕ) (IsFull : Type 0) (old new : Option Readiness) (old_names new_names : List ℕ) : Type 0 where
+  pub known : Readiness
+  pub is_known : IfSome old (λ stood. known ≡ stood)
+  pub named : NamesIf (names known happening) number IsFull (after known happening) new old_names new_names
+
+-- A look at a connection: what is asked of it is to have lasted for a limit before one moment, and the
+-- look itself is at another.
+pub record Look : Type 0 where
+  pub limit : Duration
+  pub before : Instant
+  pub now : Instant
+
+-- Whether something has lasted for the limit. It is so or isn't; if it is, it was first seen at a moment,
+-- or it wasn't seen before, and then it is seen now.
+abbrev pub HasLasted : Look → (is_so : Bool) → (seen : Option Instant) → (result : Bool) → (sees : Option Instant) → Type 0
+HasLasted look is_so seen result sees =
+    MatchBool is_so
+    (MatchOption seen ((result ≡ false) × (sees ≡ Some look.now))
+    (λ since. (IsTrue result ↔ (as_nanos look.limit ≤ instant_nanos look.before - instant_nanos since)) × (sees ≡ seen)))
+    (result ≡ false)
+
+-- a link waits since it was first seen to, and one that began to wait anew wasn't seen yet
+abbrev pub seen_waiting : Readiness → Option Instant → Option Instant
+seen_waiting known seen = if known.is_fresh then None else seen
+
+-- its write side is shut down, and it hasn't lingered for long yet
+abbrev pub lingers : Readiness → Bool
+lingers known = is_some known.dropped && not known.has_lingered
+
+-- what a look finds, by what is known of the connection
+pub record Finds (old : Option Readiness) (look : Look) (is_so : Readiness → Bool) (seen : Readiness → Option Instant) (result : Bool) (sees : Option Instant) : Type 0 where
+  pub known : Readiness
+  pub is_known : IfSome old (λ stood. known ≡ stood)
+  pub lasts : HasLasted look (is_so known) (seen known) result sees

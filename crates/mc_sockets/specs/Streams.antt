@@ -1,0 +1,88 @@
+-- Streams of bytes below connections.
+use Rattle.std.specs.Prelude.{◌≡◌, ◌≢◌, ◌<◌, ◌≤◌, ℕ, ◌+◌, List, ◌++◌, length, take, Option, None, option_map, Result, Ok, Err}
+use Rattle.std.specs.IoError.{error_kind}
+use Rattle.std.specs.declared.io.Error.{Error}
+use Rattle.std.specs.declared.io.ErrorKind.TheVariants as io_kind
+use Rattle.mc_guests.specs.Links.{grown}
+use Rattle.mc_sockets.specs.declared.stream.Hindrance.{Hindrance}
+use Rattle.mc_sockets.specs.declared.stream.Hindrance.TheVariants.{WouldBlock, Interrupted, Fault}
+use Rattle.mc_sockets.specs.declared.stream.Received.{Received}
+use Rattle.mc_sockets.specs.declared.stream.Received.TheVariants as received
+use Rattle.mc_sockets.specs.declared.stream.Sent.{Sent}
+use Rattle.mc_sockets.specs.declared.stream.Sent.TheVariants as sent
+
+-- The bytes that a stream will still give, and those that it gave and took until now; none where
+-- nobody can know them.
+pub record Flow : Type 0 where
+  pub left : Option (List ℕ)
+  pub given : Option (List ℕ)
+  pub taken : Option (List ℕ)
+
+-- the flow of a stream whose bytes nobody can know
+abbrev pub unknown : Flow
+unknown = record { left = None; given = None; taken = None }
+
+-- the stream gave these bytes, which were the front of what was left
+pub record GivesFront (bytes : List ℕ) (old new : Flow) : Type 0 where
+  pub left : old.left ≡ option_map (λ rest. bytes ++ rest) new.left
+  pub given : new.given ≡ grown old.given bytes
+  pub taken : new.taken ≡ old.taken
+
+-- what a read does to the bytes, by its answer: those that came are at the front of the piece, and no
+-- other answer moves a byte
+abbrev pub MovesIn : Flow → List ℕ → Received → Flow → Type 0
+MovesIn old piece (received.Bytes n) new = (n ≤ length piece) × GivesFront (take n piece) old new
+MovesIn old piece received.End new = new ≡ old
+MovesIn old piece (received.Hindered hindrance) new = new ≡ old
+
+-- what a write does to the bytes, by its answer: a front of them was taken, and no other answer moves
+-- a byte
+abbrev pub MovesOut : Flow → List ℕ → Sent → Flow → Type 0
+MovesOut old bytes (sent.Bytes n) new =
+    (n ≤ length bytes) × (new ≡ record old { taken = grown old.taken (take n bytes) })
+MovesOut old bytes (sent.Hindered hindrance) new = new ≡ old
+
+-- a signal interrupted a call this many times, one after another
+pub data AreInterrupted {S A : Type 0} (call : S → A → S → Type 0) (interrupted : A) : ℕ → S → S → Type 0 where
+  none_is : (stream : S) → AreInterrupted call interrupted 0 stream stream
+  one_more : (times : ℕ) (old mid new : S) → AreInterrupted call interrupted times old mid → call mid interrupted new → AreInterrupted call interrupted (times + 1) old new
+
+-- A call that is made again if a signal interrupts it, and the answer of the last one, which may be
+-- interrupted too behind 1000 others.
+pub record IsRetried {S A : Type 0} (call last : S → A → S → Type 0) (interrupted : A) (old : S) (answer : A) (new : S) : Type 0 where
+  pub times : ℕ
+  pub before : S
+  pub tries : AreInterrupted call interrupted times old before
+  pub answers : last before answer new
+  pub gives_up : answer ≡ interrupted → times ≡ 1000
+
+-- a read into a piece, which then holds some bytes
+abbrev pub into_some : {S : Type 0} → (S → List ℕ → Received → S → Type 0) → S → Received → S → Type 0
+into_some receives old answer new = (piece : List ℕ) × receives old piece answer new
+
+-- a read is made again if a signal interrupts it
+abbrev pub IsReadAgain : {S : Type 0} → (S → List ℕ → Received → S → Type 0) → List ℕ → S → Received → S → Type 0
+IsReadAgain receives piece =
+    IsRetried (into_some receives) (λ old answer new. receives old piece answer new) (received.Hindered Interrupted)
+
+-- a write is made again if a signal interrupts it
+abbrev pub IsWrittenAgain : {S : Type 0} → (S → List ℕ → Sent → S → Type 0) → List ℕ → S → Sent → S → Type 0
+IsWrittenAgain sends bytes =
+    IsRetried (λ old answer new. sends old bytes answer new) (λ old answer new. sends old bytes answer new) (sent.Hindered Interrupted)
+
+-- what an error of the system says of a call: that it would block, that a signal interrupted it, or
+-- that the stream failed
+pub record IsHindrance (error : Error) (hindrance : Hindrance) : Type 0 where
+  pub waits : error_kind error ≡ io_kind.WouldBlock → hindrance ≡ WouldBlock
+  pub again : error_kind error ≡ io_kind.Interrupted → hindrance ≡ Interrupted
+  pub fails : error_kind error ≢ io_kind.WouldBlock → error_kind error ≢ io_kind.Interrupted → hindrance ≡ Fault
+
+-- the answer of the system to a read: no byte is the end of the stream
+abbrev pub IsReceived : Result ℕ Error → Received → Type 0
+IsReceived (Ok n) answer = (n ≡ 0 → answer ≡ received.End) × (0 < n → answer ≡ received.Bytes n)
+IsReceived (Err error) answer = (hindrance : Hindrance) × IsHindrance error hindrance × (answer ≡ received.Hindered hindrance)
+
+-- the answer of the system to a write
+abbrev pub IsSent : Result ℕ Error → Sent → Type 0
+IsSent (Ok n) answer = answer ≡ sent.Bytes n
+IsSent (Err error) answer = (hindrance : Hindrance) × IsHindrance error hindrance × (answer ≡ sent.Hindered hindrance)
