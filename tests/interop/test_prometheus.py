@@ -13,8 +13,9 @@ import unittest
 import urllib.parse
 import urllib.request
 
+from tests.lib.abuse import sent_as_far
 from tests.lib.case import ProgramCase
-from tests.lib.peer import Peer
+from tests.lib.peer import Peer, clients
 from tests.lib.scrape import GET, MetricsServer, sent, told
 from tests.lib.server import HOST, Server, Started, free_port
 from tests.lib.settings import ROOT
@@ -56,6 +57,14 @@ QUERIES = [
     ("count(process_max_fds > 0)", 1),
     ("count(time() - process_start_time_seconds < 60)", 1),
     ("count(mcserver_build_info)", 1),
+    ("memcached_item_too_large_total", 0),
+    ("mcserver_buffer_bytes", 0),
+    ("mcserver_buffer_limit_bytes", 64 * 1048576),
+    ("mcserver_waiting_connections", 0),
+    ("count(process_open_fds > 10)", 1),
+    ("count(process_resident_memory_bytes > 1000000)", 1),
+    ("count(process_virtual_memory_bytes > process_resident_memory_bytes)", 1),
+    ("count(process_cpu_seconds_total < 60)", 1),
 ]
 
 
@@ -187,7 +196,7 @@ class Scraped(ProgramCase):
     def test_each_query_and_rule_has_data(self):
         """Of a server that is used; and nothing fires, as all is well."""
         asked = [*queries(), *formulas(), *((name, part) for name, parts in compared().items() for part in parts)]
-        self.assertEqual((19, 2, 9), (len([*queries()]), len(formulas()), sum(map(len, compared().values()))))
+        self.assertEqual((25, 4, 12), (len([*queries()]), len(formulas()), sum(map(len, compared().values()))))
         with MetricsServer() as server, self.prometheus(server) as answers:
 
             def without_data():
@@ -216,6 +225,16 @@ class Scraped(ProgramCase):
             with Peer(server.port) as one_more:
                 one_more.is_told(b"ERROR Too many open connections\r\n")
             self.assertLessEqual(self.fires(answers, "McserverTurnedAway"), {"McserverConnectionsNearLimit"})
+
+    def test_items_that_are_too_large_fire(self):
+        with MetricsServer() as server, self.prometheus(server) as answers, Peer(server.port) as peer:
+            peer.asks(b"set a 0 0 1048576\r\n%s\r\n" % (b"x" * 1048576), b"SERVER_ERROR object too large for cache\r\n")
+            self.assertEqual(set(), self.fires(answers, "McserverItemsTooLarge"))
+
+    def test_connections_that_wait_for_room_fire(self):
+        with MetricsServer("--buffer-limit", "1", workers=1) as server, self.prometheus(server) as answers, clients(server.port, 2) as peers:
+            sent_as_far(peers, b"set held 0 0 600000\r\n" + b"h" * 300_000, 0.5)
+            self.assertLessEqual(self.fires(answers, "McserverBuffersFull"), {"McserverHoarding"})
 
     def test_a_server_that_has_gone_fires_and_one_that_was_restarted_too(self):
         with TickingServer(free_port()) as server, self.prometheus(server) as answers:

@@ -16,6 +16,7 @@ with open("/proc/sys/net/ipv6/bindv6only") as setting:
 # The warning where others than this machine can connect.
 REFUSED = b"mcserver: warning: a connection was refused, as -c allows no more (reported once a minute)\n"
 WARNING = rb"mcserver: warning: .* no passwords.*\n"
+COVERED = b"mcserver: :: accepts IPv4, too, so 0.0.0.0 at the same port needs no listener\n"
 ADDRESSES = [
     # asked for, said, answers there, doesn't answer there, warns
     ("127.0.0.1", "127.0.0.1:%d", "127.0.0.1", "127.0.0.2", False),
@@ -112,17 +113,31 @@ class SeveralAddresses(ProgramCase):
         ended(self.program, ["-p", str(self.port), "-l", HOST, "-l", OTHER, "-l", HOST], 1, said)
 
     def test_all_of_either_version(self):
-        """Where :: is of version 4 too, it says that :: alone listens at both, whichever stands first; where it isn't, it listens at both."""
+        """0.0.0.0 and :: at one port are both listened at, whichever stands first. Where :: is of version 4 too, it alone is bound, which -v says."""
         for words in (["-l", "0.0.0.0,::"], ["-l", "::", "-l", "0.0.0.0"]):
-            if BINDS_APART:
-                with self.subTest(words), self.started(*words) as started:
-                    started.line()
-                    self.assertTrue(answers(HOST, self.port) and answers("::1", self.port))
-                continue
-            with self.subTest(words):
-                place = rb"\[::\]" if words[1].endswith("::") and len(words) == 2 else rb"0\.0\.0\.0"
-                said = rb"mcserver: cannot listen on %s:%d: -l has 0\.0\.0\.0 and :: at this port, and :: alone listens at both\n\Z"
-                ended(self.program, ["-p", str(self.port), *words], 1, said % (place, self.port))
+            for verbose in ([], ["-v"]):
+                with self.subTest(words + verbose), self.started(*words, *verbose) as started:
+                    if verbose and not BINDS_APART:
+                        self.assertEqual(COVERED, started.line())
+                    self.assertRegex(started.line(), rb"mcserver: listening on .*, 64 pages, 4 workers\n")
+                    for host in (HOST, OTHER, "::1"):
+                        self.assertTrue(answers(host, self.port), f"nothing answers at {host}")
+
+    def test_all_of_either_version_at_two_ports(self):
+        """Each is bound."""
+        with self.started("-v", "-l", f"0.0.0.0:{self.beside},::") as started:
+            self.assertRegex(started.line(), rb"mcserver: listening on 0\.0\.0\.0:%d, \[::\]:%d, " % (self.beside, self.port))
+            self.assertTrue(answers(OTHER, self.beside) and answers("::1", self.port))
+            self.assertFalse(answers("::1", self.beside), "it is of version 6, too")
+
+    def test_all_of_either_version_where_one_is_taken(self):
+        """It ends, if another has the port at an address of version 4: it would be no listener of that."""
+        with socket.socket() as taken:
+            taken.bind(("0.0.0.0", 0))
+            taken.listen()
+            port = taken.getsockname()[1]
+            said = rb"mcserver: cannot listen on %s:%d: something listens there already\n\Z"
+            ended(self.program, ["-p", str(port), "-l", "::,0.0.0.0"], 1, said % (rb"0\.0\.0\.0" if BINDS_APART else rb"\[::\]", port))
 
     def test_it_ends_at_all(self):
         """Asked to end, it does so with status 0, whichever of its listeners hears of it first, and leaves every port."""

@@ -1,12 +1,15 @@
 """With --metrics it tells Prometheus over HTTP what is counted, each exactly; who holds a connection there keeps nobody out."""
 import contextlib
 import itertools
+import os
 import re
+import resource
 import socket
 import subprocess
 import threading
 import time
 
+from tests.lib.abuse import sent_as_far
 from tests.lib.case import ProgramCase
 from tests.lib.listening import Listener, ended
 from tests.lib.peer import Peer, clients
@@ -37,6 +40,10 @@ def closed(reason):
 # What tables have: homes, growths that began and that run, entries that these have still to move, and strays.
 TABLES = ["mcserver_table_homes", "mcserver_growths_total", "mcserver_growths_running", "mcserver_growth_entries_left", "mcserver_stray_entries"]
 ITEMS, STORED, REFUSED = "memcached_current_items", "memcached_items_total", "mcserver_refusals_total"
+TOO_LARGE = "memcached_item_too_large_total"
+HELD, BUFFERS, WAITING = "mcserver_buffer_bytes", "mcserver_buffer_limit_bytes", "mcserver_waiting_connections"
+# The ticks of a second in the system's times of a process, the bytes of a page, and those of a MiB.
+TICKS, PAGE, MIB = os.sysconf("SC_CLK_TCK"), os.sysconf("SC_PAGE_SIZE"), 1048576
 READ, WRITTEN = "memcached_read_bytes_total", "memcached_written_bytes_total"
 # What is sent, what is answered, and what is counted for it, but for what stands then.
 COMMANDS = [
@@ -61,7 +68,12 @@ COMMANDS = [
     (b"decr c 1\r\n", b"NOT_FOUND\r\n", [command("decr", "miss")]),
     (b"delete b\r\n", b"DELETED\r\n", [command("delete", "hit")]),
     (b"delete b\r\n", b"NOT_FOUND\r\n", [command("delete", "miss")]),
-    (b"set a 0 0 1048576\r\n%s\r\n" % (b"x" * 1048576), b"SERVER_ERROR object too large for cache\r\n", []),
+    (b"set a 0 0 1048576\r\n%s\r\n" % (b"x" * 1048576), b"SERVER_ERROR object too large for cache\r\n", [TOO_LARGE]),
+    (b"add none 0 0 9999999 noreply\r\n%s\r\nget c\r\n" % (b"x" * 9999999), b"SERVER_ERROR object too large for cache\r\nEND\r\n", [TOO_LARGE, command("get", "miss")]),
+    (b"set long 0 0 700000\r\n%s\r\n" % (b"x" * 700000), b"STORED\r\n", [command("set", "hit"), STORED]),
+    (b"append long 0 0 700000\r\n%s\r\n" % (b"x" * 700000), b"SERVER_ERROR object too large for cache\r\n", [TOO_LARGE]),
+    # (what isn't answered isn't counted)
+    (b"prepend long 0 0 700000 noreply\r\n%s\r\nget c\r\n" % (b"x" * 700000), b"END\r\n", [command("get", "miss")]),
     (b"version\r\n", b"VERSION 1.6.0\r\n", []),
     (b"nonsense\r\n", b"ERROR\r\n", []),
     (b"flush_all\r\n", b"OK\r\n", [command("flush", "hit")]),
@@ -96,6 +108,22 @@ REQUESTS = [
 HEADS = [(b"/metrics", 200), (b"/metrics?a", 200), (b"/healthz", 200), (b"/", 200), (b"/none", 404), (b"/quit", 404)]
 
 
+def now_of(server):
+    """The bytes of a server's addresses, and those of it in memory."""
+    with open(f"/proc/{server.pid}/statm") as it:
+        return [int(word) * PAGE for word in it.read().split()[:2]]
+
+
+def descriptors_of(server):
+    return len(os.listdir(f"/proc/{server.pid}/fd"))
+
+
+def ticks_of(server):
+    """The time that a server used a processor, its own and the system's for it, in ticks."""
+    with open(f"/proc/{server.pid}/stat") as it:
+        return [int(word) for word in it.read().rpartition(")")[2].split()[11:13]]
+
+
 def hash_of(key):
     """FNV-1a in 64 bits, http://www.isthe.com/chongo/tech/comp/fnv/."""
     found = 0xCBF29CE484222325
@@ -120,7 +148,7 @@ class Metrics(ProgramCase):
                     self.assertEqual({it: wanted.count(it) for it in wanted}, self.counted(server, before))
 
     def counted(self, server, before):
-        kinds = ("memcached_commands_total", STORED, REFUSED, "memcached_slab_items_outofmemory_total")
+        kinds = ("memcached_commands_total", STORED, REFUSED, TOO_LARGE, "memcached_slab_items_outofmemory_total")
         return {name: grown for name, grown in server.grown(before).items() if name.startswith(kinds)}
 
     def test_what_it_has(self):
@@ -248,14 +276,67 @@ class Metrics(ProgramCase):
 
             self.assertTrue(until(found, SOON), server.grown(before))
 
+    def test_want_of_memory(self):
+        """A connection that is closed because the system has no memory for its request isn't counted as one that was ended by quit."""
+        with MetricsServer("-I", "8m", "--buffer-limit", "256", workers=1) as server, clients(server.port, 16) as peers:
+            for peer in peers:
+                peer.asks(b"get a\r\n", b"END\r\n")
+            before = server.scrape()
+            limit = resource.prlimit(server.pid, resource.RLIMIT_AS)
+            # (a worker's addresses are for 64 MiB from its start, and the blocks have 126 MB)
+            resource.prlimit(server.pid, resource.RLIMIT_AS, (now_of(server)[0], limit[1]))
+            for peer in peers:
+                with contextlib.suppress(ConnectionError):
+                    sent_as_far([peer], b"set a 0 0 8000000\r\n" + b"a" * 7900000, 0.5)
+            resource.prlimit(server.pid, resource.RLIMIT_AS, limit)
+            self.assertTrue(until(lambda: self.reasons(server, before), SOON), "none was closed")
+            self.assertEqual({closed("out_of_memory")}, set(self.reasons(server, before)))
+
+    def reasons(self, server, before):
+        return {name: grown for name, grown in server.grown(before).items() if "closed_total" in name}
+
+    def test_buffers(self):
+        """What a block that has begun to come holds is counted, with its limit, and who waits for room; nothing is when it has gone."""
+        with MetricsServer("--buffer-limit", "1", workers=2) as server, clients(server.port, 4) as peers:
+            now = server.scrape()
+            self.assertEqual([0, MIB, 0], [now[it] for it in (HELD, BUFFERS, WAITING)])
+            # each worker may hold 448 KiB, and a connection counts for its whole block; what else waits is one beside each
+            block = b"h" * 400_000
+            sent_as_far(peers, b"set held 0 0 400000\r\n" + block[:200_000], 0.5)
+            self.assertTrue(until(lambda: server.scrape()[WAITING] == 2, SOON), server.scrape())
+            self.assertTrue(800_000 <= server.scrape()[HELD] <= 900_000, server.scrape()[HELD])
+            for peer in peers:
+                peer.close()
+            self.assertTrue(until(lambda: [server.scrape()[it] for it in (HELD, WAITING)] == [0, 0], SOON), server.scrape())
+
     def test_the_process(self):
-        """When it began and how many descriptors it may have is what the system has for it."""
+        """Its start, its descriptors, its memory and its time on processors are what the system has for it."""
         with MetricsServer("-c", "50") as server:
             now = server.scrape()
             with open(f"/proc/{server.pid}/limits") as it:
                 limit = int(re.search(r"Max open files +(\d+)", it.read())[1])
             self.assertEqual(limit, now["process_max_fds"])
             self.assertAlmostEqual(time.time(), now["process_start_time_seconds"], delta=SOON)
+            with clients(server.port, 20) as peers:
+                for number, peer in enumerate(peers):
+                    peer.asks(b"set k%d 0 0 1000000\r\n%s\r\n" % (number, LARGE), b"STORED\r\n")
+                # the connection of the scrape is one more
+                self.assertTrue(until(lambda: server.scrape()["process_open_fds"] == descriptors_of(server) + 1, SOON), descriptors_of(server))
+                self.assertGreater(server.scrape()["process_open_fds"], now["process_open_fds"] + 15)
+            virtual, resident = now_of(server)
+            after = server.scrape()
+            self.assertAlmostEqual(virtual, after["process_virtual_memory_bytes"], delta=MIB)
+            self.assertAlmostEqual(resident, after["process_resident_memory_bytes"], delta=MIB)
+            self.assertGreater(after["process_resident_memory_bytes"], now["process_resident_memory_bytes"] + 18 * MIB)
+
+    def test_the_time_on_processors(self):
+        """It is what the system counts for the process, its own and the system's for it, in hundredths of a second."""
+        with MetricsServer() as server, Peer(server.port) as peer:
+            peer.asks(b"set a 0 0 1\r\nx\r\n", b"STORED\r\n")
+            while min(ticks_of(server)) < 20:
+                peer.asks(b"get a\r\n" * 1000, b"VALUE a 0 1\r\nx\r\nEND\r\n" * 1000)
+            before, told, after = sum(ticks_of(server)), server.scrape()["process_cpu_seconds_total"], sum(ticks_of(server))
+            self.assertTrue(before / TICKS <= told <= after / TICKS, (before, told, after))
 
     def test_idle_connections_are_closed(self):
         with MetricsServer("--idle-timeout", "1") as server, clients(server.port, 3):

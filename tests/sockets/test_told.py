@@ -43,7 +43,7 @@ def reset(link):
 # What a client does, and how the line that tells of its end ends.
 PARTINGS = [
     (close, b"the client closed it"),
-    (quit, b"quit, or out of memory"),
+    (quit, b"quit"),
     (send_a_line_too_long, b"a line was too long"),
     (reset, b"read fault"),
     (say_nothing, b"idle for as long as --idle-timeout allows"),

@@ -2,7 +2,7 @@
 use Rattle.std.specs.Prelude.{◌≡◌, ◌⊎◌, ℕ, Bool, true, List, slice_get, Option, Some, None, Ok, Err, codes}
 use Rattle.mc_session.specs.declared.serving.ServeFault.TheVariants as fault
 use Rattle.mc_host.specs.declared.end.Obstacle.{Obstacle}
-use Rattle.mc_host.specs.declared.end.Obstacle.TheVariants.{Taken, BothVersions, NotAllowed, NotHere, NoDescriptor, Other}
+use Rattle.mc_host.specs.declared.end.Obstacle.TheVariants.{Taken, NotAllowed, NotHere, NoDescriptor, Other}
 use Rattle.mc_host.specs.declared.end.Refusal.{Refusal}
 use Rattle.mc_host.specs.declared.end.Denied.{Denied}
 use Rattle.mc_host.specs.declared.end.Denied.TheVariants as denied
@@ -51,7 +51,6 @@ text_of (end.Denied _) = codes "mcserver: --quit"
 -- why it can't listen
 abbrev pub reason_of : Obstacle → List ℕ
 reason_of Taken = codes "something listens there already"
-reason_of BothVersions = codes "-l has 0.0.0.0 and :: at this port, and :: alone listens at both"
 reason_of NotAllowed = codes "the port isn't allowed to this user"
 reason_of NotHere = codes "the address isn't one of this machine"
 reason_of NoDescriptor = codes "the system gives too few descriptors (ulimit -n)"

@@ -1,4 +1,5 @@
 pub mod Clocks
+pub mod Covers
 pub mod Ends
 pub mod Levels
 pub mod Quits

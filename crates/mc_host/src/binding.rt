@@ -2,7 +2,7 @@
 ghost use Rattle.std.specs.Prelude.{◌≡◌, ◌+◌, length, IfOk, IfErr};
 ghost use Rattle.mc_host.specs.Ends.{EndsUnbound, EndsUnboundAt};
 
-use crate::end::{End, Obstacle, Refusal};
+use crate::end::{End, Obstacle};
 use mc_options::{Endpoint, Endpoints};
 use std::alloc::{AllocError, Global};
 use std::io::{self, ErrorKind};
@@ -57,13 +57,13 @@ pub fn bound_all<R: Net>(rt: &R, alloc: Global, endpoints: &Endpoints) -> Result
         length listeners.others.items ≡ length endpoints.now.others.items) }
     ensures ends { IfErr result (EndsUnbound endpoints.now) }
 {
-    let first = match bound_at(rt, endpoints, endpoints.first) {
+    let first = match bound_at(rt, endpoints.first) {
         Ok(listener) => listener,
         Err(end) => return Err(end),
     };
     let mut others = Vec::new(alloc);
     for endpoint in &endpoints.others {
-        let listener = match bound_at(rt, endpoints, *endpoint) {
+        let listener = match bound_at(rt, *endpoint) {
             Ok(listener) => listener,
             Err(end) => return Err(end),
         };
@@ -74,55 +74,16 @@ pub fn bound_all<R: Net>(rt: &R, alloc: Global, endpoints: &Endpoints) -> Result
     Ok(Listeners { first, others })
 }
 
-/// Binds a listener at one of these endpoints.
+/// Binds a listener at an endpoint.
 ///
 /// The error ends the program: the endpoint can't be bound, or memory is refused.
-fn bound_at<R: Net>(rt: &R, endpoints: &Endpoints, endpoint: Endpoint) -> Result<TcpListener, End>
+fn bound_at<R: Net>(rt: &R, endpoint: Endpoint) -> Result<TcpListener, End>
     ensures { IfErr result (EndsUnboundAt endpoint) }
 {
     match bind_listener(rt, SocketAddr::from((endpoint.address, endpoint.port))) {
         Ok(listener) => Ok(listener),
-        Err(error) => Err(own_end(endpoints, endpoint, End::without(endpoint, &error))),
+        Err(error) => Err(End::without(endpoint, &error)),
     }
-}
-
-/// Returns the end of a program that can't listen at one of these endpoints.
-///
-/// A port that is taken at 0.0.0.0 or at :: is the program's own, if it is to listen at both.
-fn own_end(endpoints: &Endpoints, endpoint: Endpoint, end: End) -> End
-    requires { EndsUnboundAt endpoint end }
-    ensures { EndsUnboundAt endpoint result }
-{
-    let taken =
-        matches!(&end, End::CannotListen(refusal) if matches!(refusal.why, Obstacle::Taken));
-    if taken && endpoint.address.is_unspecified() && has_both_versions(endpoints, endpoint.port) {
-        return End::CannotListen(Refusal {
-            endpoint,
-            why: Obstacle::BothVersions,
-        });
-    }
-    end
-}
-
-/// Returns whether 0.0.0.0 and :: at this port are among the endpoints.
-fn has_both_versions(endpoints: &Endpoints, port: u16) -> bool {
-    let mut has_version_4 = is_all_of_version_4(endpoints.first, port);
-    let mut has_version_6 = is_all_of_version_6(endpoints.first, port);
-    for endpoint in &endpoints.others {
-        has_version_4 |= is_all_of_version_4(*endpoint, port);
-        has_version_6 |= is_all_of_version_6(*endpoint, port);
-    }
-    has_version_4 && has_version_6
-}
-
-/// Returns whether the endpoint is 0.0.0.0 at this port.
-fn is_all_of_version_4(endpoint: Endpoint, port: u16) -> bool {
-    endpoint.address.is_ipv4() && endpoint.address.is_unspecified() && endpoint.port == port
-}
-
-/// Returns whether the endpoint is :: at this port.
-fn is_all_of_version_6(endpoint: Endpoint, port: u16) -> bool {
-    endpoint.address.is_ipv6() && endpoint.address.is_unspecified() && endpoint.port == port
 }
 
 /// Returns the listeners' sockets as streams, which can be shut down.

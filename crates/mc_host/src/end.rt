@@ -56,8 +56,6 @@ pub struct Refusal {
 pub enum Obstacle {
     /// Something listens there already.
     Taken,
-    /// This program is to listen there at 0.0.0.0 and at ::, and the second includes the first.
-    BothVersions,
     /// The port isn't allowed to this user.
     NotAllowed,
     /// The address isn't one of this machine.
@@ -146,8 +144,6 @@ impl Obstacle {
     {
         match self {
             Obstacle::Taken => "something listens there already",
-            Obstacle::BothVersions =>
-                "-l has 0.0.0.0 and :: at this port, and :: alone listens at both",
             Obstacle::NotAllowed => "the port isn't allowed to this user",
             Obstacle::NotHere => "the address isn't one of this machine",
             Obstacle::NoDescriptor => "the system gives too few descriptors (ulimit -n)",

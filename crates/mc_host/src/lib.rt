@@ -7,7 +7,8 @@
 //!
 //! An [`End`] is how the program ends, with its status and its text (`End::ending`). A [`Refusal`]
 //! is the endpoint at which it can't listen, and the [`Obstacle`]. [`bound_all`] binds the
-//! [`Listeners`], one for each endpoint. [`sockets_of`] returns streams of them, whose shutdown
+//! [`Listeners`], one for each endpoint; [`bind_needed`] leaves out 0.0.0.0 if `::` at the same port
+//! accepts IPv4, too. [`sockets_of`] returns streams of them, whose shutdown
 //! wakes the threads that accept. [`look_for_descriptors`] checks that there are enough to begin
 //! with. A [`Door`] is a listener for scrapes. [`AskedClock`] is the clock of the command line: it
 //! stands at `--now`, or is the system's. [`Diagnostics`] is standard error, with the [`Level`] of
@@ -15,7 +16,7 @@
 //! over a socket. [`has_small_stack`] reads the limit of the stack.
 //!
 //! Contracts state each end's status and text exactly, which end follows from the command line and
-//! from a served session, that there is a listener for each endpoint, and which ends a failure may
+//! from a served session, that there is a listener for each endpoint that needs one, and which ends a failure may
 //! have; what `--quit` sends, and which answers accept. No contract states what the system does
 //! with a listener.
 //!
@@ -26,6 +27,7 @@
 
 mod binding;
 mod clock;
+mod covers;
 mod descriptors;
 mod diagnostics;
 mod door;
@@ -35,6 +37,7 @@ mod stack;
 
 pub use binding::{Listeners, Wanting, bind_listener, bound_all, look_for_descriptors, sockets_of};
 pub use clock::AskedClock;
+pub use covers::bind_needed;
 pub use descriptors::most_descriptors;
 pub use diagnostics::{Diagnostics, Level};
 pub use door::{Door, open_door};

@@ -13,6 +13,7 @@ use Rattle.mc_metrics.specs.declared.family.Samples.TheVariants.{One, Each, Slab
 use Rattle.mc_metrics.specs.declared.reading.Reading.{Reading}
 use Rattle.mc_metrics.specs.declared.reading.SlabReading.{SlabReading}
 use Rattle.mc_metrics.specs.declared.reading.TablesReading.{TablesReading}
+use Rattle.mc_metrics.specs.declared.reading.BuffersReading.{BuffersReading}
 use Rattle.mc_metrics.specs.declared.reading.Figure.{Figure}
 use Rattle.mc_metrics.specs.declared.reading.Figure.TheVariants as figure
 use Rattle.mc_metrics.specs.declared.reading.ProcessReading.{ProcessReading}
@@ -60,6 +61,9 @@ figure_of reading figure.Growths = reading.tables.growths
 figure_of reading figure.Running = reading.tables.running
 figure_of reading figure.Left = reading.tables.left
 figure_of reading figure.Strays = reading.tables.strays
+figure_of reading figure.Held = reading.buffers.held
+figure_of reading figure.Buffers = reading.buffers.limit
+figure_of reading figure.Waiting = reading.buffers.waiting
 
 -- the sum of two numbers, or the greatest number that 64 bits hold
 abbrev pub sum_in_64_bits : (one other : ℕ) → ℕ
@@ -74,6 +78,14 @@ together tables others = record {
   running = sum_in_64_bits tables.running others.running;
   left = sum_in_64_bits tables.left others.left;
   strays = sum_in_64_bits tables.strays others.strays;
+}
+
+-- the buffers of all workers, with those of one more
+abbrev pub with_worker : BuffersReading → (held waiting : ℕ) → BuffersReading
+with_worker buffers held waiting = record {
+  held = sum_in_64_bits buffers.held held;
+  waiting = sum_in_64_bits buffers.waiting waiting;
+  limit = buffers.limit;
 }
 
 -- a number that is told of a class of chunks

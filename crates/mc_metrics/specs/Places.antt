@@ -1,7 +1,7 @@
 -- Where each thing that is counted has its place.
 use Rattle.std.specs.Prelude.{ℕ}
 use Rattle.mc_metrics.specs.declared.counts.Counted.{Counted}
-use Rattle.mc_metrics.specs.declared.counts.Counted.TheVariants.{GetHit, GetMiss, SetStored, SetNotStored, CasHit, CasMiss, CasBadval, DeleteHit, DeleteMiss, IncrHit, IncrMiss, DecrHit, DecrMiss, TouchHit, TouchMiss, Flush, Refused, Received, Sent}
+use Rattle.mc_metrics.specs.declared.counts.Counted.TheVariants.{GetHit, GetMiss, SetStored, SetNotStored, CasHit, CasMiss, CasBadval, DeleteHit, DeleteMiss, IncrHit, IncrMiss, DecrHit, DecrMiss, TouchHit, TouchMiss, Flush, Refused, TooLarge, Received, Sent}
 
 -- the place of what is counted, among all
 abbrev pub place_of : Counted → ℕ
@@ -22,5 +22,6 @@ place_of TouchHit = 13
 place_of TouchMiss = 14
 place_of Flush = 15
 place_of Refused = 16
-place_of Received = 17
-place_of Sent = 18
+place_of TooLarge = 17
+place_of Received = 18
+place_of Sent = 19

@@ -28,6 +28,8 @@ pub enum Counted {
     Flush,
     /// A step was refused for want of a chunk.
     Refused,
+    /// A command was answered that its item is larger than one may be.
+    TooLarge,
     /// A byte was read.
     Received,
     /// A byte was written.
@@ -47,7 +49,7 @@ impl Counted {
 }
 
 /// The number of counters.
-pub const COUNTED: usize = 19;
+pub const COUNTED: usize = 20;
 
 /// The number of counters of refused steps: one for each class of chunks at its number, and one at
 /// 0 for steps whose class isn't known.
@@ -64,6 +66,10 @@ pub struct Counts {
     _before: [u64; APART],
     cells: [AtomicU64; COUNTED],
     refused: [AtomicU64; REFUSED],
+    /// The bytes of buffers that its connections hold.
+    held: AtomicU64,
+    /// Its connections that wait for room.
+    waiting: AtomicU64,
     _behind: [u64; APART],
 }
 
@@ -74,6 +80,8 @@ impl Counts {
             _before: [0; APART],
             cells: array::from_fn(|_at| AtomicU64::new(0)),
             refused: array::from_fn(|_at| AtomicU64::new(0)),
+            held: AtomicU64::new(0),
+            waiting: AtomicU64::new(0),
             _behind: [0; APART],
         }
     }
@@ -98,6 +106,22 @@ impl Counts {
         if let Some(cell) = self.refused.get(class) {
             cell.fetch_add(1, Ordering::SeqCst);
         }
+    }
+
+    /// Notes how many bytes of buffers the worker's connections hold, and how many wait for room.
+    pub fn hold(&self, bytes: u64, waiting: u64) {
+        self.held.store(bytes, Ordering::SeqCst);
+        self.waiting.store(waiting, Ordering::SeqCst);
+    }
+
+    /// Returns the bytes of buffers that the worker's connections hold.
+    pub fn held(&self) -> u64 {
+        self.held.load(Ordering::SeqCst)
+    }
+
+    /// Returns how many of the worker's connections wait for room.
+    pub fn waiting(&self) -> u64 {
+        self.waiting.load(Ordering::SeqCst)
     }
 
     /// Returns the refused steps of a class, modulo 2^64, and 0 if there is no such class.

@@ -36,7 +36,7 @@ pub use counts::{COUNTED, Counted, Counts, REFUSED};
 pub use family::{Family, Kind, Samples};
 pub use page::page_of;
 pub use reading::{
-    Figure, ProcessFigure, ProcessReading, Reading, RefusedReading, SlabFigure, SlabReading,
-    TablesReading, bytes_of, number_at,
+    BuffersReading, Figure, ProcessFigure, ProcessReading, Reading, RefusedReading, SlabFigure,
+    SlabReading, TablesReading, bytes_of, number_at,
 };
 pub use request::read_request;

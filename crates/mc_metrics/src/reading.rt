@@ -29,6 +29,7 @@ pub struct Reading {
     pub slabs: Vec<SlabReading>,
     /// The refused steps of each class.
     pub refused: Vec<RefusedReading>,
+    pub buffers: BuffersReading,
     pub process: ProcessReading,
 }
 
@@ -38,6 +39,17 @@ pub struct RefusedReading {
     /// The number of the class, and 0 for steps whose class isn't known.
     pub class: u8,
     pub count: u64,
+}
+
+/// The memory of buffers that connections hold.
+#[derive(Clone, Copy)]
+pub struct BuffersReading {
+    /// The bytes that all connections hold.
+    pub held: u64,
+    /// The connections that wait for room.
+    pub waiting: u64,
+    /// The limit of held bytes.
+    pub limit: u64,
 }
 
 /// What the system reports of the process; `None` is what it doesn't.
@@ -122,6 +134,11 @@ pub enum Figure {
     /// The entries that growths still have to move.
     Left,
     Strays,
+    /// The bytes of buffers that connections hold, and their limit.
+    Held,
+    Buffers,
+    /// The connections that wait for room.
+    Waiting,
 }
 
 /// A number that the system reports of the process.
@@ -172,6 +189,9 @@ impl Reading {
             Figure::Running => self.tables.running,
             Figure::Left => self.tables.left,
             Figure::Strays => self.tables.strays,
+            Figure::Held => self.buffers.held,
+            Figure::Buffers => self.buffers.limit,
+            Figure::Waiting => self.buffers.waiting,
         }
     }
 }
@@ -213,6 +233,35 @@ impl TablesReading {
             running: self.running.saturating_add(others.running),
             left: self.left.saturating_add(others.left),
             strays: self.strays.saturating_add(others.strays),
+        }
+    }
+}
+
+impl BuffersReading {
+    ghost use Rattle.std.specs.Prelude.{◌≡◌};
+    ghost use Rattle.mc_metrics.specs.Pages.{with_worker};
+
+    /// Returns the buffers of no connection, with this limit.
+    pub fn empty(limit: u64) -> BuffersReading
+        ensures held { result.held ≡ 0 }
+        ensures waiting { result.waiting ≡ 0 }
+        ensures limit { result.limit ≡ limit }
+    {
+        BuffersReading {
+            held: 0,
+            waiting: 0,
+            limit,
+        }
+    }
+
+    /// Returns the sum with what a worker's connections hold; each number is at most 2^64 - 1.
+    pub fn with(self, held: u64, waiting: u64) -> BuffersReading
+        ensures { result ≡ with_worker self held waiting }
+    {
+        BuffersReading {
+            held: self.held.saturating_add(held),
+            waiting: self.waiting.saturating_add(waiting),
+            limit: self.limit,
         }
     }
 }

@@ -1,8 +1,12 @@
 -- What a server is to serve with, by its options, before its first thread starts.
-use Rattle.std.specs.Prelude.{◌≡◌, ℕ, ◌*◌, ◌/◌, max, List, length, All}
+use Rattle.std.specs.Prelude.{◌≡◌, ℕ, ◌*◌, ◌/◌, max, List, length, All, Option, Some, None}
 use Rattle.std.specs.Arc.{arc_value}
 use Rattle.mc_options.specs.declared.options.Options.{Options}
 use Rattle.mc_sockets.specs.Crowds.{most_of}
+use Rattle.mc_sockets.specs.declared.connection.Crowd.{Crowd}
+use Rattle.mc_server.specs.declared.plan.Entrance.{Entrance}
+use Rattle.mc_server.specs.declared.plan.OwnTask.{OwnTask}
+use Rattle.mc_server.specs.declared.plan.OwnTask.TheVariants.{Accept, AnswerScrapes}
 use Rattle.mc_server.specs.declared.plan.ServerPlan.{ServerPlan}
 use Rattle.mc_server.specs.declared.plan.WorkerPlan.{WorkerPlan}
 
@@ -20,8 +24,15 @@ pub record ArePlansOf (options : Options) (plans : List WorkerPlan) : Type 0 whe
   pub count : length plans ≡ options.workers
   pub each : All (IsWorkerOf options) plans
 
+-- one thread accepts at the first listener, and counts connections in this crowd: the program's own, or another while that
+-- one answers scrapes
+abbrev pub IsOneAcceptor : Crowd → OwnTask → Option Entrance → Type 0
+IsOneAcceptor crowd (Accept entrance) None = arc_value entrance.crowd ≡ crowd
+IsOneAcceptor crowd (AnswerScrapes server) (Some entrance) = arc_value entrance.crowd ≡ crowd
+IsOneAcceptor crowd _ _ = ⊥
+
 -- a server's workers are by the options, and all its listeners count connections in one crowd of -c at most
 pub record IsPlanOf (options : Options) (plan : ServerPlan) : Type 0 where
   pub workers : ArePlansOf options plan.threads.workers.items
-  pub connections : most_of (arc_value plan.crowd) ≡ options.connections
-  pub crowd : arc_value plan.threads.crowd ≡ arc_value plan.crowd
+  pub connections : most_of (arc_value plan.threads.crowd) ≡ options.connections
+  pub first : IsOneAcceptor (arc_value plan.threads.crowd) plan.own plan.threads.first

@@ -11,7 +11,7 @@ use crate::client::StoreClient;
 use crate::plan::{Bound, make_plan};
 use crate::threads::serve;
 use mc_hop::Fnv;
-use mc_host::{AskedClock, Diagnostics, End, Refusal, Wanting, bound_all, open_door};
+use mc_host::{AskedClock, Diagnostics, End, Level, Refusal, Wanting, bind_needed, open_door};
 use mc_options::Options;
 use mc_session::ServeFault;
 use mc_shared::{Caller, Shared};
@@ -47,10 +47,13 @@ where
         Ok(door) => door,
         Err(end) => return end,
     };
-    let listeners = match bound_all(rt, rt.alloc(), &options.endpoints) {
+    let listeners = match bind_needed(rt, &options.endpoints) {
         Ok(listeners) => listeners,
         Err(end) => return end,
     };
+    if options.verbose && listeners.others.len() < options.endpoints.others.len() {
+        tell_covered(diagnostics);
+    }
     let endpoint = options.endpoints.first;
     match begin(rt, diagnostics, &options, Bound { listeners, door }, clock) {
         Ok(true) if options.may_quit => End::Stopped,
@@ -59,6 +62,16 @@ where
         Err(Wanting::Memory) => End::NoMemory,
         Err(Wanting::Thread) => End::NoThread,
     }
+}
+
+/// Writes that `::` accepts IPv4, too, and 0.0.0.0 has no listener of its own for that reason.
+fn tell_covered(diagnostics: Diagnostics) {
+    let Diagnostics { stderr, .. } = diagnostics;
+    let level = diagnostics.prefix(Level::Info);
+    // if standard error is closed the server runs all the same
+    let _ = eprintln!(stderr;
+        "{level}mcserver: :: accepts IPv4, too, so 0.0.0.0 at the same port needs no listener"
+    );
 }
 
 /// Makes the store and serves. Returns whether the server was asked to end, or what was wanting.

@@ -6,7 +6,7 @@
 ghost use Rattle.std.specs.Prelude.{◌≡◌, ◌+◌, length, IfOk, OnOk, All};
 ghost use Rattle.std.specs.Arc.{arc_value};
 ghost use Rattle.mc_sockets.specs.Crowds.{most_of};
-ghost use Rattle.mc_server.specs.Plans.{IsPlanOf, IsWorkerOf, ArePlansOf, held_of};
+ghost use Rattle.mc_server.specs.Plans.{IsPlanOf, IsWorkerOf, IsOneAcceptor, ArePlansOf, held_of};
 
 use mc_host::{
     Diagnostics, Door, Listeners, Wanting, look_for_descriptors, most_descriptors, sockets_of,
@@ -34,23 +34,38 @@ pub struct Bound {
     pub door: Option<Door>,
 }
 
-/// What the program's own thread serves with, and what the other threads own.
+/// What the program's own thread does, and what the other threads own.
 #[derive(Drop)]
 pub struct ServerPlan<'a> {
-    /// The listener of the program's own thread.
+    pub own: OwnTask,
+    pub threads: ThreadPlan<'a>,
+}
+
+/// What the program's own thread does. It alone may read files.
+#[derive(Drop)]
+pub enum OwnTask {
+    /// It accepts at the first listener.
+    Accept(Entrance),
+    /// It answers scrapes.
+    AnswerScrapes(MetricsServer),
+}
+
+/// A listener, and the counter of its connections.
+#[derive(Drop)]
+pub struct Entrance {
     pub listener: TcpListener,
     pub crowd: Arc<Crowd>,
-    pub threads: ThreadPlan<'a>,
 }
 
 /// What the threads beside the program's own are to own.
 #[derive(Drop)]
 pub struct ThreadPlan<'a> {
     pub workers: Vec<WorkerPlan>,
-    /// One listener for each thread that accepts.
+    /// The first listener, unless the program's own thread accepts there.
+    pub first: Option<Entrance>,
+    /// One listener for each further thread that accepts.
     pub listeners: Vec<TcpListener>,
     pub crowd: Arc<Crowd>,
-    pub metrics: Option<MetricsServer>,
     pub notice: Notice<'a>,
     /// Where the logger writes.
     pub outlet: Outlet,
@@ -128,20 +143,35 @@ fn plan_with<'a, R: AllocGlobal + Files + Clock>(
     let crowd = make_crowd(rt.alloc(), notice.options, &common.log)?;
     let metrics = make_metrics(rt, notice, bound.door, &crowd, counts)?;
     let Listeners { first, others } = bound.listeners;
+    let (own, first) = share_out(metrics, first, &crowd)?;
     let threads = ThreadPlan {
         workers: plans,
+        first,
         listeners: others,
-        crowd: crowd.clone().map_err(|_| AllocError)?,
-        metrics,
+        crowd,
         notice,
         outlet,
     };
-    let plan = ServerPlan {
-        listener: first,
-        crowd,
-        threads,
+    Ok((ServerPlan { own, threads }, common))
+}
+
+/// Returns what the program's own thread does, and the first listener if another accepts there. The
+/// one error is a refused allocation.
+fn share_out(
+    metrics: Option<MetricsServer>,
+    listener: TcpListener,
+    crowd: &Arc<Crowd>,
+) -> Result<(OwnTask, Option<Entrance>), AllocError>
+    ensures { IfOk result (λ tasks. IsOneAcceptor (arc_value crowd.now) tasks.0 tasks.1) }
+{
+    let entrance = Entrance {
+        listener,
+        crowd: crowd.clone().map_err(|_| AllocError)?,
     };
-    Ok((plan, common))
+    Ok(match metrics {
+        Some(server) => (OwnTask::AnswerScrapes(server), Some(entrance)),
+        None => (OwnTask::Accept(entrance), None),
+    })
 }
 
 /// Returns what all threads borrow. It fails if memory is refused, or a descriptor.
@@ -182,6 +212,7 @@ fn make_metrics<R: AllocGlobal + Files + Clock>(
         crowd: crowd.clone().map_err(|_| AllocError)?,
         counts,
         pages: notice.options.settings.pages,
+        buffers: u64::from(notice.options.buffers).saturating_mul(MIB as u64),
         since: Instant::now(rt).ok(),
         started: process_start(rt),
         most_fds: notice.descriptors,

@@ -1,18 +1,20 @@
 //! The threads of the server.
 //!
-//! Each listener has a thread that accepts: the first listener the program's own thread. Each
-//! worker has one, one writes to standard error, and one answers scrapes if that is asked for. The
-//! metrics server and the logger read the store by clients of their own. If one thread can't be
-//! started, the server ends, and those that run end with it.
+//! Each listener has a thread that accepts, each worker has one, and one writes to standard error.
+//! The program's own thread accepts at the first listener. If scrapes are asked for it answers them
+//! instead, because it alone may read the files with the figures of the process. The metrics server
+//! and the logger read the store by clients of their own. If one thread can't be started, the
+//! server ends, and those that run end with it.
 
 use crate::client::StoreClient;
-use crate::plan::{Common, ServerPlan, ThreadPlan, WorkerPlan};
+use crate::plan::{Common, Entrance, OwnTask, ServerPlan, ThreadPlan, WorkerPlan};
 use mc_host::Wanting;
 use mc_sockets::{ClosingLinks, Crowd, Refusals, SocketLinks, accept_all, accept_beside};
 use mc_telemetry::{MetricsServer, Notice, Outlet, WorkerTally, write_lines};
 use mc_time::Clock;
 use mc_workers::{NoGate, Worker};
 use std::alloc::{AllocError, AllocGlobal};
+use std::fs::Files;
 use std::net::TcpListener;
 use std::sync::{Arc, Wait};
 use std::thread::{self, Builder, Scope, Threads};
@@ -31,28 +33,41 @@ pub fn serve<R, C>(
     clock: &C,
 ) -> Result<(), Wanting>
 where
-    R: AllocGlobal + Wait + Threads + time::Clock + Sync,
+    R: Files + AllocGlobal + Wait + Threads + time::Clock + Sync,
     C: Clock + Sync,
 {
     thread::scope(
         thread::scope_env(),
         rt,
         move |scope| -> Result<(), Wanting> {
-            let ServerPlan {
-                listener,
-                crowd,
-                threads,
-            } = plan;
+            let ServerPlan { own, threads } = plan;
+            let mut client = client;
+            let stats = client.another();
             let started = start_all(scope, rt, threads, client, common, clock);
             if started.is_err() {
                 common.arrivals.end();
                 return started;
             }
-            accept_all(rt, listener, crowd, &common.arrivals);
+            run_own(rt, own, stats, common);
             common.log.leave();
             Ok(())
         },
     )
+}
+
+/// Does what the program's own thread does, until no more connections are accepted.
+fn run_own<R: Files + AllocGlobal + Wait + time::Clock>(
+    rt: &R,
+    own: OwnTask,
+    client: StoreClient<'_>,
+    common: &Common,
+) {
+    match own {
+        OwnTask::Accept(Entrance { listener, crowd }) => {
+            accept_all(rt, listener, crowd, &common.arrivals);
+        }
+        OwnTask::AnswerScrapes(server) => answer_scrapes(rt, server, client, common),
+    }
 }
 
 /// Starts all threads but the program's own.
@@ -70,16 +85,16 @@ where
 {
     let ThreadPlan {
         workers,
+        first,
         listeners,
         crowd,
-        metrics,
         notice,
         outlet,
     } = plan;
     let mut client = client;
     start_workers(scope, rt, workers, &mut client, common, clock)?;
+    start_first(scope, rt, first, common)?;
     start_acceptors(scope, rt, listeners, &crowd, common)?;
-    start_metrics(scope, rt, metrics, &mut client, common)?;
     start_logger(scope, rt, notice, outlet, client, common)
 }
 
@@ -108,7 +123,28 @@ where
     Ok(())
 }
 
-/// Starts a thread for each listener. Each deals its first connection to another worker.
+/// Starts a thread for the first listener, unless the program's own thread accepts there.
+fn start_first<'s, 'a: 's, 'd: 's, E, R>(
+    scope: &Scope<'s, E>,
+    rt: &'a R,
+    first: Option<Entrance>,
+    common: &'d Common,
+) -> Result<(), Wanting>
+where
+    R: AllocGlobal + Wait + Threads + time::Clock + Sync,
+{
+    let Some(Entrance { listener, crowd }) = first else {
+        return Ok(());
+    };
+    common.log.enter();
+    let accepting = move || {
+        accept_all(rt, listener, crowd, &common.arrivals);
+        common.log.leave();
+    };
+    start(scope, Builder::new(), accepting)
+}
+
+/// Starts a thread for each further listener. Each deals its first connection to another worker.
 fn start_acceptors<'s, 'a: 's, 'd: 's, E, R>(
     scope: &Scope<'s, E>,
     rt: &'a R,
@@ -131,25 +167,6 @@ where
         start(scope, Builder::new(), accepting)?;
     }
     Ok(())
-}
-
-/// Starts the thread that answers scrapes, if there is a metrics server.
-fn start_metrics<'s, 'a: 's, 'c: 's, 'd: 's, E, R>(
-    scope: &Scope<'s, E>,
-    rt: &'a R,
-    server: Option<MetricsServer>,
-    client: &mut StoreClient<'c>,
-    common: &'d Common,
-) -> Result<(), Wanting>
-where
-    R: AllocGlobal + Wait + Threads + time::Clock + Sync,
-{
-    let Some(server) = server else {
-        return Ok(());
-    };
-    let client = client.another();
-    let answering = move || answer_scrapes(rt, server, client, common);
-    start(scope, Builder::new(), answering)
 }
 
 /// Starts the thread that writes to standard error.
@@ -222,7 +239,7 @@ fn run_worker<R: AllocGlobal + Wait + time::Clock, C: Clock>(
 }
 
 /// Answers scrapes until the server ends.
-fn answer_scrapes<R: AllocGlobal + Wait + time::Clock>(
+fn answer_scrapes<R: Files + AllocGlobal + Wait + time::Clock>(
     rt: &R,
     server: MetricsServer,
     client: StoreClient<'_>,

@@ -6,8 +6,8 @@ use mc_guests::Outcome;
 use mc_metrics::Counted;
 use mc_protocol::KeyStep;
 
-/// Returns the counter of a step with this outcome. A step that was too large, and one on an item
-/// that is no number, have none.
+/// Returns the counter of a step with this outcome. A step that was too large has none, because it
+/// is counted when it is answered. A step on an item that is no number has none either.
 pub fn counted_as(step: &KeyStep<'_>, outcome: Outcome) -> Option<Counted>
     ensures { result ≡ counted_as step.now outcome }
 {

@@ -4,7 +4,7 @@
 use Counted as C;
 use Figure::{Closed, Count};
 use Kind::{Counter, Gauge};
-use Samples::{Each, One, Process, Refused, Slabs};
+use Samples::{Each, Hundredths, One, Process, Refused, Slabs};
 use mc_metrics::{Counted, Family, Figure, Kind, ProcessFigure, Samples, SlabFigure};
 use mc_sockets::Parting;
 
@@ -69,10 +69,14 @@ const REASONS: &[(&str, Figure)] = &[
         Closed(Parting::LineTooLong as usize),
     ),
     (r#"{reason="stopped"}"#, Closed(Parting::Stopped as usize)),
+    (
+        r#"{reason="out_of_memory"}"#,
+        Closed(Parting::OutOfMemory as usize),
+    ),
 ];
 
 /// The metrics of a page, in this order.
-pub const FAMILIES: [Family; 33] = [
+pub const FAMILIES: [Family; 41] = [
     Family(
         Gauge,
         "memcached_up",
@@ -201,6 +205,12 @@ pub const FAMILIES: [Family; 33] = [
     ),
     Family(
         Counter,
+        "memcached_item_too_large_total",
+        "Commands refused because the item is larger than -I allows.",
+        One(Count(C::TooLarge)),
+    ),
+    Family(
+        Counter,
         "memcached_read_bytes_total",
         "Bytes received from clients.",
         One(Count(C::Received)),
@@ -216,6 +226,24 @@ pub const FAMILIES: [Family; 33] = [
         "mcserver_refusals_total",
         "Commands refused for want of a chunk: the store is full.",
         One(Count(C::Refused)),
+    ),
+    Family(
+        Gauge,
+        "mcserver_buffer_bytes",
+        "Bytes of buffers that client connections hold and that --buffer-limit counts.",
+        One(Figure::Held),
+    ),
+    Family(
+        Gauge,
+        "mcserver_buffer_limit_bytes",
+        "Limit of these bytes, --buffer-limit; connections wait from seven eighths of it on.",
+        One(Figure::Buffers),
+    ),
+    Family(
+        Gauge,
+        "mcserver_waiting_connections",
+        "Client connections that wait for room in the buffers.",
+        One(Figure::Waiting),
     ),
     Family(
         Gauge,
@@ -270,5 +298,29 @@ pub const FAMILIES: [Family; 33] = [
         "process_max_fds",
         "Limit of open file descriptors of the process.",
         Process(ProcessFigure::MostFds),
+    ),
+    Family(
+        Gauge,
+        "process_open_fds",
+        "Open file descriptors of the process.",
+        Process(ProcessFigure::OpenFds),
+    ),
+    Family(
+        Gauge,
+        "process_resident_memory_bytes",
+        "Bytes of the process in memory.",
+        Process(ProcessFigure::Resident),
+    ),
+    Family(
+        Gauge,
+        "process_virtual_memory_bytes",
+        "Bytes of the address space of the process.",
+        Process(ProcessFigure::VirtualSize),
+    ),
+    Family(
+        Counter,
+        "process_cpu_seconds_total",
+        "Seconds of CPU time that the process used.",
+        Hundredths(ProcessFigure::Cpu),
     ),
 ];

@@ -8,15 +8,16 @@
 //! A worker counts its steps by a [`WorkerTally`] (`tally.rt`), each by the counter [`counted_as`]
 //! returns (`counting.rt`). For a scrape an [`Observer`] reads the counters, the connections and
 //! the store (`observer.rt`), the table of families lists what is printed (`families.rt`), and a
-//! [`MetricsServer`] answers over HTTP (`scrape.rt`). When the process began is read at its start
-//! (`process.rt`). [`write_lines`] writes to standard error in a
-//! thread of its own (`logger.rt`): where the server listens, which connections open and close,
-//! and, once a minute, that the store is full (`full.rt`).
+//! [`MetricsServer`] answers over HTTP (`scrape.rt`). What the system reports of the process is
+//! read at each scrape (`process.rt`). [`write_lines`] writes to standard error in a thread of its
+//! own (`logger.rt`): where the server listens, which connections open and close, and, once a
+//! minute, that the store is full (`full.rt`).
 //!
-//! Contracts state which counter each step with its outcome raises, and that a request ends the
-//! server only if `mc_metrics` grants it. The look of an answer and of a page is proved there. No
-//! contract states that counters count what happened, what the system reports of the process, and
-//! that a line is written: tests over sockets check that (tests/sockets).
+//! Contracts state which counter each step with its outcome raises, which number each figure of
+//! the process is in the text of the system, and that a request ends the server only if
+//! `mc_metrics` grants it. The look of an answer and of a page is proved there. No contract states
+//! that counters count what happened, which file of the system is read, and that a line is written:
+//! tests over sockets check that (tests/sockets).
 //!
 //! Begin with `specs/Counting.antt` and `src/stats.rt`, then `src/scrape.rt` and `src/logger.rt`.
 //!

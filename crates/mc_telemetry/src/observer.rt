@@ -1,10 +1,14 @@
 //! Reads the values of one scrape.
 
+use crate::process::process_now;
 use crate::stats::StoreStats;
-use mc_metrics::{COUNTED, Counts, ProcessReading, REFUSED, Reading, RefusedReading, SlabReading};
+use mc_metrics::{
+    BuffersReading, COUNTED, Counts, ProcessReading, REFUSED, Reading, RefusedReading, SlabReading,
+};
 use mc_slab::class_of;
 use mc_sockets::{Crowd, PARTINGS};
-use std::alloc::{AllocError, Global};
+use std::alloc::{AllocError, AllocGlobal, Global};
+use std::fs::Files;
 use std::sync::{Arc, Wait};
 use std::time::{Clock, Instant};
 
@@ -23,6 +27,8 @@ pub struct Observer {
     pub counts: Vec<Arc<Counts>>,
     /// The number of pages that items may take.
     pub pages: u32,
+    /// The limit of bytes of buffers that connections hold.
+    pub buffers: u64,
     /// When the server began; nothing if there was no clock.
     pub since: Option<Instant>,
     /// The start of the process in seconds since 1970, if it is known.
@@ -33,13 +39,14 @@ pub struct Observer {
 
 impl Observer {
     /// Returns all values of one scrape. The store's shelves are held one after another, and then
-    /// what they share for each class of chunks. The one error is a refused allocation.
-    pub fn read<R: Wait + Clock, S: StoreStats>(
+    /// what they share for each class of chunks. What the system doesn't report of the process is
+    /// left out. The one error is a refused allocation.
+    pub fn read<R: Files + AllocGlobal + Wait + Clock, S: StoreStats>(
         &self,
         rt: &R,
-        alloc: Global,
         stats: &mut S,
     ) -> Result<Reading, AllocError> {
+        let alloc = rt.alloc();
         let tables = stats.tables(rt);
         let slabs = slabs_of(rt, alloc, stats)?;
         Ok(Reading {
@@ -54,10 +61,11 @@ impl Observer {
             shelves: u64::from(stats.shelves()),
             slabs,
             refused: self.refused_counts(alloc)?,
+            buffers: self.sum_buffers(),
             process: ProcessReading {
                 started: self.started,
                 most_fds: self.most_fds,
-                ..ProcessReading::NONE
+                ..process_now(rt)
             },
         })
     }
@@ -71,6 +79,15 @@ impl Observer {
             }
         }
         sums
+    }
+
+    /// Returns the sums of the buffers that the workers' connections hold, and their limit.
+    fn sum_buffers(&self) -> BuffersReading {
+        let mut buffers = BuffersReading::empty(self.buffers);
+        for counts in &self.counts {
+            buffers = buffers.with(counts.held(), counts.waiting());
+        }
+        buffers
     }
 
     /// Returns the refused steps of each class, over all workers.

@@ -5,10 +5,11 @@ use crate::families::FAMILIES;
 use crate::observer::Observer;
 use crate::stats::StoreStats;
 use mc_host::Door;
-use mc_metrics::{Answer, Reply, page_of, response};
+use mc_metrics::{Answer, Reading, Reply, page_of, response};
 use mc_sockets::Arrivals;
 use mio::net::TcpStream;
 use std::alloc::{AllocError, AllocGlobal, Global};
+use std::fs::Files;
 use std::net::SocketAddr;
 use std::sync::Wait;
 use std::time::{Clock, Duration};
@@ -45,7 +46,7 @@ impl MetricsServer {
     /// client that sends nothing, or reads nothing, keeps no other one waiting: its connection is
     /// closed after 2 seconds for its request and 2 for its answer, or sooner if 64 newer ones are
     /// open.
-    pub fn answer_all<R: AllocGlobal + Wait + Clock, S: StoreStats>(
+    pub fn answer_all<R: Files + AllocGlobal + Wait + Clock, S: StoreStats>(
         &mut self,
         rt: &R,
         arrivals: &Arrivals,
@@ -99,7 +100,7 @@ impl MetricsServer {
 
     /// Lets each exchange go on, and closes those that are over. Returns whether one may go on at
     /// once.
-    fn go_on_all<R: AllocGlobal + Wait + Clock, S: StoreStats>(
+    fn go_on_all<R: Files + AllocGlobal + Wait + Clock, S: StoreStats>(
         &mut self,
         rt: &R,
         arrivals: &Arrivals,
@@ -125,7 +126,7 @@ impl MetricsServer {
 }
 
 /// Lets an exchange go on, and answers its request if that is due. Returns what is due then.
-fn go_on<R: AllocGlobal + Wait + Clock, S: StoreStats>(
+fn go_on<R: Files + AllocGlobal + Wait + Clock, S: StoreStats>(
     rt: &R,
     exchange: &mut Exchange,
     observer: &Observer,
@@ -152,7 +153,7 @@ fn stopped_by(arrivals: &Arrivals, reply: Reply) -> Reply {
 }
 
 /// Returns the text of a reply. The one error is a refused allocation.
-fn text_of<R: AllocGlobal + Wait + Clock, S: StoreStats>(
+fn text_of<R: Files + AllocGlobal + Wait + Clock, S: StoreStats>(
     rt: &R,
     reply: Reply,
     observer: &Observer,
@@ -161,10 +162,15 @@ fn text_of<R: AllocGlobal + Wait + Clock, S: StoreStats>(
     let alloc = rt.alloc();
     match reply.answer {
         Answer::Metrics => {
-            let reading = observer.read(rt, alloc, stats)?;
-            let page = page_of(alloc, &FAMILIES, &reading)?;
+            let reading = observer.read(rt, stats)?;
+            let page = page_with(alloc, &reading)?;
             response(alloc, reply, page.as_slice())
         }
         _ => response(alloc, reply, b""),
     }
+}
+
+/// Returns the page of metrics with a reading. The one error is a refused allocation.
+fn page_with(alloc: Global, reading: &Reading) -> Result<Vec<u8>, AllocError> {
+    page_of(alloc, &FAMILIES, reading)
 }

@@ -1,16 +1,17 @@
-//! Counts the steps of a worker.
+//! Counts the steps of a worker, and what its connections hold of buffers.
 //!
 //! Each worker counts in memory of its own, one cache line apart, and a scrape adds up. So a
 //! command costs one addition.
 
 use crate::counting::counted_as;
 use mc_guests::{Outcome, Tally};
-use mc_metrics::Counts;
+use mc_metrics::{Counted, Counts};
 use mc_protocol::KeyStep;
 use mc_slab::need_of;
 use mc_sockets::{Refusals, Wanted};
 
-/// Counts a worker's steps, and notes in the log each step that is refused for want of a chunk.
+/// Counts a worker's steps and what its connections hold, and notes in the log each step that is
+/// refused for want of a chunk.
 #[derive(Clone, Copy)]
 pub struct WorkerTally<'a> {
     /// The counters of the worker.
@@ -28,6 +29,14 @@ impl Tally for WorkerTally<'_> {
             self.counts.refuse(class_wanted(step));
         }
         self.refusals.took(step, outcome);
+    }
+
+    fn too_large(&self) {
+        self.counts.add(Counted::TooLarge, 1);
+    }
+
+    fn holds(&self, held: usize, waiting: usize) {
+        self.counts.hold(held as u64, waiting as u64);
     }
 }
 
