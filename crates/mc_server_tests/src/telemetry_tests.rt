@@ -1,6 +1,6 @@
 //! What a scrape reads of a store, of connections and of workers.
 
-use mc_metrics::{Counted, Counts, TablesReading, number_at};
+use mc_metrics::{Counted, Counts, Figure, TablesReading, number_at};
 use mc_slab::{Account, Class};
 use mc_sockets::{Crowd, PARTINGS};
 use mc_telemetry::{Observer, StoreStats};
@@ -40,17 +40,20 @@ fn a_scrape_adds_up_workers(rt: HostRuntime) -> Result<(), Fail> {
         let worker = Arc::new(alloc, Counts::new())?;
         worker.add(Counted::GetHit, hits);
         worker.refuse(40);
+        worker.add(Counted::TooLarge, 1);
+        worker.hold(hits * 100, hits);
         counts.push(worker)?;
     }
     let observer = Observer {
         crowd: Crowd::new(alloc, 7, None)?,
         counts,
         pages: 64,
+        buffers: 4096,
         since: None,
         started: Some(7),
         most_fds: Some(9),
     };
-    let reading = observer.read(&rt, alloc, &mut FixedStats)?;
+    let reading = observer.read(&rt, &mut FixedStats)?;
     let hits = number_at(&reading.counts, Counted::GetHit.place());
     let misses = number_at(&reading.counts, Counted::GetMiss.place());
     assert!(rt; (hits, misses) == (7, 0));
@@ -63,6 +66,12 @@ fn a_scrape_adds_up_workers(rt: HostRuntime) -> Result<(), Fail> {
     assert!(rt; reading.uptime == 0);
     let process = reading.process;
     assert!(rt; (process.started, process.most_fds) == (Some(7), Some(9)));
+    // what Linux reports of this process: it has standard streams, and is in memory
+    assert!(rt; process.open_fds >= Some(3) && process.resident > Some(4096));
+    assert!(rt; process.virtual_size > process.resident && process.cpu.is_some());
+    let buffers = reading.buffers;
+    assert!(rt; (buffers.held, buffers.waiting, buffers.limit) == (700, 7, 4096));
+    assert!(rt; reading.figure(Figure::Count(Counted::TooLarge)) == 2);
     let Some(last) = reading.refused.get(40) else {
         return Err(Fail::new("no number of the last class"));
     };
@@ -77,11 +86,12 @@ fn a_scrape_has_the_classes_with_a_page(rt: HostRuntime) -> Result<(), Fail> {
         crowd: Crowd::new(alloc, 1, None)?,
         counts: Vec::new(alloc),
         pages: 1,
+        buffers: 0,
         since: None,
         started: None,
         most_fds: None,
     };
-    let reading = observer.read(&rt, alloc, &mut FixedStats)?;
+    let reading = observer.read(&rt, &mut FixedStats)?;
     assert_eq!(rt; reading.slabs.len(), 1);
     let Some(slab) = reading.slabs.get(0) else {
         return Err(Fail::new("no class has a page"));

@@ -3,8 +3,8 @@
 //! The tests see what a budget counts by the guests that wait.
 
 use crate::counting::Counting;
-use mc_guests::{Budget, Got, Guests, Link, LinkFault, Took, WorkEnd};
-use mc_protocol::Verb;
+use mc_guests::{Budget, Got, Guests, Link, LinkFault, Outcome, Tally, Took, WorkEnd};
+use mc_protocol::{KeyStep, Verb};
 use mc_rows::{Ask, ask_step, filled_block, step_of};
 use mc_time::Moment;
 use std::alloc::{AllocError, Global};
@@ -408,5 +408,75 @@ fn waits_for_lines(alloc: Global, lines: u64) -> Result<usize, AllocError> {
 #[test]
 fn lines_alone_keep_nobody_waiting(rt: HostRuntime) -> Result<(), Fail> {
     assert_eq!(rt; waits_for_lines(rt.alloc(), 100)?, 0);
+    Ok(())
+}
+
+/// A tally that keeps the last report of what guests hold, and the number of these reports.
+#[derive(Drop)]
+struct Holdings {
+    last: Cell<(usize, usize)>,
+    reports: Cell<u64>,
+}
+
+impl Tally for Holdings {
+    fn took(&self, _step: &KeyStep<'_>, _outcome: Outcome) {}
+
+    fn holds(&self, held: usize, waiting: usize) {
+        self.last.set((held, waiting));
+        self.reports.set(self.reports.get().saturating_add(1));
+    }
+}
+
+impl Holdings {
+    /// Reports twice, and returns the last report and the number of reports.
+    fn of(&self, hall: &mut Hall<'_>) -> ((usize, usize), u64) {
+        hall.guests.report(self);
+        hall.guests.report(self);
+        (self.last.get(), self.reports.get())
+    }
+}
+
+/// A guest holds 600000 bytes of 1000000, one waits that wants 400001, and then both have left.
+#[test]
+fn what_guests_hold_is_reported_once(rt: HostRuntime) -> Result<(), Fail> {
+    let is_over = Cell::new(false);
+    let holdings = Holdings {
+        last: Cell::new((0, 0)),
+        reports: Cell::new(0),
+    };
+    let mut hall = hall_of(rt.alloc(), Counting::new(rt.alloc(), false)?, 1_000_000);
+    assert!(rt; holdings.of(&mut hall) == ((0, 0), 0));
+    let_in(rt.alloc(), &mut hall, 0, OF_600000, &is_over)?;
+    assert!(rt; holdings.of(&mut hall) == ((600_000, 0), 1));
+    let_in(rt.alloc(), &mut hall, 1, OF_400001, &is_over)?;
+    let ((held, waiting), reports) = holdings.of(&mut hall);
+    assert!(rt; held >= 600_000 && waiting == 1 && reports == 2);
+    let_go(rt.alloc(), &mut hall, 0, &is_over);
+    let_go(rt.alloc(), &mut hall, 1, &is_over);
+    assert!(rt; holdings.of(&mut hall) == ((0, 0), 3));
+    Ok(())
+}
+
+/// Returns how many requests of this input are reported as too large, beside an item `a` of 1000000
+/// bytes.
+fn too_large_in(alloc: Global, input: &[u8]) -> Result<u64, Fail> {
+    let goes_on = Cell::new(false);
+    let mut hall = hall_of(alloc, store_with(alloc, 1_000_000)?, 16_777_216);
+    let_in(alloc, &mut hall, 0, input, &goes_on)?;
+    Ok(hall.store.too_large.get())
+}
+
+/// The store's greatest charge is 1048576 bytes.
+#[test]
+fn requests_that_are_too_large_are_reported(rt: HostRuntime) -> Result<(), Fail> {
+    let mut joined = vec![in rt.alloc(); b'x'; 60_022]?;
+    joined[..20].copy_from_slice(b"append a 0 0 60000\r\n");
+    joined[60_020..].copy_from_slice(b"\r\n");
+    assert_eq!(rt; too_large_in(rt.alloc(), joined.as_slice())?, 1);
+    assert_eq!(rt; too_large_in(rt.alloc(), b"set b 0 0 16777216\r\n")?, 1);
+    assert_eq!(rt;
+        too_large_in(rt.alloc(), b"get a b\r\nset b 0 0 1\r\nx\r\nfoo\r\n")?,
+        0
+    );
     Ok(())
 }

@@ -1,9 +1,11 @@
 //! A store that counts its steps.
 
 use mc_command::PlainStore;
+use mc_guests::Reports;
 use mc_protocol::{KeyStep, Reply, StepFault, Steps};
 use mc_time::Moment;
 use std::alloc::{AllocError, Global};
+use std::cell::Cell;
 
 /// A plain store that counts the steps it is called for, and can refuse memory for each.
 #[derive(Drop)]
@@ -11,6 +13,8 @@ pub(crate) struct Counting {
     pub(crate) store: PlainStore,
     pub(crate) is_refused: bool,
     pub(crate) asked: u64,
+    /// The reports of requests that were too large.
+    pub(crate) too_large: Cell<u64>,
 }
 
 impl Counting {
@@ -20,6 +24,7 @@ impl Counting {
             store: PlainStore::new(alloc, 64, 1_048_576)?,
             is_refused,
             asked: 0,
+            too_large: Cell::new(0),
         })
     }
 }
@@ -41,5 +46,11 @@ impl Steps for Counting {
             return Err(StepFault::NoMemory);
         }
         self.store.step(alloc, step, now)
+    }
+}
+
+impl Reports for Counting {
+    fn too_large(&self) {
+        self.too_large.set(self.too_large.get().saturating_add(1));
     }
 }

@@ -1,8 +1,8 @@
 //! Tests of the protocol: the plain store, lines and feeds, texts, sessions and guests.
 //!
-//! They test `mc_command`'s plain store, the lines and feeds of `mc_parse`, the texts of
-//! `mc_reply`, the sessions of `mc_session`, the guests of `mc_guests`, and the rows of `mc_rows`
-//! over the plain store.
+//! They test `mc_command`'s plain store, the queues of `mc_bytes`, the lines and feeds of
+//! `mc_parse`, the texts of `mc_reply`, the sessions of `mc_session`, the guests of `mc_guests`,
+//! and the rows of `mc_rows` over the plain store.
 //!
 //! It is a crate of its own so that no library is proved a second time with its tests. Tests use
 //! only public calls. No program uses this crate.

@@ -4,7 +4,8 @@ ghost use Rattle.std.specs.Prelude.{◌≡◌, ◌∷◌, []};
 ghost use Rattle.std.specs.Option.{option_map};
 ghost use Rattle.mc_parse.specs.Peeks.{unit_of};
 
-use mc_parse::{Append, FIRST_PIECE, Feed, Peek, Queue, Source, peek_at};
+use mc_bytes::{Append, FIRST_PIECE, Queue, Source};
+use mc_parse::{Feed, Peek, peek_at};
 use mc_protocol::{Command, LineFault, Lone, Verb};
 use std::alloc::{AllocError, Global};
 use std::test::*;
@@ -127,6 +128,21 @@ impl Append for Pair {
     }
 }
 
+/// A text of two bytes that reserves memory for 4096.
+#[derive(Drop)]
+struct Sprawling;
+
+impl Append for Sprawling {
+    ghost can_append = { λ _. Unit {0} };
+
+    ghost bytes = { λ _. 99 ∷ 100 ∷ [] };
+
+    fn append_to(&self, buffer: &mut Vec<u8>) -> Result<(), AllocError> {
+        buffer.reserve(4096)?;
+        buffer.extend_from_slice(b"cd")
+    }
+}
+
 /// A source that writes as many bytes at once as there is room for, and returns their number.
 #[derive(Drop)]
 struct Well {
@@ -161,19 +177,19 @@ fn take_at_last(feed: &mut Feed, well: &mut Well, room: usize) -> Result<bool, A
     Ok(is_same)
 }
 
-/// Consumes up to `n` bytes. Returns whether this is left, with at most twice as much held.
-fn consume_to(queue: &mut Queue<65536>, n: usize, left: &[u8]) -> bool {
+/// Consumes up to `n` bytes. Returns whether this is left, and this many bytes are in memory.
+fn consume_to(queue: &mut Queue<65536>, n: usize, left: &[u8], filled: usize) -> bool {
     queue.consume(queue.len().min(n));
-    queue.as_slice() == left && queue.len() == left.len() && queue.filled_bytes() <= 2 * left.len()
+    queue.as_slice() == left && queue.len() == left.len() && queue.filled_bytes() == filled
 }
 
-/// The number of bytes to consume, and what is left then.
-const TAKEN: [(usize, &[u8]); 5] = [
-    (0, b"abcdefgh"),
-    (3, b"defgh"),
-    (1, b"efgh"),
-    (3, b"h"),
-    (1, b""),
+/// The number of bytes to consume, what is left then, and the number of bytes in memory.
+const TAKEN: [(usize, &[u8], usize); 5] = [
+    (0, b"abcdefgh", 8),
+    (3, b"defgh", 8),
+    (1, b"efgh", 8),
+    (3, b"h", 8),
+    (1, b"", 0),
 ];
 
 #[test]
@@ -182,10 +198,34 @@ fn a_queue_takes_from_its_front(rt: HostRuntime) -> Result<(), AllocError> {
     assert!(rt; queue.is_empty());
     queue.push(b"abcdef")?;
     queue.append(&Pair(b'g', b'h'))?;
-    for (n, left) in &TAKEN {
-        assert!(rt; consume_to(&mut queue, *n, left));
+    for (n, left, filled) in &TAKEN {
+        assert!(rt; consume_to(&mut queue, *n, left, *filled));
     }
     assert!(rt; queue.is_empty());
+    Ok(())
+}
+
+#[test]
+fn an_append_closes_up_half_of_a_queue(rt: HostRuntime) -> Result<(), AllocError> {
+    let mut queue: Queue<65536> = Queue::new(rt.alloc());
+    queue.push(b"abcdefgh")?;
+    assert!(rt; consume_to(&mut queue, 3, b"defgh", 8));
+    queue.push(b"i")?;
+    assert_eq!(rt; queue.filled_bytes(), 9);
+    assert!(rt; consume_to(&mut queue, 2, b"fghi", 9));
+    queue.push(b"j")?;
+    assert!(rt; queue.as_slice() == b"fghij".as_slice());
+    assert_eq!(rt; queue.filled_bytes(), 5);
+    Ok(())
+}
+
+#[test]
+fn memory_that_a_text_does_not_need_is_given_back(rt: HostRuntime) -> Result<(), AllocError> {
+    let mut queue: Queue<65536> = Queue::new(rt.alloc());
+    queue.push(b"ab")?;
+    queue.append(&Sprawling)?;
+    assert!(rt; queue.as_slice() == b"abcd".as_slice());
+    assert_eq!(rt; queue.capacity(), 4);
     Ok(())
 }
 
@@ -198,7 +238,9 @@ fn a_large_queue_gives_its_memory_back(rt: HostRuntime) -> Result<(), AllocError
     }
     assert!(rt; queue.capacity() >= 131072);
     queue.consume(queue.len().min(131071));
-    assert_eq!(rt; queue.filled_bytes(), 1);
+    assert_eq!(rt; queue.filled_bytes(), 131072);
+    queue.push(b"x")?;
+    assert_eq!(rt; queue.filled_bytes(), 2);
     queue.clear();
     assert!(rt; queue.capacity() <= 65536 && queue.filled_bytes() == 0);
     Ok(())

@@ -1,7 +1,7 @@
 //! Sessions: whole runs over a reader and a writer, and single turns.
 
+use mc_bytes::Source;
 use mc_command::PlainStore;
-use mc_parse::Source;
 use mc_session::{ServeFault, Session, Turn, serve};
 use mc_testing::{Drip, SESSIONS, Sip};
 use mc_time::{Fixed, Moment};

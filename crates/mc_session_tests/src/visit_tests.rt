@@ -22,6 +22,8 @@ struct Slow<'a> {
     expected: &'a [u8],
     /// How many bytes were right and how many wrong.
     seen: &'a Cell<(usize, usize)>,
+    /// How many times memory was refused to its guest.
+    refusals: &'a Cell<u64>,
     calls: Calls,
     is_ended: bool,
     was_read: bool,
@@ -81,6 +83,10 @@ impl<'a> Link for Slow<'a> {
                 Ok(Took::Bytes(1))
             }
         }
+    }
+
+    fn refused(&mut self) {
+        self.refusals.set(self.refusals.get().saturating_add(1));
     }
 
     fn faults(&self) -> u64 {
@@ -186,14 +192,16 @@ const COURSES: [Course; 6] = [
 /// Visits a guest once for each letter, and returns whether each answer is its letter's.
 ///
 /// The answer must also be the guest's last answer. A write must pass one byte of output, and any
-/// other answer none.
+/// other answer none. The link must be told once that memory was refused, if the store refuses it.
 fn goes_as(alloc: Global, store: &mut Counting, course: &Course) -> Result<bool, AllocError> {
     let now = Moment::from_seconds_at_most(1000);
     let seen = Cell::new((0, 0));
+    let refusals = Cell::new(0);
     let link = Slow {
         input: course.input.as_bytes(),
         expected: course.output.as_bytes(),
         seen: &seen,
+        refusals: &refusals,
         calls: Calls::failing_at(course.fails_at),
         is_ended: false,
         was_read: false,
@@ -210,7 +218,8 @@ fn goes_as(alloc: Global, store: &mut Counting, course: &Course) -> Result<bool,
             && guest.last() == Some(answer)
             && seen.get() == (right.saturating_add(wrote), 0);
     }
-    Ok(goes_so && store.asked == course.steps)
+    let wanted = if course.is_refused { 1 } else { 0 };
+    Ok(goes_so && store.asked == course.steps && refusals.get() == wanted)
 }
 
 #[test]

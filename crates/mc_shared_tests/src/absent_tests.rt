@@ -2,12 +2,11 @@
 
 use crate::sole::{Act, Row, Sole};
 use crate::stores::{MANY, ONE, SOME};
-use mc_hop::{Constant, Fnv};
+use mc_hop::{Constant, Fnv, KeyHash};
 use mc_protocol::Verb;
 use mc_rows::{Ask, filled_block};
 use mc_shelf::Settings;
-use std::alloc::Global;
-use std::process::Abort;
+use std::alloc::{AllocError, Global};
 use std::sync::Wait;
 use std::test::*;
 
@@ -38,49 +37,62 @@ const ONE_NUMBER: [Row; 3] = [
     (1000, b"a", Act::Told(Ask::Get, "miss")),
 ];
 
-/// Checks the rows of a key's deaths over a store with these settings.
-fn deaths_are_told(
-    rt: &(impl Wait + Abort),
+/// Returns the first row with an unexpected result in an empty store with these settings.
+fn first_untold<K: KeyHash + Drop + Copy>(
+    rt: &impl Wait,
     alloc: Global,
     settings: Settings,
-) -> Result<(), Fail> {
-    let mut sole = Sole::open(rt, alloc, settings, Fnv)?;
-    assert_eq!(rt; sole.first_untold(alloc, &DEATHS), None);
-    Ok(())
+    hasher: K,
+    rows: &[Row],
+) -> Result<Option<usize>, AllocError> {
+    let mut sole = Sole::open(rt, alloc, settings, hasher)?;
+    Ok(sole.first_untold(alloc, rows))
 }
 
 #[test]
 fn a_key_is_absent_before_it_is_set_and_when_it_is_gone(rt: HostRuntime) -> Result<(), Fail> {
     const EACH: [Settings; 3] = [ONE, SOME, MANY];
     for settings in &EACH {
-        deaths_are_told(&rt, rt.alloc(), *settings)?;
+        let first = first_untold(&rt, rt.alloc(), *settings, Fnv, &DEATHS)?;
+        assert_eq!(rt; first, None);
     }
     Ok(())
 }
 
 #[test]
 fn a_key_of_the_number_of_another_is_not_absent(rt: HostRuntime) -> Result<(), Fail> {
-    let alloc = rt.alloc();
-    let mut sole = Sole::open(&rt, alloc, SOME, Constant(0))?;
-    assert_eq!(rt; sole.first_untold(alloc, &ONE_NUMBER), None);
+    let first = first_untold(&rt, rt.alloc(), SOME, Constant(0), &ONE_NUMBER)?;
+    assert_eq!(rt; first, None);
     Ok(())
+}
+
+/// Returns the names of the replies to a set of `b` that takes the page, and to one of `s`.
+///
+/// Returns also whether `s` is absent then.
+fn told_of_full<R: Wait>(
+    sole: &mut Sole<'_, R, Fnv>,
+    alloc: Global,
+    block: &[u8],
+) -> (&'static str, &'static str, bool) {
+    let large = sole.set(alloc, b"b", block);
+    let small = sole.set(alloc, b"s", b"x");
+    (
+        large,
+        small,
+        sole.is_told(alloc, &(1000, b"s", Act::Absent(true))),
+    )
 }
 
 #[test]
 fn a_key_that_finds_no_chunk_is_absent(rt: HostRuntime) -> Result<(), Fail> {
-    let alloc = rt.alloc();
     let small = Settings {
         pages: 1,
         greatest: Settings::GREATEST,
         shelves: 64,
     };
-    let mut sole = Sole::open(&rt, alloc, small, Fnv)?;
-    let block = match filled_block(alloc, 600000) {
-        Err(_) => filled_block(alloc, 600000)?,
-        Ok(block) => block,
-    };
-    assert_eq!(rt; sole.set(alloc, b"b", block.as_slice()), "stored");
-    assert_eq!(rt; sole.set(alloc, b"s", b"x"), "no chunk");
-    assert!(rt; sole.is_told(alloc, &(1000, b"s", Act::Absent(true))));
+    let block = filled_block(rt.alloc(), 600000)?;
+    let mut sole = Sole::open(&rt, rt.alloc(), small, Fnv)?;
+    let told = told_of_full(&mut sole, rt.alloc(), block.as_slice());
+    assert_eq!(rt; told, ("stored", "no chunk", true));
     Ok(())
 }

@@ -4,8 +4,11 @@
 //! again.
 
 use crate::trial::Trial;
+use mc_protocol::StepFault;
 use mc_rows::{Ask, Row, Want, filled_block, first_unlike, set};
 use mc_shelf::Settings;
+use std::alloc::Global;
+use std::sync::Wait;
 use std::test::*;
 
 /// The length of a block that makes a page with a key of one byte.
@@ -22,13 +25,21 @@ const FLUSH: Row<'static> = (1000, b"", Ask::Flush(0), Want::Told("flushed"));
 
 const MISS: Row<'static> = (1000, b"b", Ask::Get, Want::Told("miss"));
 
+/// Returns the first unexpected answer with its second, in a store of three pages.
+fn first_unlike_in<R: Wait>(
+    rt: &R,
+    alloc: Global,
+    rows: &[Row<'_>],
+) -> Result<Option<(u64, &'static str)>, StepFault> {
+    let mut trial = Trial::open_so(rt, alloc, THREE)?;
+    first_unlike(&mut trial, alloc, rows)
+}
+
 /// Two items of a page each fill the store, and after a flush two others do.
 #[test]
 fn a_flush_frees_all_chunks(rt: HostRuntime) -> Result<(), Fail> {
-    let alloc = rt.alloc();
-    let page = filled_block(alloc, ONE)?;
+    let page = filled_block(rt.alloc(), ONE)?;
     let page = page.as_slice();
-    let mut trial = Trial::open_so(&rt, alloc, THREE)?;
     let rows: [Row<'_>; 9] = [
         set(1000, b"b", 0, page, "stored"),
         set(1000, b"c", 0, page, "stored"),
@@ -40,17 +51,15 @@ fn a_flush_frees_all_chunks(rt: HostRuntime) -> Result<(), Fail> {
         set(1000, b"e", 0, page, "stored"),
         set(1000, b"f", 0, page, "no chunk"),
     ];
-    assert_eq!(rt; first_unlike(&mut trial, alloc, &rows)?, None);
+    assert_eq!(rt; first_unlike_in(&rt, rt.alloc(), &rows)?, None);
     Ok(())
 }
 
 /// The same holds after flush upon flush.
 #[test]
 fn each_flush_frees_all_chunks(rt: HostRuntime) -> Result<(), Fail> {
-    let alloc = rt.alloc();
-    let page = filled_block(alloc, ONE)?;
+    let page = filled_block(rt.alloc(), ONE)?;
     let page = page.as_slice();
-    let mut trial = Trial::open_so(&rt, alloc, THREE)?;
     let rows: [Row<'_>; 9] = [
         set(1000, b"b", 0, page, "stored"),
         FLUSH,
@@ -62,6 +71,6 @@ fn each_flush_frees_all_chunks(rt: HostRuntime) -> Result<(), Fail> {
         set(1000, b"f", 0, page, "no chunk"),
         MISS,
     ];
-    assert_eq!(rt; first_unlike(&mut trial, alloc, &rows)?, None);
+    assert_eq!(rt; first_unlike_in(&rt, rt.alloc(), &rows)?, None);
     Ok(())
 }

@@ -10,6 +10,7 @@ use mc_shared::{Caller, Shared};
 use mc_shelf::Store;
 use mc_time::Moment;
 use std::alloc::{AllocError, Global};
+use std::sync::Wait;
 use std::test::*;
 
 /// Returns a store with one hash for all keys, and `k01` to `k40`; its one table grew after each.
@@ -43,25 +44,64 @@ fn grown_shared(alloc: Global) -> Result<(Shared<Constant>, Caller), AllocError>
     }
 }
 
+/// Grows the first shelf by 8 entries twice, and returns how many were moved each time.
+fn moved_twice<R: Wait>(rt: &R, alloc: Global) -> Result<(usize, usize), AllocError> {
+    let (shared, mut me) = grown_shared(alloc)?;
+    let first = shared.grow(rt, &mut me, 0, 8);
+    Ok((first, shared.grow(rt, &mut me, 0, 8)))
+}
+
 #[test]
 fn growth_moves_what_is_left(rt: HostRuntime) -> Result<(), Fail> {
-    let (shared, mut me) = grown_shared(rt.alloc())?;
-    assert_eq!(rt; shared.grow(&rt, &mut me, 0, 8), 8);
-    assert_eq!(rt; shared.grow(&rt, &mut me, 0, 8), 0);
+    assert_eq!(rt; moved_twice(&rt, rt.alloc())?, (8, 0));
     Ok(())
+}
+
+/// Reads `k01`, and returns the name of the reply.
+fn read_first<R: Wait>(
+    rt: &R,
+    shared: &Shared<Constant>,
+    alloc: Global,
+    me: &mut Caller,
+) -> &'static str
+    requires { me.old.table ≡ shared.now.table }
+    ensures { me.new.table ≡ me.old.table }
+{
+    let read = step_of(b"k01", Ask::Get);
+    let now = Moment::from_seconds_at_most(1000);
+    told_of(&stepped(rt, shared, alloc, me, &read, now))
+}
+
+/// Grows after a step by 8 entries: before a first step, behind one, and again.
+///
+/// Returns how many were moved each time, and the name of the step's reply.
+fn moved_after<R: Wait>(
+    rt: &R,
+    shared: &Shared<Constant>,
+    alloc: Global,
+    me: &mut Caller,
+) -> ([usize; 3], &'static str)
+    requires { me.old.table ≡ shared.now.table }
+{
+    let before = shared.grow_after(rt, me, 8);
+    let told = read_first(rt, shared, alloc, me);
+    let behind = shared.grow_after(rt, me, 8);
+    let again = shared.grow_after(rt, me, 8);
+    ([before, behind, again], told)
+}
+
+/// Returns the same for a new store.
+fn seen_of_growth<R: Wait>(
+    rt: &R,
+    alloc: Global,
+) -> Result<([usize; 3], &'static str), AllocError> {
+    let (shared, mut me) = grown_shared(alloc)?;
+    Ok(moved_after(rt, &shared, alloc, &mut me))
 }
 
 /// Growth after a step moves entries of the step's shelf, once.
 #[test]
 fn growth_after_a_step_moves_what_is_left(rt: HostRuntime) -> Result<(), Fail> {
-    let alloc = rt.alloc();
-    let (shared, mut me) = grown_shared(alloc)?;
-    assert_eq!(rt; shared.grow_after(&rt, &mut me, 8), 0);
-    let read = step_of(b"k01", Ask::Get);
-    let now = Moment::from_seconds_at_most(1000);
-    let taken = stepped(&rt, &shared, alloc, &mut me, &read, now);
-    assert_eq!(rt; told_of(&taken), "hit");
-    assert_eq!(rt; shared.grow_after(&rt, &mut me, 8), 8);
-    assert_eq!(rt; shared.grow_after(&rt, &mut me, 8), 0);
+    assert_eq!(rt; seen_of_growth(&rt, rt.alloc())?, ([0, 8, 0], "hit"));
     Ok(())
 }

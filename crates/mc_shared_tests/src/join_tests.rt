@@ -1,9 +1,11 @@
 //! Joins to items of several pages, which are copied after the desk was given back.
 
 use crate::trial::Trial;
-use mc_protocol::Verb;
+use mc_protocol::{StepFault, Verb};
 use mc_rows::{Ask, Row, Want, filled_block, first_unlike, set};
 use mc_shelf::Settings;
+use std::alloc::{AllocError, Global};
+use std::sync::Wait;
 use std::test::*;
 
 /// A store of few pages with items of up to eight.
@@ -19,36 +21,56 @@ fn join<'a>(verb: Verb, block: &'a [u8]) -> Row<'a> {
     (1000, b"k", ask, Want::Told("stored"))
 }
 
+/// Returns `many` bytes; the first and the last differ from the others.
+fn bounded(alloc: Global, many: usize) -> Result<Vec<u8>, AllocError> {
+    let mut bytes = filled_block(alloc, many)?;
+    if let Some(first) = bytes.get_mut(0) {
+        *first = b'a';
+    }
+    if let Some(last) = bytes.get_mut(many.saturating_sub(1)) {
+        *last = b'z';
+    }
+    Ok(bytes)
+}
+
+/// Joins a block of 1,500,000 bytes, one of 900,000, the first byte of `all` and its last.
+///
+/// Returns the first unexpected answer with its second.
+fn first_unlike_join<R: Wait>(
+    trial: &mut Trial<'_, R>,
+    alloc: Global,
+    all: &[u8],
+) -> Result<Option<(u64, &'static str)>, StepFault> {
+    let (_, inner) = all.split_at(all.len().min(1));
+    let (first, _) = inner.split_at(inner.len().min(1_500_000));
+    let (second, _) = inner.split_at(inner.len().min(900_000));
+    let rows: [Row<'_>; 7] = [
+        set(1000, b"k", 0, first, "stored"),
+        join(Verb::Append, second),
+        join(Verb::Prepend, b"a"),
+        join(Verb::Append, b"z"),
+        (1000, b"k", Ask::Get, Want::Hit(6, all)),
+        (
+            1000,
+            b"k",
+            Ask::Store(Verb::Append, 0, second),
+            Want::Told("no chunk"),
+        ),
+        (1000, b"k", Ask::Get, Want::Hit(6, all)),
+    ];
+    first_unlike(trial, alloc, &rows)
+}
+
 /// An item grows from two pages to three, is copied for a prepend, and stays for an append.
 ///
 /// One of four pages is refused, as three are free.
 #[test]
 fn joins_of_pages_are_answered(rt: HostRuntime) -> Result<(), Fail> {
-    let alloc = rt.alloc();
-    let first = filled_block(alloc, 1_500_000)?;
-    let second = filled_block(alloc, 900_000)?;
-    let mut all = filled_block(alloc, 2_400_002)?;
-    if let Some(first) = all.get_mut(0) {
-        *first = b'a';
-    }
-    if let Some(last) = all.get_mut(2_400_001) {
-        *last = b'z';
-    }
-    let rows: &[Row<'_>] = &[
-        set(1000, b"k", 0, first.as_slice(), "stored"),
-        join(Verb::Append, second.as_slice()),
-        join(Verb::Prepend, b"a"),
-        join(Verb::Append, b"z"),
-        (1000, b"k", Ask::Get, Want::Hit(6, all.as_slice())),
-        (
-            1000,
-            b"k",
-            Ask::Store(Verb::Append, 0, second.as_slice()),
-            Want::Told("no chunk"),
-        ),
-        (1000, b"k", Ask::Get, Want::Hit(6, all.as_slice())),
-    ];
-    let mut trial = Trial::open_so(&rt, alloc, LARGE)?;
-    assert_eq!(rt; first_unlike(&mut trial, alloc, rows)?, None);
+    let all = bounded(rt.alloc(), 2_400_002)?;
+    let mut trial = Trial::open_so(&rt, rt.alloc(), LARGE)?;
+    assert_eq!(rt;
+        first_unlike_join(&mut trial, rt.alloc(), all.as_slice())?,
+        None
+    );
     Ok(())
 }

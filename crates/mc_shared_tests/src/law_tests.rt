@@ -87,31 +87,56 @@ fn empty_store(alloc: Global) -> Result<(Shared<Fnv>, Caller), AllocError>
     Ok(made)
 }
 
+/// Sets `a` to `x` at 1000. Returns an error if memory is refused or no number is left.
+fn set_a<R: Wait>(
+    rt: &R,
+    shared: &Shared<Fnv>,
+    alloc: Global,
+    me: &mut Caller,
+) -> Result<(), StepFault>
+    requires { me.old.table ≡ shared.now.table }
+    ensures { me.new.table ≡ me.old.table }
+{
+    let set = step_of(b"a", Ask::Store(Verb::Set, 0, b"x"));
+    let now = Moment::from_seconds_at_most(1000);
+    let _ = shared.step(rt, alloc, me, &set, now)?;
+    Ok(())
+}
+
+/// Returns the replies to two reads of `a` in a new store, after a set by the first caller.
+fn replies_to_reads<R: Wait>(rt: &R, alloc: Global) -> Result<(Reply, Reply), StepFault> {
+    let (shared, mut me) = empty_store(alloc)?;
+    let mut other = shared.caller(&mut me);
+    set_a(rt, &shared, alloc, &mut me)?;
+    reads_of_two(rt, &shared, alloc, me, &mut other, b"a")
+}
+
+/// Returns whether both replies are as wanted.
+fn are_wanted(replies: (Reply, Reply), first: Want<'_>, second: Want<'_>) -> bool {
+    is_wanted(&Ok(replies.0), first) && is_wanted(&Ok(replies.1), second)
+}
+
 /// What one caller read, the other reads again, once it knows of it.
 #[test]
 fn a_read_goes_on_from_another(rt: HostRuntime) -> Result<(), Fail> {
-    let alloc = rt.alloc();
-    let (shared, mut me) = empty_store(alloc)?;
-    let mut other = shared.caller(&mut me);
-    let set = step_of(b"a", Ask::Store(Verb::Set, 0, b"x"));
-    let now = Moment::from_seconds_at_most(1000);
-    let _ = shared.step(&rt, alloc, &mut me, &set, now)?;
-    let (first, second) = reads_of_two(&rt, &shared, alloc, me, &mut other, b"a")?;
-    assert!(rt; is_wanted(&Ok(first), Want::Hit(1, b"x")));
-    assert!(rt; is_wanted(&Ok(second), Want::Hit(1, b"x")));
+    let replies = replies_to_reads(&rt, rt.alloc())?;
+    assert!(rt; are_wanted(replies, Want::Hit(1, b"x"), Want::Hit(1, b"x")));
     Ok(())
+}
+
+/// Returns the replies to a set of `a` and a read of it by two callers of a new store.
+fn replies_to_set_and_read<R: Wait>(rt: &R, alloc: Global) -> Result<(Reply, Reply), StepFault> {
+    let set = step_of(b"a", Ask::Store(Verb::Set, 0, b"x"));
+    let get = step_of(b"a", Ask::Get);
+    let now = Moment::from_seconds_at_most(1000);
+    let (shared, me) = empty_store(alloc)?;
+    steps_of_two(rt, &shared, alloc, me, (&set, &get), now)
 }
 
 /// A set by one caller and a read by another are answered as if the set came first, as it did.
 #[test]
 fn two_callers_have_one_store(rt: HostRuntime) -> Result<(), Fail> {
-    let alloc = rt.alloc();
-    let (shared, me) = empty_store(alloc)?;
-    let set = step_of(b"a", Ask::Store(Verb::Set, 0, b"x"));
-    let get = step_of(b"a", Ask::Get);
-    let now = Moment::from_seconds_at_most(1000);
-    let (first, second) = steps_of_two(&rt, &shared, alloc, me, (&set, &get), now)?;
-    assert!(rt; is_wanted(&Ok(first), Want::Told("stored")));
-    assert!(rt; is_wanted(&Ok(second), Want::Hit(1, b"x")));
+    let replies = replies_to_set_and_read(&rt, rt.alloc())?;
+    assert!(rt; are_wanted(replies, Want::Told("stored"), Want::Hit(1, b"x")));
     Ok(())
 }

@@ -79,10 +79,7 @@ const TIDY: Row = (1010, b"a", Act::Tidy);
 
 /// Sets a third item, of 1049 bytes with its head, in a chunk of 1184.
 fn set_third<R: Wait>(sole: &mut Sole<'_, R, Fnv>, alloc: Global) -> Result<&'static str, Fail> {
-    let block = match filled_block(alloc, 1000) {
-        Err(_) => filled_block(alloc, 1000)?,
-        Ok(block) => block,
-    };
+    let block = filled_block(alloc, 1000)?;
     Ok(sole.set(alloc, b"b", block.as_slice()))
 }
 

@@ -118,13 +118,21 @@ impl<'a, R: Wait> Steps for Heard<'a, R> {
     }
 }
 
-#[test]
-fn replies_are_told_as_they_are_given(rt: HostRuntime) -> Result<(), Fail> {
-    let alloc = rt.alloc();
+/// Returns the first unexpected reply with its second, in a store that has `a` and `k`.
+fn first_untold<R: Wait>(
+    rt: &R,
+    alloc: Global,
+    rows: &[Row<'_>],
+) -> Result<Option<(u64, &'static str)>, StepFault> {
     let (shared, caller) = shared_store(alloc, SOME)?;
     let mut heard = Heard {
-        asking: Asking::new(&rt, &shared, caller, &NoGate),
+        asking: Asking::new(rt, &shared, caller, &NoGate),
     };
+    first_unlike(&mut heard, alloc, rows)
+}
+
+#[test]
+fn replies_are_told_as_they_are_given(rt: HostRuntime) -> Result<(), Fail> {
     let rows: &[Row<'_>] = &[
         (1000, b"a", Ask::Get, Want::Hit(1, b"x")),
         (1000, b"zz", Ask::Get, Want::Told("miss")),
@@ -139,7 +147,7 @@ fn replies_are_told_as_they_are_given(rt: HostRuntime) -> Result<(), Fail> {
         (1010, b"", Ask::Flush(0), Want::Told("flushed")),
         (1010, b"k", Ask::Get, Want::Told("miss")),
     ];
-    assert_eq!(rt; first_unlike(&mut heard, alloc, rows)?, None);
+    assert_eq!(rt; first_untold(&rt, rt.alloc(), rows)?, None);
     Ok(())
 }
 
@@ -163,28 +171,48 @@ fn unheard<R: Wait>(
     }
 }
 
+/// Returns the names of a gat of `k` and of `zz`, and whether a set of `a` is taken.
+///
+/// The set is tried again if memory is refused.
+fn unheard_each<R: Wait>(
+    asking: &mut Asking<'_, R, Fnv, NoGate>,
+    alloc: Global,
+) -> (&'static str, &'static str, bool) {
+    let hit = unheard(asking, alloc, b"k", Ask::Gat(10));
+    let miss = unheard(asking, alloc, b"zz", Ask::Gat(10));
+    let set = Ask::Store(Verb::Set, 0, b"z");
+    let first = unheard(asking, alloc, b"a", set);
+    let is_taken = first == "taken" || unheard(asking, alloc, b"a", set) == "taken";
+    (hit, miss, is_taken)
+}
+
+/// What is seen of them, and the first unexpected reply behind them with its second.
+type Unheard = (
+    (&'static str, &'static str, bool),
+    Option<(u64, &'static str)>,
+);
+
+/// Returns them for a new store that has `a` and `k`.
+fn seen_unheard<R: Wait>(rt: &R, alloc: Global, rows: &[Row<'_>]) -> Result<Unheard, StepFault> {
+    let (shared, caller) = shared_store(alloc, SOME)?;
+    let mut asking = Asking::new(rt, &shared, caller, &NoGate);
+    let told = unheard_each(&mut asking, alloc);
+    let unlike = first_unlike(&mut asking, alloc, rows)?;
+    Ok((told, unlike))
+}
+
 /// A refused hit isn't taken; its shelf is free and its item's expiry unchanged.
 ///
 /// Any other step is taken.
 #[test]
 fn a_hit_that_is_not_heard_is_not_taken(rt: HostRuntime) -> Result<(), Fail> {
-    let alloc = rt.alloc();
-    let (shared, caller) = shared_store(alloc, SOME)?;
-    let mut asking = Asking::new(&rt, &shared, caller, &NoGate);
-    assert_eq!(rt;
-        unheard(&mut asking, alloc, b"k", Ask::Gat(10)),
-        "not taken"
-    );
-    assert_eq!(rt; unheard(&mut asking, alloc, b"zz", Ask::Gat(10)), "taken");
-    let set = Ask::Store(Verb::Set, 0, b"z");
-    let first = unheard(&mut asking, alloc, b"a", set);
-    let taken = first == "taken" || unheard(&mut asking, alloc, b"a", set) == "taken";
-    assert!(rt; taken);
     let rows: &[Row<'_>] = &[
         (1010, b"k", Ask::Get, Want::Hit(2, b"y")),
         (1010, b"a", Ask::Get, Want::Hit(3, b"z")),
     ];
-    assert_eq!(rt; first_unlike(&mut asking, alloc, rows)?, None);
+    let (told, unlike) = seen_unheard(&rt, rt.alloc(), rows)?;
+    assert_eq!(rt; told, ("not taken", "taken", true));
+    assert_eq!(rt; unlike, None);
     Ok(())
 }
 
@@ -229,28 +257,47 @@ fn large_block(alloc: Global) -> Result<Vec<u8>, AllocError> {
     Ok(block)
 }
 
+/// Returns how many parts of the item of `a` have bytes, and how many bytes they are.
+///
+/// The item is delivered to a counter. Returns `None` if that fails.
+fn parts_of<R: Wait>(heard: &mut Heard<'_, R>, alloc: Global) -> Option<(usize, usize)> {
+    let mut counter = Counter { parts: 0, bytes: 0 };
+    let step = step_of(b"a", Ask::Gat(20));
+    let now = Moment::from_seconds_at_most(1009);
+    match heard.asking.step_telling(alloc, &step, now, &mut counter) {
+        Ok(()) => Some((counter.parts, counter.bytes)),
+        Err(_) => None,
+    }
+}
+
+/// Sets `a` to a block, and reads it.
+///
+/// Returns the first unexpected reply with its second, and the parts of the item.
+fn seen_of_large<R: Wait>(
+    heard: &mut Heard<'_, R>,
+    alloc: Global,
+    block: &[u8],
+) -> Result<(Option<(u64, &'static str)>, Option<(usize, usize)>), StepFault> {
+    let rows: &[Row<'_>] = &[
+        set(1000, b"a", 0, block, "stored"),
+        (1000, b"a", Ask::Get, Want::Hit(3, block)),
+        (1000, b"a", Ask::Gat(10), Want::Hit(3, block)),
+    ];
+    let unlike = first_unlike(heard, alloc, rows)?;
+    Ok((unlike, parts_of(heard, alloc)))
+}
+
 /// A block in three pages is delivered whole and needs no memory.
 ///
 /// It succeeds whatever allocation is refused.
 #[test]
 fn an_item_of_several_pages_is_told_where_it_lies(rt: HostRuntime) -> Result<(), Fail> {
-    let alloc = rt.alloc();
-    let block = large_block(alloc)?;
-    let (shared, caller) = shared_store(alloc, LARGE)?;
+    let block = large_block(rt.alloc())?;
+    let (shared, caller) = shared_store(rt.alloc(), LARGE)?;
     let mut heard = Heard {
         asking: Asking::new(&rt, &shared, caller, &NoGate),
     };
-    let rows: &[Row<'_>] = &[
-        set(1000, b"a", 0, block.as_slice(), "stored"),
-        (1000, b"a", Ask::Get, Want::Hit(3, block.as_slice())),
-        (1000, b"a", Ask::Gat(10), Want::Hit(3, block.as_slice())),
-    ];
-    assert_eq!(rt; first_unlike(&mut heard, alloc, rows)?, None);
-    let mut counter = Counter { parts: 0, bytes: 0 };
-    let step = step_of(b"a", Ask::Gat(20));
-    let now = Moment::from_seconds_at_most(1009);
-    let told = heard.asking.step_telling(alloc, &step, now, &mut counter);
-    assert!(rt; told.is_ok());
-    assert_eq!(rt; (counter.parts, counter.bytes), (3, 2_500_000));
+    let seen = seen_of_large(&mut heard, rt.alloc(), block.as_slice())?;
+    assert_eq!(rt; seen, (None, Some((3, 2_500_000))));
     Ok(())
 }

@@ -1,15 +1,15 @@
 //! Callers of one store in two threads. If memory is refused they make the call again.
 
-ghost use Rattle.std.specs.Prelude.{◌≡◌};
+ghost use Rattle.std.specs.Prelude.{◌≡◌, ◌≤◌, length};
 
 use crate::stores::{SOME, closed, empty_store, shared_store, stepped};
 use mc_hop::{Constant, Fnv, KeyHash};
 use mc_protocol::{Reply, StepFault, Verb};
 use mc_rows::{Ask, ask_step, filled_block, step_of, told_of};
 use mc_shared::{Caller, Shared};
-use mc_shelf::Settings;
+use mc_shelf::{Settings, Store};
 use mc_time::Moment;
-use std::alloc::Global;
+use std::alloc::{AllocError, Global};
 use std::sync::Wait;
 use std::test::*;
 use std::thread;
@@ -77,7 +77,12 @@ fn sets<R: Wait, K: KeyHash + Drop>(
     let key = [key];
     let set = step_of(&key, Ask::Store(Verb::Set, 0, block.as_slice()));
     let now = Moment::from_seconds_at_most(1000);
-    match stepped(rt, shared, alloc, caller, &set, now) {
+    came_of(&stepped(rt, shared, alloc, caller, &set, now))
+}
+
+/// Returns the result of a set.
+fn came_of(taken: &Result<Reply, StepFault>) -> Came {
+    match taken {
         Ok(Reply::Stored) => Came::Stored,
         Ok(Reply::NoChunk) => Came::NoChunk,
         _ => Came::Other,
@@ -257,57 +262,101 @@ fn both<R: Threads + Wait + Sync, K: KeyHash + Drop + Sync>(
     (other, (first, second))
 }
 
+/// Returns the results of two callers that read at once, each in a thread of its own.
+fn came_of_reads<R: Threads + Wait + Sync>(
+    rt: &R,
+    alloc: Global,
+) -> Result<(Came, Came), StepFault> {
+    let (shared, me) = shared_store(alloc, SOME)?;
+    let (_, came) = both(rt, &shared, alloc, me, (Errand::Reads, Errand::Reads));
+    Ok(came)
+}
+
 #[test]
 fn two_threads_read_at_once(rt: HostRuntime) -> Result<(), Fail> {
-    let alloc = rt.alloc();
-    let (shared, me) = shared_store(alloc, SOME)?;
-    let (_, came) = both(&rt, &shared, alloc, me, (Errand::Reads, Errand::Reads));
-    assert_eq!(rt; came, (Came::Hits(2000), Came::Hits(2000)));
+    assert_eq!(rt;
+        came_of_reads(&rt, rt.alloc())?,
+        (Came::Hits(2000), Came::Hits(2000))
+    );
     Ok(())
+}
+
+/// Settings of a store with one page.
+const SMALL: Settings = Settings {
+    pages: 1,
+    greatest: Settings::GREATEST,
+    shelves: 64,
+};
+
+/// Returns the name of the reply to a read of a key at 1000.
+fn told_of_read(store: &mut Store<Fnv>, alloc: Global, key: &[u8]) -> &'static str
+    requires { length key.now ≤ 250 }
+{
+    let now = Moment::from_seconds_at_most(1000);
+    told_of(&ask_step(store, alloc, &step_of(key, Ask::Get), now))
+}
+
+/// Returns whether a store has exactly the key whose set was stored, `b` or `c`.
+fn has_the_stored(store: &mut Store<Fnv>, alloc: Global, came: (Came, Came)) -> bool {
+    let held = (
+        told_of_read(store, alloc, b"b"),
+        told_of_read(store, alloc, b"c"),
+    );
+    match came {
+        (Came::Stored, Came::NoChunk) => held == ("hit", "miss"),
+        (Came::NoChunk, Came::Stored) => held == ("miss", "hit"),
+        _ => false,
+    }
+}
+
+/// Sets `b` and `c`, each in a thread of its own, in a store of one page.
+///
+/// Returns whether one is stored and the store has that alone; `None` if a bay is held.
+fn one_is_stored<R: Threads + Wait + Sync>(
+    rt: &R,
+    alloc: Global,
+) -> Result<Option<bool>, AllocError> {
+    let (shared, me) = empty_store(alloc, SMALL, Fnv)?;
+    let errands = (Errand::Sets(b'b'), Errand::Sets(b'c'));
+    let (me, came) = both(rt, &shared, alloc, me, errands);
+    let mut store = closed(shared, alloc, me);
+    match &mut store {
+        Some(store) => Ok(Some(has_the_stored(store, alloc, came))),
+        None => Ok(None),
+    }
 }
 
 #[test]
 fn one_of_two_sets_gets_the_one_page(rt: HostRuntime) -> Result<(), Fail> {
-    let alloc = rt.alloc();
-    let small = Settings {
-        pages: 1,
-        greatest: Settings::GREATEST,
-        shelves: 64,
-    };
-    let (shared, me) = empty_store(alloc, small, Fnv)?;
-    let errands = (Errand::Sets(b'b'), Errand::Sets(b'c'));
-    let (me, came) = both(&rt, &shared, alloc, me, errands);
-    let Some(mut store) = closed(shared, alloc, me) else {
-        panic!(rt; "a bay is held")
-    };
-    let now = Moment::from_seconds_at_most(1000);
-    let b = told_of(&ask_step(&mut store, alloc, &step_of(b"b", Ask::Get), now));
-    let c = told_of(&ask_step(&mut store, alloc, &step_of(b"c", Ask::Get), now));
-    let held = match came {
-        (Came::Stored, Came::NoChunk) => ("hit", "miss"),
-        (Came::NoChunk, Came::Stored) => ("miss", "hit"),
-        _ => ("neither", "neither"),
-    };
-    assert_eq!(rt; (b, c), held);
+    assert_eq!(rt; one_is_stored(&rt, rt.alloc())?, Some(true));
     Ok(())
 }
 
-/// Two threads set the keys `k001` to `k300`, which have one hash, and delete each third.
+/// Two callers set and delete keys of one hash, each in a thread of its own.
 ///
-/// Once they are joined, one caller reads what the other wrote.
-#[test]
-fn two_threads_use_three_hundred_keys_of_one_hash(rt: HostRuntime) -> Result<(), Fail> {
-    let alloc = rt.alloc();
+/// Once they are joined, one caller reads the keys. Returns the results, and how many it read
+/// right.
+fn came_of_keys<R: Threads + Wait + Sync>(
+    rt: &R,
+    alloc: Global,
+) -> Result<((Came, Came), u32), AllocError> {
     let (shared, me) = empty_store(alloc, SOME, Constant(0))?;
     let errands = (Errand::Keys(1), Errand::Keys(2));
-    let (other, came) = both(&rt, &shared, alloc, me, errands);
-    assert_eq!(rt; came, (Came::Keys(150, 50), Came::Keys(150, 50)));
+    let (other, came) = both(rt, &shared, alloc, me, errands);
     let all = Numbers {
         first: 1,
         apart: 1,
         count: 300,
     };
-    let (_, right) = done(&rt, &shared, alloc, other, Doing::Get, all);
+    let (_, right) = done(rt, &shared, alloc, other, Doing::Get, all);
+    Ok((came, right))
+}
+
+/// Two threads set the keys `k001` to `k300`, which have one hash, and delete each third.
+#[test]
+fn two_threads_use_three_hundred_keys_of_one_hash(rt: HostRuntime) -> Result<(), Fail> {
+    let (came, right) = came_of_keys(&rt, rt.alloc())?;
+    assert_eq!(rt; came, (Came::Keys(150, 50), Came::Keys(150, 50)));
     assert_eq!(rt; right, 300);
     Ok(())
 }

@@ -27,6 +27,8 @@ mod overwrite_tests;
 #[cfg(test)]
 mod paged_tests;
 mod parted;
+#[cfg(test)]
+mod plays;
 mod seen;
 #[cfg(test)]
 mod settings_tests;

@@ -3,12 +3,13 @@
 //! If their class has a free chunk, the new item goes into the chunk of the old one. If memory is
 //! refused the store is unchanged, and takes the step at the second try.
 
+use crate::plays::{Act, Play, first_unread, seen_of, small_items};
 use crate::seen::account;
 use crate::store_tests::answers;
 use crate::stores::open;
 use mc_hop::Fnv;
 use mc_protocol::{Bytes, KeyStep, Reply, Verb};
-use mc_rows::{Ask, Row, Want, ask_step, filled_block, set};
+use mc_rows::{Ask, Row, Want, ask_step, set};
 use mc_shelf::Store;
 use mc_time::Moment;
 use std::alloc::Global;
@@ -94,27 +95,32 @@ fn the_account_of_the_class_stays(rt: HostRuntime) -> Result<(), Fail> {
     Ok(())
 }
 
-/// A page has one chunk for a block of 600,000 bytes.
-///
+// A page has one chunk for a block of 600,000 bytes.
+
+const NO_PAGE: [Play; 4] = [
+    (1000, b"k", Act::Set(0, 600_000, "stored")),
+    (1000, b"k", Act::Set(0, 600_001, "no chunk")),
+    (1000, b"k", Act::Hit(1, 600_000)),
+    (1000, b"k", Act::Set(0, 5, "no chunk")),
+];
+
 /// With one page none is free beside the item's, and the old item stays.
 #[test]
 fn no_chunk_is_free_and_no_page_left(rt: HostRuntime) -> Result<(), Fail> {
-    let large = filled_block(rt.alloc(), 600_000)?;
-    let large = large.as_slice();
-    let larger = filled_block(rt.alloc(), 600_001)?;
-    let larger = larger.as_slice();
-    let rows: [Row<'_>; 4] = [
-        set(1000, b"k", 0, large, "stored"),
-        set(1000, b"k", 0, larger, "no chunk"),
-        (1000, b"k", Ask::Get, Want::Hit(1, large)),
-        set(1000, b"k", 0, b"small", "no chunk"),
-    ];
-    let mut store = open(rt.alloc(), 1)?;
-    answers(&rt, rt.alloc(), &mut store, &rows)?;
-    let (_, has) = account(store, 600_000);
-    assert_eq!(rt; has, (1, 1));
+    assert_eq!(rt;
+        seen_of(rt.alloc(), small_items(1), &NO_PAGE)?,
+        (None, (1, 1))
+    );
     Ok(())
 }
+
+const A_PAGE: [Play; 5] = [
+    (1000, b"k", Act::Set(0, 600_000, "stored")),
+    (1000, b"k", Act::Set(0, 600_001, "stored")),
+    (1000, b"k", Act::Hit(2, 600_001)),
+    (1000, b"k", Act::Set(0, 600_000, "stored")),
+    (1000, b"k", Act::Hit(3, 600_000)),
+];
 
 /// With a second page left the class takes that, if memory for it isn't refused.
 ///
@@ -122,21 +128,10 @@ fn no_chunk_is_free_and_no_page_left(rt: HostRuntime) -> Result<(), Fail> {
 /// page is taken.
 #[test]
 fn no_chunk_is_free_and_a_page_comes(rt: HostRuntime) -> Result<(), Fail> {
-    let large = filled_block(rt.alloc(), 600_000)?;
-    let large = large.as_slice();
-    let larger = filled_block(rt.alloc(), 600_001)?;
-    let larger = larger.as_slice();
-    let rows: [Row<'_>; 5] = [
-        set(1000, b"k", 0, large, "stored"),
-        set(1000, b"k", 0, larger, "stored"),
-        (1000, b"k", Ask::Get, Want::Hit(2, larger)),
-        set(1000, b"k", 0, large, "stored"),
-        (1000, b"k", Ask::Get, Want::Hit(3, large)),
-    ];
-    let mut store = open(rt.alloc(), 2)?;
-    answers(&rt, rt.alloc(), &mut store, &rows)?;
-    let (_, has) = account(store, 600_000);
-    assert_eq!(rt; has, (2, 1));
+    assert_eq!(rt;
+        seen_of(rt.alloc(), small_items(2), &A_PAGE)?,
+        (None, (2, 1))
+    );
     Ok(())
 }
 
@@ -179,7 +174,7 @@ fn joins_end_where_a_chunk_does(rt: HostRuntime) -> Result<(), Fail> {
 
 /// A join keeps the expiry, and has its own moment: a flush at 1020 drops what was joined before.
 ///
-/// Nothing is joined to a dead item.
+/// Nothing is joined to a dead item. No key is read before its join.
 #[test]
 fn a_join_is_of_its_moment(rt: HostRuntime) -> Result<(), Fail> {
     let rows: [Row<'_>; 12] = [
@@ -197,42 +192,40 @@ fn a_join_is_of_its_moment(rt: HostRuntime) -> Result<(), Fail> {
         (1021, b"k", Ask::Get, Want::Hit(6, b"z!")),
     ];
     let mut store = open(rt.alloc(), 4)?;
-    answers(&rt, rt.alloc(), &mut store, &rows)
+    assert_eq!(rt; first_unread(&mut store, rt.alloc(), &rows), None);
+    Ok(())
 }
+
+const NO_JOIN: [Play; 4] = [
+    (1000, b"k", Act::Set(0, 600_000, "stored")),
+    (1000, b"k", Act::Join(Verb::Append, 1, "no chunk")),
+    (1000, b"k", Act::Join(Verb::Append, 0, "no chunk")),
+    (1000, b"k", Act::Hit(1, 600_000)),
+];
 
 /// Without a free chunk and a page, a join that would stay in the chunk is refused too.
 #[test]
 fn a_join_wants_a_free_chunk(rt: HostRuntime) -> Result<(), Fail> {
-    let large = filled_block(rt.alloc(), 600_000)?;
-    let large = large.as_slice();
-    let rows: [Row<'_>; 4] = [
-        set(1000, b"k", 0, large, "stored"),
-        join(1000, Verb::Append, b"x", "no chunk"),
-        join(1000, Verb::Append, b"", "no chunk"),
-        (1000, b"k", Ask::Get, Want::Hit(1, large)),
-    ];
-    let mut store = open(rt.alloc(), 1)?;
-    answers(&rt, rt.alloc(), &mut store, &rows)?;
-    let (_, has) = account(store, 600_000);
-    assert_eq!(rt; has, (1, 1));
+    assert_eq!(rt;
+        seen_of(rt.alloc(), small_items(1), &NO_JOIN)?,
+        (None, (1, 1))
+    );
     Ok(())
 }
+
+const JOINS: [Play; 4] = [
+    (1000, b"k", Act::Set(0, 600_000, "stored")),
+    (1000, b"k", Act::Join(Verb::Append, 50_000, "stored")),
+    (1000, b"k", Act::Join(Verb::Append, 50_000, "stored")),
+    (1000, b"k", Act::Hit(3, 700_000)),
+];
 
 /// The first join takes the second page. From then on a chunk is free, and joins stay in theirs.
 #[test]
 fn a_join_takes_a_page_once(rt: HostRuntime) -> Result<(), Fail> {
-    let first = filled_block(rt.alloc(), 600_000)?;
-    let more = filled_block(rt.alloc(), 50_000)?;
-    let whole = filled_block(rt.alloc(), 700_000)?;
-    let rows: [Row<'_>; 4] = [
-        set(1000, b"k", 0, first.as_slice(), "stored"),
-        join(1000, Verb::Append, more.as_slice(), "stored"),
-        join(1000, Verb::Append, more.as_slice(), "stored"),
-        (1000, b"k", Ask::Get, Want::Hit(3, whole.as_slice())),
-    ];
-    let mut store = open(rt.alloc(), 2)?;
-    answers(&rt, rt.alloc(), &mut store, &rows)?;
-    let (_, has) = account(store, 600_000);
-    assert_eq!(rt; has, (2, 1));
+    assert_eq!(rt;
+        seen_of(rt.alloc(), small_items(2), &JOINS)?,
+        (None, (2, 1))
+    );
     Ok(())
 }

@@ -1,14 +1,13 @@
 //! Items of several pages: which chunks they take, and what a dead one gives back first.
 
-ghost use Rattle.std.specs.Prelude.{◌≤◌};
-
-use crate::parted::{Both, asked_in_parts, goes_alike};
+use crate::parted::{Both, asked_in_parts, first_apart, open_both};
+use crate::plays::{Act, PAGE, Play, is_answered, large_items, part, seen_of, seen_unread};
 use crate::seen::account;
 use crate::stores::set_up;
 use mc_hop::Fnv;
-use mc_protocol::Verb;
-use mc_rows::{Ask, Row, Want, ask_step, filled_block, first_unlike, set, step_of};
-use mc_shelf::{Settings, Store};
+use mc_protocol::{StepFault, Steps, Verb};
+use mc_rows::{Ask, Row, Want, filled_block, set, step_of, told_of};
+use mc_shelf::Store;
 use mc_time::Moment;
 use std::alloc::{AllocError, Global};
 use std::process::Abort;
@@ -22,142 +21,144 @@ const THREE: usize = 3_000_000;
 /// A block that makes a page with a key of one byte.
 const ONE: usize = 1_048_527;
 
-/// A charge of the last class, whose chunks are pages.
-const PAGE: u64 = 1_048_576;
+const SMALL: usize = 5;
 
-/// Returns a store of some pages, with items of up to eight. It allocates twice if memory is
-/// refused.
-fn open(alloc: Global, pages: u32) -> Result<Store<Fnv>, AllocError>
-    requires { (1 ≤ pages) × (pages ≤ 65536) }
-{
-    let settings = Settings {
-        pages,
-        greatest: 8388608,
-        shelves: 64,
-    };
-    set_up(alloc, settings, Fnv)
-}
-
-/// Checks the replies of a new store to rows, and the account of the last class afterwards.
-fn answers(
-    rt: &impl Abort,
-    alloc: Global,
-    pages: u32,
-    rows: &[Row<'_>],
-    want: (u32, u32),
-) -> Result<(), Fail>
-    requires { (1 ≤ pages) × (pages ≤ 65536) }
-{
-    let mut store = open(alloc, pages)?;
-    assert_eq!(rt; first_unlike(&mut store, alloc, rows)?, None);
-    let (_, has) = account(store, PAGE);
-    assert_eq!(rt; has, want);
-    Ok(())
-}
+const LIVE: [Play; 5] = [
+    (1000, b"k", Act::Set(0, TWO, "stored")),
+    (1000, b"k", Act::Set(0, THREE, "no chunk")),
+    (1000, b"k", Act::Hit(1, TWO)),
+    (1000, b"k", Act::Set(0, SMALL, "stored")),
+    (1000, b"k", Act::Hit(2, SMALL)),
+];
 
 /// An item that isn't dead keeps its pages until the new one has its own.
 #[test]
 fn one_that_stands_gives_its_pages_last(rt: HostRuntime) -> Result<(), Fail> {
-    let two = filled_block(rt.alloc(), TWO)?;
-    let three = filled_block(rt.alloc(), THREE)?;
-    let rows: [Row<'_>; 5] = [
-        set(1000, b"k", 0, two.as_slice(), "stored"),
-        set(1000, b"k", 0, three.as_slice(), "no chunk"),
-        (1000, b"k", Ask::Get, Want::Hit(1, two.as_slice())),
-        set(1000, b"k", 0, b"small", "stored"),
-        (1000, b"k", Ask::Get, Want::Hit(2, b"small")),
-    ];
-    answers(&rt, rt.alloc(), 4, &rows, (2, 0))
+    assert_eq!(rt; seen_of(rt.alloc(), large_items(4), &LIVE)?, (None, (2, 0)));
+    Ok(())
 }
+
+// The item of `k` dies at 1010, and the set then is the first step on `k`.
+
+const SHORTER: [Play; 5] = [
+    (1000, b"k", Act::Set(10, THREE, "stored")),
+    (1010, b"k", Act::Set(0, TWO, "stored")),
+    (1010, b"k", Act::Hit(2, TWO)),
+    (1010, b"b", Act::Set(0, ONE, "stored")),
+    (1010, b"c", Act::Set(0, ONE, "no chunk")),
+];
 
 /// A dead item of three pages gives way to one of two, and another item takes the third.
 #[test]
 fn a_dead_one_gives_way_to_a_shorter(rt: HostRuntime) -> Result<(), Fail> {
-    let one = filled_block(rt.alloc(), ONE)?;
-    let two = filled_block(rt.alloc(), TWO)?;
-    let three = filled_block(rt.alloc(), THREE)?;
-    let rows: [Row<'_>; 5] = [
-        set(1000, b"k", 10, three.as_slice(), "stored"),
-        set(1010, b"k", 0, two.as_slice(), "stored"),
-        (1010, b"k", Ask::Get, Want::Hit(2, two.as_slice())),
-        set(1010, b"b", 0, one.as_slice(), "stored"),
-        set(1010, b"c", 0, one.as_slice(), "no chunk"),
-    ];
-    answers(&rt, rt.alloc(), 3, &rows, (3, 3))
+    assert_eq!(rt;
+        seen_unread(rt.alloc(), large_items(3), &SHORTER)?,
+        (None, (3, 3))
+    );
+    Ok(())
 }
 
-/// A dead item of two pages gives way to one of three, which takes one page more.
-#[test]
-fn a_dead_one_gives_way_to_a_longer(rt: HostRuntime) -> Result<(), Fail> {
-    let two = filled_block(rt.alloc(), TWO)?;
-    let three = filled_block(rt.alloc(), THREE)?;
-    let rows: [Row<'_>; 3] = [
-        set(1000, b"k", 10, two.as_slice(), "stored"),
-        set(1010, b"k", 0, three.as_slice(), "stored"),
-        (1010, b"k", Ask::Get, Want::Hit(2, three.as_slice())),
-    ];
-    answers(&rt, rt.alloc(), 3, &rows, (3, 3))
-}
+const FULL: [Play; 4] = [
+    (1000, b"k", Act::Set(10, TWO, "stored")),
+    (1000, b"b", Act::Set(0, ONE, "stored")),
+    (1010, b"k", Act::Set(0, THREE, "no chunk")),
+    (1010, b"c", Act::Set(0, TWO, "stored")),
+];
 
 /// The dead item is dropped even if its pages are also too few.
 #[test]
 fn a_dead_one_goes_where_no_room_is(rt: HostRuntime) -> Result<(), Fail> {
-    let one = filled_block(rt.alloc(), ONE)?;
-    let two = filled_block(rt.alloc(), TWO)?;
-    let three = filled_block(rt.alloc(), THREE)?;
-    let rows: [Row<'_>; 4] = [
-        set(1000, b"k", 10, two.as_slice(), "stored"),
-        set(1000, b"b", 0, one.as_slice(), "stored"),
-        set(1010, b"k", 0, three.as_slice(), "no chunk"),
-        set(1010, b"c", 0, two.as_slice(), "stored"),
-    ];
-    answers(&rt, rt.alloc(), 3, &rows, (3, 3))
+    assert_eq!(rt;
+        seen_unread(rt.alloc(), large_items(3), &FULL)?,
+        (None, (3, 3))
+    );
+    Ok(())
 }
 
-/// Returns the row of a join.
-fn join<'a>(verb: Verb, block: &'a [u8]) -> Row<'a> {
-    let ask = Ask::Store(verb, 0, block);
-    (1000, b"k", ask, Want::Told("stored"))
+/// Sets `k` at 1010, when its item of two pages is dead. Returns whether it is stored.
+///
+/// If memory is refused the two pages must still be out, and the second try must store it.
+fn gives_way(store: Store<Fnv>, alloc: Global, block: &[u8]) -> (Store<Fnv>, bool) {
+    let mut store = store;
+    let now = Moment::from_seconds_at_most(1010);
+    let step = step_of(b"k", Ask::Store(Verb::Set, 0, block));
+    let first = store.step(alloc, &step, now);
+    match first {
+        Err(StepFault::NoMemory) => {
+            let (mut store, has) = account(store, PAGE);
+            let told = told_of(&store.step(alloc, &step, now));
+            (store, has == (2, 2) && told == "stored")
+        }
+        _ => (store, told_of(&first) == "stored"),
+    }
 }
+
+/// Returns whether it was right in a store of three pages, and the account of their class then.
+fn seen_of_longer(alloc: Global, bytes: &[u8]) -> Result<(bool, (u32, u32)), AllocError> {
+    let mut store = set_up(alloc, large_items(3), Fnv)?;
+    let dies = set(1000, b"k", 10, part(bytes, TWO), "stored");
+    let is_set = is_answered(&mut store, alloc, dies);
+    let (mut store, is_stored) = gives_way(store, alloc, bytes);
+    let stands: Row<'_> = (1010, b"k", Ask::Get, Want::Hit(2, bytes));
+    let is_right = is_set && is_stored && is_answered(&mut store, alloc, stands);
+    let (_, has) = account(store, PAGE);
+    Ok((is_right, has))
+}
+
+/// A dead item of two pages gives way to one of three, which takes one page more.
+///
+/// If that page is refused the dead item keeps its own.
+#[test]
+fn a_dead_one_gives_way_to_a_longer(rt: HostRuntime) -> Result<(), Fail> {
+    let three = filled_block(rt.alloc(), THREE)?;
+    assert_eq!(rt;
+        seen_of_longer(rt.alloc(), three.as_slice())?,
+        (true, (3, 3))
+    );
+    Ok(())
+}
+
+const GROWING: [Play; 4] = [
+    (1000, b"k", Act::Set(0, 1_000_000, "stored")),
+    (1000, b"k", Act::Join(Verb::Append, 1_500_000, "stored")),
+    (1000, b"k", Act::Join(Verb::Prepend, 500_000, "stored")),
+    (1000, b"k", Act::Hit(3, THREE)),
+];
 
 /// A block in several pages is joined from others.
 #[test]
 fn joins_go_over_pages(rt: HostRuntime) -> Result<(), Fail> {
-    let middle = filled_block(rt.alloc(), 1_000_000)?;
-    let end = filled_block(rt.alloc(), 1_500_000)?;
-    let front = filled_block(rt.alloc(), 500_000)?;
-    let three = filled_block(rt.alloc(), THREE)?;
-    let rows: [Row<'_>; 4] = [
-        set(1000, b"k", 0, middle.as_slice(), "stored"),
-        join(Verb::Append, end.as_slice()),
-        join(Verb::Prepend, front.as_slice()),
-        (1000, b"k", Ask::Get, Want::Hit(3, three.as_slice())),
-    ];
-    answers(&rt, rt.alloc(), 6, &rows, (6, 3))
+    assert_eq!(rt;
+        seen_of(rt.alloc(), large_items(6), &GROWING)?,
+        (None, (6, 3))
+    );
+    Ok(())
 }
+
+const STAYING: [Play; 5] = [
+    (1000, b"k", Act::Set(0, 1_500_000, "stored")),
+    (1000, b"k", Act::Join(Verb::Append, 400_000, "stored")),
+    (1000, b"k", Act::Join(Verb::Append, 100_000, "stored")),
+    (1000, b"k", Act::Join(Verb::Append, 400_000, "no chunk")),
+    (1000, b"k", Act::Hit(3, TWO)),
+];
 
 /// Bytes appended to an item of two pages stay in them while as many are free.
 ///
 /// One that needs three finds too few.
 #[test]
 fn joins_stay_in_their_pages(rt: HostRuntime) -> Result<(), Fail> {
-    let first = filled_block(rt.alloc(), 1_500_000)?;
-    let second = filled_block(rt.alloc(), 400_000)?;
-    let third = filled_block(rt.alloc(), 100_000)?;
-    let two = filled_block(rt.alloc(), TWO)?;
-    let rows: [Row<'_>; 5] = [
-        set(1000, b"k", 0, first.as_slice(), "stored"),
-        join(Verb::Append, second.as_slice()),
-        join(Verb::Append, third.as_slice()),
-        (
-            1000,
-            b"k",
-            Ask::Store(Verb::Append, 0, second.as_slice()),
-            Want::Told("no chunk"),
-        ),
-        (1000, b"k", Ask::Get, Want::Hit(3, two.as_slice())),
-    ];
-    answers(&rt, rt.alloc(), 4, &rows, (4, 2))
+    assert_eq!(rt;
+        seen_of(rt.alloc(), large_items(4), &STAYING)?,
+        (None, (4, 2))
+    );
+    Ok(())
+}
+
+/// Returns the row of a join.
+fn join<'a>(verb: Verb, block: &'a [u8]) -> Row<'a> {
+    let ask = Ask::Store(verb, 0, block);
+    (1000, b"k", ask, Want::Told("stored"))
 }
 
 /// Returns `many` bytes; the first and the last differ from the others.
@@ -172,34 +173,76 @@ fn bounded(alloc: Global, many: usize) -> Result<Vec<u8>, AllocError> {
     Ok(bytes)
 }
 
+/// Returns the accounts of the last class in both.
+fn accounts(both: Both) -> [(u32, u32); 2] {
+    let Both { whole, parted } = both;
+    let (_, whole) = account(whole, PAGE);
+    let (_, parted) = account(parted, PAGE);
+    [whole, parted]
+}
+
+/// Joins a block of 1,500,000 bytes, one of 900,000, the first byte and the last, in two stores.
+///
+/// `all` is the whole block. Returns the first row for which they differ, and their accounts.
+fn seen_of_joins(
+    alloc: Global,
+    all: &[u8],
+) -> Result<(Option<usize>, [(u32, u32); 2]), AllocError> {
+    let (_, inner) = all.split_at(all.len().min(1));
+    let rows: [Row<'_>; 5] = [
+        set(1000, b"k", 0, part(inner, 1_500_000), "stored"),
+        join(Verb::Append, part(inner, 900_000)),
+        join(Verb::Prepend, b"a"),
+        join(Verb::Append, b"z"),
+        (1000, b"k", Ask::Get, Want::Hit(4, all)),
+    ];
+    let (both, apart) = first_apart(alloc, open_both(alloc, large_items(6))?, &rows);
+    Ok((apart, accounts(both)))
+}
+
 /// A join that is begun, with pages in exchange, and then finished is the whole join.
 #[test]
 fn joins_of_pages_go_in_two_parts(rt: HostRuntime) -> Result<(), Fail> {
-    let alloc = rt.alloc();
-    let first = filled_block(alloc, 1_500_000)?;
-    let second = filled_block(alloc, 900_000)?;
-    let all = bounded(alloc, 2_400_002)?;
-    let rows: [Row<'_>; 5] = [
-        set(1000, b"k", 0, first.as_slice(), "stored"),
-        join(Verb::Append, second.as_slice()),
-        join(Verb::Prepend, b"a"),
-        join(Verb::Append, b"z"),
-        (1000, b"k", Ask::Get, Want::Hit(4, all.as_slice())),
-    ];
-    let mut both = Both {
-        whole: open(alloc, 6)?,
-        parted: open(alloc, 6)?,
-    };
-    for row in rows {
-        let (same, alike) = goes_alike(alloc, both, row);
-        both = same;
-        assert!(rt; alike);
+    let all = bounded(rt.alloc(), 2_400_002)?;
+    let seen = seen_of_joins(rt.alloc(), all.as_slice())?;
+    assert_eq!(rt; seen, (None, [(6, 3), (6, 3)]));
+    Ok(())
+}
+
+/// A join, its length, and whether it is left: to one chunk, to two pages that become three, to
+/// three that are copied for a prepend, and to three that stay.
+const LEFT: [(Verb, usize, bool); 5] = [
+    (Verb::Append, 700_000, false),
+    (Verb::Append, 1_000_000, true),
+    (Verb::Prepend, 1, true),
+    (Verb::Append, 700_000, true),
+    (Verb::Append, 1, true),
+];
+
+/// Joins a block to `k` in two parts. Returns whether it is stored, and whether it was left.
+fn joined_in_parts(
+    store: Store<Fnv>,
+    alloc: Global,
+    verb: Verb,
+    block: &[u8],
+) -> (Store<Fnv>, (bool, bool)) {
+    let step = step_of(b"k", Ask::Store(verb, 0, block));
+    let mut left = false;
+    let now = Moment::from_seconds_at_most(1000);
+    let (store, answer) = asked_in_parts(store, alloc, &step, now, &mut left);
+    (store, (told_of(&answer) == "stored", left))
+}
+
+/// Checks which joins are left, in a store of 16 pages that has a block of 400,000 bytes.
+fn joins_are_left(rt: &impl Abort, alloc: Global, bytes: &[u8]) -> Result<(), AllocError> {
+    let mut store = set_up(alloc, large_items(16), Fnv)?;
+    let first = set(1000, b"k", 0, part(bytes, 400_000), "stored");
+    assert!(rt; is_answered(&mut store, alloc, first));
+    for (verb, len, want) in &LEFT {
+        let (same, seen) = joined_in_parts(store, alloc, *verb, part(bytes, *len));
+        store = same;
+        assert_eq!(rt; seen, (true, *want));
     }
-    let Both { whole, parted } = both;
-    let (_, has) = account(whole, PAGE);
-    assert_eq!(rt; has, (6, 3));
-    let (_, has) = account(parted, PAGE);
-    assert_eq!(rt; has, (6, 3));
     Ok(())
 }
 
@@ -207,30 +250,6 @@ fn joins_of_pages_go_in_two_parts(rt: HostRuntime) -> Result<(), Fail> {
 /// item.
 #[test]
 fn a_join_of_pages_is_left(rt: HostRuntime) -> Result<(), Fail> {
-    let alloc = rt.alloc();
-    let small = filled_block(alloc, 400_000)?;
-    let large = filled_block(alloc, 700_000)?;
-    let larger = filled_block(alloc, 1_000_000)?;
-    // The join, and whether it is left: to one chunk, to two pages that become three, to three that
-    // are copied for a prepend, and to three that stay.
-    let rows: [(Verb, &[u8], bool); 5] = [
-        (Verb::Append, large.as_slice(), false),
-        (Verb::Append, larger.as_slice(), true),
-        (Verb::Prepend, b"x", true),
-        (Verb::Append, large.as_slice(), true),
-        (Verb::Append, b"x", true),
-    ];
-    let mut store = open(alloc, 16)?;
-    let now = Moment::from_seconds_at_most(1000);
-    let step = step_of(b"k", Ask::Store(Verb::Set, 0, small.as_slice()));
-    let _ = ask_step(&mut store, alloc, &step, now);
-    for (verb, block, want) in rows {
-        let step = step_of(b"k", Ask::Store(verb, 0, block));
-        let mut left = false;
-        let (same, answer) = asked_in_parts(store, alloc, &step, now, &mut left);
-        store = same;
-        let _ = answer?;
-        assert_eq!(rt; left, want);
-    }
-    Ok(())
+    let bytes = filled_block(rt.alloc(), 1_000_000)?;
+    Ok(joins_are_left(&rt, rt.alloc(), bytes.as_slice())?)
 }

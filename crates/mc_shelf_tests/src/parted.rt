@@ -7,12 +7,13 @@ ghost use Rattle.mc_shelf.specs.States.{CanStandAt};
 ghost use Rattle.mc_shelf.specs.Plans.{CanLook, StepTaken};
 
 use crate::seen::account_at;
+use crate::stores::set_up;
 use mc_hop::{Fnv, KeyHash};
 use mc_protocol::{KeyStep, Reply, StepFault, Steps};
 use mc_rows::{Row, ask_step, is_wanted, step_of};
-use mc_shelf::{Begun, Brought, Desk, Shelf, Store, StoreParts};
+use mc_shelf::{Begun, Brought, Desk, Settings, Shelf, Store, StoreParts};
 use mc_time::Moment;
-use std::alloc::Global;
+use std::alloc::{AllocError, Global};
 
 /// Returns whether something of a step is left.
 fn is_left(begun: &Begun) -> bool {
@@ -114,6 +115,14 @@ pub(crate) struct Both {
     pub(crate) parted: Store<Fnv>,
 }
 
+/// Returns two empty stores with these settings.
+pub(crate) fn open_both(alloc: Global, settings: Settings) -> Result<Both, AllocError> {
+    Ok(Both {
+        whole: set_up(alloc, settings, Fnv)?,
+        parted: set_up(alloc, settings, Fnv)?,
+    })
+}
+
 /// Returns whether the desks of both are equal.
 fn have_alike(both: Both) -> (Both, bool) {
     let Both { whole, parted } = both;
@@ -143,8 +152,21 @@ fn are_wanted(alloc: Global, both: Both, row: Row<'_>) -> (Both, bool) {
 }
 
 /// Returns whether both have the expected reply to a row, and their desks are equal afterwards.
-pub(crate) fn goes_alike(alloc: Global, both: Both, row: Row<'_>) -> (Both, bool) {
+fn goes_alike(alloc: Global, both: Both, row: Row<'_>) -> (Both, bool) {
     let (both, wanted) = are_wanted(alloc, both, row);
     let (both, alike) = have_alike(both);
     (both, wanted && alike)
+}
+
+/// Returns the place of the first row for which that isn't so.
+pub(crate) fn first_apart(alloc: Global, both: Both, rows: &[Row<'_>]) -> (Both, Option<usize>) {
+    let mut both = both;
+    for (at, row) in rows.iter().enumerate() {
+        let (same, alike) = goes_alike(alloc, both, *row);
+        both = same;
+        if !alike {
+            return (both, Some(at));
+        }
+    }
+    (both, None)
 }

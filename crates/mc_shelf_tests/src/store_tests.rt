@@ -3,11 +3,12 @@
 //!
 //! If memory is refused the store is unchanged, and takes the step at the second try.
 
-use crate::parted::{Both, goes_alike};
+use crate::parted::{first_apart, open_both};
+use crate::plays::{Act, Play, first_wrong, seen_of, small_items};
 use crate::seen::{account, may_have_dead, remade};
 use crate::stores::{open, open_with, set_up};
 use mc_hop::{Constant, Fnv};
-use mc_protocol::{Steps, Verb};
+use mc_protocol::{StepFault, Steps, Verb};
 use mc_rows::{Ask, Row, Want, ask_step, filled_block, first_unlike, set, step_of, told_of};
 use mc_shelf::{Settings, Store};
 use mc_time::Moment;
@@ -253,49 +254,69 @@ fn a_chunk_that_is_not_left_is_told(rt: HostRuntime) -> Result<(), Fail> {
 
 // A page has one chunk for a charge above 493552 bytes, and this store has one page.
 
+const LARGE: usize = 600_000;
+
+const OTHERS: [Play; 10] = [
+    (1000, b"a", Act::Set(0, LARGE, "stored")),
+    (1000, b"b", Act::Set(0, LARGE, "no chunk")),
+    (1000, b"k", Act::Set(0, 1, "no chunk")),
+    (1000, b"a", Act::Told(Ask::Delete, "deleted")),
+    (1000, b"b", Act::Set(10, LARGE, "stored")),
+    (1010, b"a", Act::Set(0, LARGE, "no chunk")),
+    // A flush with a delay drops the dead items of all shelves.
+    (1010, b"k", Act::Told(Ask::Flush(10), "flushed")),
+    (1010, b"a", Act::Set(0, LARGE, "stored")),
+    (1010, b"k", Act::Told(Ask::Flush(0), "flushed")),
+    (1010, b"b", Act::Set(0, LARGE, "stored")),
+];
+
 #[test]
 fn a_chunk_that_comes_back_serves_another_shelf(rt: HostRuntime) -> Result<(), Fail> {
-    let large = filled_block(rt.alloc(), 600000)?;
-    let large = large.as_slice();
-    let rows: [Row<'_>; 10] = [
-        set(1000, b"a", 0, large, "stored"),
-        set(1000, b"b", 0, large, "no chunk"),
-        set(1000, b"k", 0, b"x", "no chunk"),
-        (1000, b"a", Ask::Delete, Want::Told("deleted")),
-        set(1000, b"b", 10, large, "stored"),
-        set(1010, b"a", 0, large, "no chunk"),
-        // A flush with a delay drops the dead items of all shelves.
-        (1010, b"k", Ask::Flush(10), Want::Told("flushed")),
-        set(1010, b"a", 0, large, "stored"),
-        (1010, b"k", Ask::Flush(0), Want::Told("flushed")),
-        set(1010, b"b", 0, large, "stored"),
-    ];
-    let mut store = open(rt.alloc(), 1)?;
-    answers(&rt, rt.alloc(), &mut store, &rows)
+    assert_eq!(rt;
+        seen_of(rt.alloc(), small_items(1), &OTHERS)?,
+        (None, (1, 1))
+    );
+    Ok(())
+}
+
+const DIES: [Play; 2] = [
+    (1000, b"a", Act::Set(10, LARGE, "stored")),
+    (1010, b"b", Act::Set(0, LARGE, "no chunk")),
+];
+
+const FULL: [Play; 1] = [(1010, b"b", Act::Set(0, LARGE, "no chunk"))];
+
+const FREE: [Play; 2] = [
+    (1010, b"b", Act::Set(0, LARGE, "stored")),
+    (1010, b"a", Act::Told(Ask::Get, "miss")),
+];
+
+/// Purges other shelves than that of `a`, whose item is dead, and then its shelf.
+///
+/// Returns the first unexpected answer before, between and after.
+fn seen_of_purges(
+    store: &mut Store<Fnv>,
+    alloc: Global,
+    bytes: &[u8],
+) -> Result<[Option<usize>; 3], StepFault> {
+    let now = Moment::from_seconds_at_most(1010);
+    let before = first_wrong(store, alloc, bytes, &DIES)?;
+    store.purge(37, now);
+    store.purge(64, now);
+    let between = first_wrong(store, alloc, bytes, &FULL)?;
+    store.purge(12, now);
+    let after = first_wrong(store, alloc, bytes, &FREE)?;
+    Ok([before, between, after])
 }
 
 #[test]
 fn a_purge_drops_the_dead_of_one_shelf(rt: HostRuntime) -> Result<(), Fail> {
-    let large = filled_block(rt.alloc(), 600000)?;
-    let large = large.as_slice();
-    let now = Moment::from_seconds_at_most(1010);
+    let bytes = filled_block(rt.alloc(), LARGE)?;
     let mut store = open(rt.alloc(), 1)?;
-    let dies: [Row<'_>; 2] = [
-        set(1000, b"a", 10, large, "stored"),
-        set(1010, b"b", 0, large, "no chunk"),
-    ];
-    answers(&rt, rt.alloc(), &mut store, &dies)?;
-    store.purge(37, now);
-    store.purge(64, now);
-    let full: [Row<'_>; 1] = [set(1010, b"b", 0, large, "no chunk")];
-    answers(&rt, rt.alloc(), &mut store, &full)?;
-    store.purge(12, now);
+    let seen = seen_of_purges(&mut store, rt.alloc(), bytes.as_slice())?;
+    assert_eq!(rt; seen, [None, None, None]);
     assert_eq!(rt; store.settings().shelves, 64);
-    let free: [Row<'_>; 2] = [
-        set(1010, b"b", 0, large, "stored"),
-        (1010, b"a", Ask::Get, Want::Told("miss")),
-    ];
-    answers(&rt, rt.alloc(), &mut store, &free)
+    Ok(())
 }
 
 /// From the soonest expiry or a flush on, an item may be dead, until a purge.
@@ -442,15 +463,8 @@ fn a_step_in_two_parts_is_the_whole_step(rt: HostRuntime) -> Result<(), Fail> {
         set(1020, b"k", 0, &large[..5999], "stored"),
         (1020, b"k", Ask::Get, Want::Hit(12, &large[..5999])),
     ];
-    let alloc = rt.alloc();
-    let mut both = Both {
-        whole: open(alloc, 4)?,
-        parted: open(alloc, 4)?,
-    };
-    for row in rows {
-        let (same, alike) = goes_alike(alloc, both, row);
-        both = same;
-        assert!(rt; alike, "at {}", row.0);
-    }
+    let both = open_both(rt.alloc(), small_items(4))?;
+    let (_, apart) = first_apart(rt.alloc(), both, &rows);
+    assert_eq!(rt; apart, None);
     Ok(())
 }

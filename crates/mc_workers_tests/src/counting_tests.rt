@@ -120,13 +120,7 @@ const ROWS: [Row; 12] = [
     (b"", Ask::Flush(0), Outcome::Flushed),
 ];
 
-/// Returns whether a step is reported. A get whose answer nobody took is not.
-fn is_heard(way: Way, ask: &Ask<'_>) -> bool {
-    !(matches!(way, Way::Untold) && matches!(ask, Ask::Get))
-}
-
-/// Returns the first step that isn't reported once with the row's outcome, or is reported though
-/// nobody took its answer.
+/// Returns the first step that isn't reported once with the row's outcome.
 fn first_unheard(alloc: Global, way: Way) -> Result<Option<usize>, AllocError> {
     let heard = Heard::nothing();
     let mut counting = Counting::new(Store::new(alloc, SETTINGS, Fnv)?, &heard);
@@ -134,9 +128,7 @@ fn first_unheard(alloc: Global, way: Way) -> Result<Option<usize>, AllocError> {
     for (at, row) in ROWS.iter().enumerate() {
         let (key, ask, outcome) = *row;
         take(&mut counting, alloc, key, ask, way);
-        if is_heard(way, &ask) {
-            wanted = (wanted.0.saturating_add(1), key.len(), Some(outcome));
-        }
+        wanted = (wanted.0.saturating_add(1), key.len(), Some(outcome));
         if heard.hearing.get() != wanted {
             return Ok(Some(at));
         }
