@@ -309,6 +309,16 @@ class Metrics(ProgramCase):
                 peer.close()
             self.assertTrue(until(lambda: [server.scrape()[it] for it in (HELD, WAITING)] == [0, 0], SOON), server.scrape())
 
+    def test_reads_while_memory_is_tight(self):
+        """While others wait for room, the length of the next hit is read before its turn: that read isn't counted."""
+        with MetricsServer("--buffer-limit", "1", workers=1) as server, clients(server.port, 4) as peers, Peer(server.port) as beside:
+            beside.asks(b"set small 0 0 1\r\ns\r\n", b"STORED\r\n")
+            sent_as_far(peers, b"set held 0 0 400000\r\n" + b"h" * 200_000, 0.5)
+            self.assertTrue(until(lambda: server.scrape()[WAITING] == 2, SOON), server.scrape())
+            beside.asks(b"get none\r\n" * 10 + b"get small\r\n" * 7, b"END\r\n" * 10 + b"VALUE small 0 1\r\ns\r\nEND\r\n" * 7)
+            now = server.scrape()
+            self.assertEqual([10, 7], [now[command("get", it)] for it in ("miss", "hit")])
+
     def test_the_process(self):
         """Its start, its descriptors, its memory and its time on processors are what the system has for it."""
         with MetricsServer("-c", "50") as server:
