@@ -333,11 +333,14 @@ class Metrics(ProgramCase):
                 # the connection of the scrape is one more
                 self.assertTrue(until(lambda: server.scrape()["process_open_fds"] == descriptors_of(server) + 1, SOON), descriptors_of(server))
                 self.assertGreater(server.scrape()["process_open_fds"], now["process_open_fds"] + 15)
-            virtual, resident = now_of(server)
-            after = server.scrape()
-            self.assertAlmostEqual(virtual, after["process_virtual_memory_bytes"], delta=MIB)
-            self.assertAlmostEqual(resident, after["process_resident_memory_bytes"], delta=MIB)
-            self.assertGreater(after["process_resident_memory_bytes"], now["process_resident_memory_bytes"] + 18 * MIB)
+            # workers give memory back while their connections go
+            self.assertTrue(until(lambda: max(self.memory_apart(server)) < MIB, SOON), self.memory_apart(server))
+            self.assertGreater(server.scrape()["process_resident_memory_bytes"], now["process_resident_memory_bytes"] + 18 * MIB)
+
+    def memory_apart(self, server):
+        """By how many bytes what is counted of its memory differs from what the system has for it."""
+        had, told = now_of(server), server.scrape()
+        return [abs(has - told[f"process_{kind}_memory_bytes"]) for has, kind in zip(had, ("virtual", "resident"))]
 
     def test_the_time_on_processors(self):
         """It is what the system counts for the process, its own and the system's for it, in hundredths of a second."""
