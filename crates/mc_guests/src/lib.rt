@@ -38,6 +38,7 @@ mod pace;
 mod reports;
 mod rounds;
 mod row;
+mod seat;
 mod talk;
 mod tally;
 mod tap;

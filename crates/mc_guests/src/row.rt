@@ -15,6 +15,7 @@ use crate::link::Link;
 use crate::numbers::Numbers;
 use crate::reports::Reports;
 use crate::rounds::round_within;
+use crate::seat::Seat;
 use crate::weighed::{Judged, Line, Weighed};
 use mc_protocol::Steps;
 use mc_time::Moment;
@@ -24,7 +25,8 @@ use std::marker::Model;
 /// Guests in a row. Contracts see them, and the number of each one's link.
 #[derive(Drop)]
 pub struct Row<L: Link + Drop> {
-    guests: Vec<Weighed<L>>,
+    alloc: Global,
+    guests: Vec<Seat<L>>,
     /// The number of each one's link.
     numbers: Numbers,
 }
@@ -46,6 +48,7 @@ impl<L: Link + Drop> Row<L> {
         ensures { result ≡ nobody }
     {
         Row {
+            alloc,
             guests: Vec::new(alloc),
             numbers: Numbers::new(alloc),
         }
@@ -68,7 +71,7 @@ impl<L: Link + Drop> Row<L> {
         if !self.numbers.push(number) {
             return turned_away(guest);
         }
-        if push_behind(&mut self.guests, guest) {
+        if push_behind(self.alloc, &mut self.guests, guest) {
             return true;
         }
         self.numbers.pop();
@@ -95,7 +98,7 @@ impl<L: Link + Drop> Row<L> {
         requires { at < length self.now.guests }
         ensures { StandsAt at self.now result.now }
     {
-        &self.guests[at]
+        self.guests[at].guest()
     }
 
     /// Notes a guest's place in the queue of waiting guests.
@@ -131,7 +134,7 @@ impl<L: Link + Drop> Row<L> {
         let mut least = u64::MAX;
         let mut found = None;
         for at in 0..self.guests.len() {
-            if let Some(rate) = self.guests[at].slowness(ticks)
+            if let Some(rate) = self.guests[at].guest().slowness(ticks)
                 && rate < least
             {
                 least = rate;
@@ -191,7 +194,7 @@ impl<L: Link + Drop> Row<L> {
 /// Visits each of the first `count` guests once, within the budget.
 fn visit_front_of<L: Link + Drop, S: Reports>(
     alloc: Global,
-    guests: &mut [Weighed<L>],
+    guests: &mut [Seat<L>],
     count: usize,
     store: &mut S,
     now: Moment,
@@ -211,12 +214,15 @@ fn visit_front_of<L: Link + Drop, S: Reports>(
 }
 
 /// Appends a guest that holds nothing, and returns whether memory was there.
-fn push_behind<L: Link + Drop>(guests: &mut Vec<Weighed<L>>, guest: Guest<L>) -> bool
+fn push_behind<L: Link + Drop>(alloc: Global, guests: &mut Vec<Seat<L>>, guest: Guest<L>) -> bool
     ensures pushed { IsTrue result →
         guests.new.items ≡ guests.old.items ++ newcomer guest ∷ [] }
     ensures refused { IsFalse result → guests.new.items ≡ guests.old.items }
 {
-    match guests.push(Weighed::new(guest)) {
+    let Some(seat) = Seat::new(alloc, guest) else {
+        return false;
+    };
+    match guests.push(seat) {
         Ok(()) => true,
         Err(AllocFailed { mut value }) => {
             value.refuse();
