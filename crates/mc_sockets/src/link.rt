@@ -6,31 +6,46 @@
 use crate::channel::SocketChannel;
 use crate::yard::Yard;
 use mc_guests::{Gathering, Got, Link, LinkFault, Took};
-use std::alloc::Global;
+use std::alloc::{AllocFailed, Global};
 use std::cell::RefCell;
 use std::rc::Rc;
 
-/// A link over a socket, which gathers output.
+/// A link over a socket, which gathers output. It lies on the heap, so that only a pointer is
+/// moved.
 ///
 /// When it is dropped, output that the system doesn't take at once stays in the yard.
+#[derive(Drop)]
 pub struct SocketLink {
+    parts: Box<Parts>,
+}
+
+/// What a link has on the heap.
+struct Parts {
     gathering: Gathering<SocketChannel>,
     place: usize,
     yard: Rc<RefCell<Yard>>,
 }
 
 impl SocketLink {
-    /// Returns the link of a channel with this place among those of its worker. It takes no memory.
-    pub fn new(
+    /// Returns the link of a channel with this place among those of its worker. Returns `None` if
+    /// memory is refused; the channel is then closed.
+    pub(crate) fn new(
         alloc: Global,
         channel: SocketChannel,
         place: usize,
         yard: Rc<RefCell<Yard>>,
-    ) -> SocketLink {
-        SocketLink {
+    ) -> Option<SocketLink> {
+        let parts = Parts {
             gathering: Gathering::new(alloc, channel),
             place,
             yard,
+        };
+        match Box::new(alloc, parts) {
+            Ok(parts) => Some(SocketLink { parts }),
+            Err(AllocFailed { mut value }) => {
+                value.gathering.refused();
+                None
+            }
         }
     }
 }
@@ -38,40 +53,40 @@ impl SocketLink {
 impl Link for SocketLink {
     ghost use Rattle.mc_guests.specs.Gathered.{whole};
 
-    ghost shown = { λ s. whole s.gathering };
+    ghost shown = { λ s. whole s.parts.value.gathering };
 
     fn try_read(&mut self, piece: &mut [u8]) -> Result<Got, LinkFault> {
-        self.gathering.try_read(piece)
+        self.parts.gathering.try_read(piece)
     }
 
     fn try_write(&mut self, bytes: &[u8]) -> Result<Took, LinkFault> {
-        self.gathering.try_write(bytes)
+        self.parts.gathering.try_write(bytes)
     }
 
     fn pause(&mut self) -> Result<(), LinkFault> {
-        self.gathering.pause()
+        self.parts.gathering.pause()
     }
 
     fn refused(&mut self) {
-        self.gathering.refused();
+        self.parts.gathering.refused();
     }
 
     fn faults(&self) -> u64 {
-        self.gathering.faults()
+        self.parts.gathering.faults()
     }
 
     fn capacity(&self) -> usize {
-        self.gathering.capacity()
+        self.parts.gathering.capacity()
     }
 }
 
-impl Drop for SocketLink {
+impl Drop for Parts {
     fn drop(mut self) {
         if self.gathering.faults() == 0 {
             // if that fails, the client no longer reads
             let _ = self.gathering.flush();
         }
-        let SocketLink {
+        let Parts {
             gathering,
             place,
             yard,

@@ -285,7 +285,7 @@ impl<'a, R: Wait + Clock> SocketLinks<'a, R> {
         }
         let Connection { stream, entry } = connection;
         let channel = Channel::new(stream, entry, readiness, moved, counts);
-        let link = SocketLink::new(self.alloc, channel, at, yard);
+        let link = SocketLink::new(self.alloc, channel, at, yard)?;
         registered.ok()?;
         self.given = self.given.wrapping_add(1);
         Some(link)
