@@ -19,6 +19,7 @@
 #![tactic(auto)]
 
 mod counting;
+mod reading;
 mod tending;
 mod worker;
 

@@ -10,6 +10,7 @@ ghost use Rattle.mc_shared.specs.Steps.{Agrees};
 ghost use Rattle.mc_workers.specs.Rounds.{TidiesAndVisits, TidiesWhereRisen, WorksToEnd};
 
 use crate::counting::Counting;
+use crate::reading::Reading;
 use crate::tending::Tending;
 use mc_guests::{Budget, Door, Guests, Judged, Link, Links, NoTally, Tally, WorkEnd};
 use mc_hop::KeyHash;
@@ -42,8 +43,8 @@ impl<'a, G: Gate, T: Tally, C: Clock> Worker<'a, G, T, C> {
     /// It makes rounds of the guests that are awake. After each round it admits up to 32 new links.
     /// Each step is followed by the growth of its key's shelf by 8 entries. When the clock has
     /// risen, a round begins by dropping the dead items of the next shelf in turn; with more than
-    /// 64 shelves it takes several, so that 64 risings reach all shelves. The clock is read once a
-    /// round, for all of its visits.
+    /// 64 shelves it takes several, so that 64 risings reach all shelves. A round has one moment for
+    /// all of its visits. The clock is read after each rest, and at the latest after 16 rounds.
     ///
     /// The caller is returned with further calls in its past and nothing else, each at a moment
     /// that the clock may give; there is a legal history that keeps this past. A fault of one link,
@@ -72,10 +73,11 @@ impl<'a, G: Gate, T: Tally, C: Clock> Worker<'a, G, T, C> {
             broken: 0,
             refused: 0,
         };
-        let mut before = self.clock.now();
+        let mut reading = Reading::of(self.clock);
+        let mut before = reading.now;
         let mut turn = self.first;
         for _ in rt.forever() {
-            let now = self.clock.now();
+            let now = reading.for_round(self.clock, door.talk.has_rested);
             turn = make_round(alloc, &mut guests, &mut counting, turn, before, now);
             guests.settle(&mut end);
             guests.report(self.tally);

@@ -10,14 +10,15 @@ use Rattle.mc_workers.proofs.worker.Worker.work.Goals as goal
 pub loop-init : goal.loop-init
 loop-init g c = (
   goes_same _ _ _ (c.new-counting.ensures ∙ c.new-tending.ensures),
-  works_from g.K.KeyHash.hash_of (g.C.Clock.may_give c.args.self.now.clock.now) c.args.self.now.first c.args.self.now.share c.args.shared.now.began c.args.caller c.now-before.result
-      c.new-counting.result c.new-guests.result c.new-door.result c.now-before.ensures (c.new-counting.ensures ∙ c.new-tending.ensures)
+  works_from g.K.KeyHash.hash_of (g.C.Clock.may_give c.args.self.now.clock.now) c.args.self.now.first c.args.self.now.share c.args.shared.now.began c.args.caller c.of-reading.result.now
+      c.new-counting.result c.new-guests.result c.new-door.result c.of-reading.ensures.given (c.new-counting.ensures ∙ c.new-tending.ensures)
       (c.new-guests.ensures ∙ ap (λ (b : Budget). no_books b.share) c.new.ensures) c.greatest.result c.new-door.ensures c.greatest.ensures,
+  c.of-reading.ensures.given,
 )
 
 pub loop-preserved : goal.loop-preserved
 loop-preserved g c = (
-  goes_both _ _ _ _ c.loop.invariant.0 (goes_at _ _ c.now-now.ensures _ _ c.make_round-turn.ensures.further),
+  goes_both _ _ _ _ c.loop.invariant.0 (goes_at _ _ (c.for_round-now.ensures.given c.loop.invariant.2) _ _ c.make_round-turn.ensures.further),
   works_on g.K.KeyHash.hash_of (g.C.Clock.may_give c.args.self.now.clock.now) c.args.self.now.first c.args.self.now.share c.args.shared.now.began c.args.caller _
       (record {
         asking = c.make_round-turn.new.counting;
@@ -25,19 +26,20 @@ loop-preserved g c = (
         door = c.open_for_all.new.self;
         end = c.open_for_all.new.end;
         turn = c.make_round-turn.result;
-        moment = c.now-now.result;
+        moment = c.for_round-now.result;
       })
-      c.make_round-turn.new.guests c.make_room.new.guests c.settle.new.end c.open_for_all.result c.loop.invariant.1 c.now-now.ensures
+      c.make_round-turn.new.guests c.make_room.new.guests c.settle.new.end c.open_for_all.result c.loop.invariant.1 (c.for_round-now.ensures.given c.loop.invariant.2)
       c.make_round-turn.ensures.round
       (subst (λ (b : BooksState). SettlesFrom 0 c.make_round-turn.new.guests b c.loop.end c.settle.new.end) (sym (c.make_room.ensures ∙ c.report.ensures)) c.settle.ensures)
       c.open_for_all.ensures (cc),
+  subst (g.C.Clock.may_give c.args.self.now.clock.now) (sym c.for_round-now.ensures.kept) (c.for_round-now.ensures.given c.loop.invariant.2),
 )
 
 pub returns-then-not-open_for_all-clause-calls : goal.returns-then-not-open_for_all-clause-calls
 returns-then-not-open_for_all-clause-calls g c =
     subst (λ (p : Past). Further (g.C.Clock.may_give c.args.self.now.clock.now) c.args.caller.past p)
     (sym (c.into_caller.ensures.same.1 ∙ ap (λ (s : AskingState g.row.K.Denot). s.past) c.into_steps.ensures))
-    (goes_both _ _ _ _ c.loop.invariant.0 (goes_at _ _ c.now-now.ensures _ _ c.make_round-turn.ensures.further)).calls
+    (goes_both _ _ _ _ c.loop.invariant.0 (goes_at _ _ (c.for_round-now.ensures.given c.loop.invariant.2) _ _ c.make_round-turn.ensures.further)).calls
 
 pub returns-then-not-open_for_all-clause-works : goal.returns-then-not-open_for_all-clause-works
 returns-then-not-open_for_all-clause-works g c =
@@ -48,9 +50,9 @@ returns-then-not-open_for_all-clause-works g c =
       door = c.open_for_all.new.self;
       end = c.open_for_all.new.end;
       turn = c.make_round-turn.result;
-      moment = c.now-now.result;
+      moment = c.for_round-now.result;
     })
-    c.make_round-turn.new.guests c.make_room.new.guests c.settle.new.end c.open_for_all.result _ c.loop.invariant.1 c.now-now.ensures
+    c.make_round-turn.new.guests c.make_room.new.guests c.settle.new.end c.open_for_all.result _ c.loop.invariant.1 (c.for_round-now.ensures.given c.loop.invariant.2)
     c.make_round-turn.ensures.round
     (subst (λ (b : BooksState). SettlesFrom 0 c.make_round-turn.new.guests b c.loop.end c.settle.new.end) (sym (c.make_room.ensures ∙ c.report.ensures)) c.settle.ensures) c.open_for_all.ensures (cc)
     (c.into_caller.ensures.same.1 ∙ ap (λ (s : AskingState g.row.K.Denot). s.past) c.into_steps.ensures)
