@@ -1,2 +1,4 @@
+pub mod LabelLemmas
 pub mod ListingLemmas
+pub mod PageLemmas
 pub mod WordsLemmas

@@ -7,19 +7,21 @@
 //!
 //! A worker counts its steps by a [`WorkerTally`] (`tally.rt`), each by the counter [`counted_as`]
 //! returns (`counting.rt`). For a scrape an [`Observer`] reads the counters, the connections and
-//! the store (`observer.rt`), the table of families lists what is printed (`families.rt`), and a
-//! [`MetricsServer`] answers over HTTP (`scrape.rt`). What the system reports of the process is
-//! read at each scrape (`process.rt`). [`write_lines`] writes to standard error in a thread of its
-//! own (`logger.rt`): where the server listens, which connections open and close, and, once a
-//! minute, that the store is full (`full.rt`).
+//! the store (`observer.rt`), [`metrics_page`] makes the page (`page.rt`) by the table of families
+//! (`families.rt`), and a [`MetricsServer`] answers over HTTP (`scrape.rt`). What the system reports
+//! of the process is read at each scrape (`process.rt`). [`write_lines`] writes to standard error in
+//! a thread of its own (`logger.rt`): where the server listens, which connections open and close,
+//! and, once a minute, that the store is full (`full.rt`).
 //!
-//! Contracts state which counter each step with its outcome raises, which number each figure of
-//! the process is in the text of the system, and that a request ends the server only if
-//! `mc_metrics` grants it. The look of an answer and of a page is proved there. No contract states
-//! that counters count what happened, which file of the system is read, and that a line is written:
-//! tests over sockets check that (tests/sockets).
+//! Contracts state which counter each step with its outcome raises, that the page shows it under
+//! the step's command and result (`laws.rt`), that each number of the page has its own name and
+//! labels, which number each figure of the process is in the text of the system, and that a request
+//! ends the server only if `mc_metrics` grants it. The look of an answer and of a page is proved
+//! there. No contract states that counters count what happened, which file of the system is read,
+//! and that a line is written: tests over sockets check that (tests/sockets).
 //!
-//! Begin with `specs/Counting.antt` and `src/stats.rt`, then `src/scrape.rt` and `src/logger.rt`.
+//! Begin with `specs/Counting.antt`, `specs/Labels.antt` and `src/stats.rt`, then `src/scrape.rt`
+//! and `src/logger.rt`.
 //!
 //! Tests: mc_server_tests, src/telemetry_tests.rt.
 #![tactic(auto)]
@@ -28,18 +30,22 @@ mod counting;
 mod exchange;
 mod families;
 mod full;
+mod laws;
 mod logger;
 mod observer;
 mod outlet;
+mod page;
 mod process;
 mod scrape;
 mod stats;
 mod tally;
 
 pub use counting::counted_as;
+pub use laws::steps_are_shown_as_they_came_out;
 pub use logger::{Notice, write_lines};
 pub use observer::Observer;
 pub use outlet::Outlet;
+pub use page::metrics_page;
 pub use process::process_start;
 pub use scrape::MetricsServer;
 pub use stats::StoreStats;

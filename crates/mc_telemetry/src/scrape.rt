@@ -1,11 +1,11 @@
 //! Answers requests over HTTP, of several clients at once.
 
 use crate::exchange::{Due, Exchange};
-use crate::families::FAMILIES;
 use crate::observer::Observer;
+use crate::page::metrics_page;
 use crate::stats::StoreStats;
 use mc_host::Door;
-use mc_metrics::{Answer, Reading, Reply, page_of, response};
+use mc_metrics::{Answer, Reply, response};
 use mc_sockets::Arrivals;
 use mio::net::TcpStream;
 use std::alloc::{AllocError, AllocGlobal, Global};
@@ -163,14 +163,9 @@ fn text_of<R: Files + AllocGlobal + Wait + Clock, S: StoreStats>(
     match reply.answer {
         Answer::Metrics => {
             let reading = observer.read(rt, stats)?;
-            let page = page_with(alloc, &reading)?;
+            let page = metrics_page(alloc, &reading)?;
             response(alloc, reply, page.as_slice())
         }
         _ => response(alloc, reply, b""),
     }
-}
-
-/// Returns the page of metrics with a reading. The one error is a refused allocation.
-fn page_with(alloc: Global, reading: &Reading) -> Result<Vec<u8>, AllocError> {
-    page_of(alloc, &FAMILIES, reading)
 }
