@@ -1,16 +1,17 @@
 -- How few entries of an old table a step moves.
 use Rattle.std.proofs.Common.{◌≡◌, ℕ, ◌+◌, ◌*◌, ◌-◌, ◌≤◌, ◌^◌, ◌⊎◌, inl, inr, Bool, true, false, true≢false, not, ◌&&◌, ◌||◌}
-use Rattle.std.proofs.Common.{List, Result, Ok, Err, length, refl, sym, ap}
+use Rattle.std.proofs.Common.{List, [], ◌∷◌, zero, suc, Result, Ok, Err, length, length-append, refl, sym, ap}
 use Rattle.std.proofs.Common.{subst, ◌∙◌, arith, ⊎_elim}
 use Rattle.std.specs.Prelude.{min, nat_lt, IfOk, OnOk, OnErr}
 use Rattle.mc_shelf.proofs.Common.{and_parts, count, entries_of, Entry, EntryMap, EntryState, filled, hash_in, IndexState, is_due, ItemIsChanged, items_in}
 use Rattle.mc_shelf.proofs.Common.{items_of, key_in, lags, left, len, ltb-false, ltb-true, StandsAs}
 use Rattle.std.proofs.lemmas.Grind.{pow_more}
+use Rattle.std.proofs.lemmas.List.Sorted.{length_permutation}
 use Rattle.mc_grow.specs.Indexes as grow
-use Rattle.mc_grow.specs.Adding.{AreMoved}
+use Rattle.mc_grow.specs.Adding.{AreAdded, none_added, one_added, AreMoved, IsAdded, Side}
 use Rattle.mc_grow.proofs.CellLemmas.{count_parts}
 use Rattle.mc_shelf.specs.declared.counts.ShelfCounts.{ShelfCounts}
-use Rattle.mc_shelf.specs.Counts.{Begins, CatchesUp, CaughtUp, DropsAlone, GoesOn, GrowthIsDue, IsLoaded, KeepsTable, MovesFew, counts_in}
+use Rattle.mc_shelf.specs.Counts.{Begins, BeginsToMove, CatchesUp, CaughtUp, DropsAlone, GoesOn, GrowthIsDue, IsLoaded, KeepsTable, MovesFew, counts_in}
 
 -- ---- an index after a change
 
@@ -22,6 +23,36 @@ module _ (old new : IndexState EntryState) (same_k : new.k ≡ old.k) (same_grow
   one_gone less few = record { homes = ap (λ k. 2 ^ k) same_k; growing = same_growing; less = less; few = few }
 
 -- ---- moves that catch up
+
+-- an entry that is added makes one stray more at most
+added_stray : (k : ℕ) (entry : EntryState) (old new : Side EntryState) → IsAdded hash_in key_in k entry old new → length new.strays ≤ length old.strays + 1
+added_stray k entry old new (inl placed) = let same = ap (λ (l : List EntryState). length l) placed.strays in omega (arith, same)
+added_stray k entry old new (inr strayed) = let more = ap (λ (l : List EntryState). length l) strayed.strays ∙ length-append old.strays (entry ∷ []) in omega (arith, more)
+
+added_strays : {k : ℕ} {entries : List EntryState} {old new : Side EntryState} → AreAdded hash_in key_in k entries old new → length new.strays ≤ length old.strays + length entries
+added_strays (none_added side) = omega arith
+added_strays {k = k} (one_added entries entry first side last more one) =
+    let so_far = added_strays more in
+    let now = added_stray k entry side last one in
+    let many = length-append entries (entry ∷ []) in
+    omega (arith, so_far, now, many)
+
+-- as many strays more at most as entries are moved
+module _ (old new : IndexState EntryState) (n : ℕ) (are : AreMoved hash_in key_in n old new) (runs : old.growing ≡ true) where
+  moved_strays_by : (rest : ℕ) → left new ≡ rest → length new.strays ≤ length old.strays + n
+  moved_strays_by zero none =
+      let tried = are.ends runs none in
+      let before = added_strays are.moved.added in
+      let same = length_permutation are.after.strays tried.tried tried.each in
+      let again = added_strays tried.added in
+      omega (arith, before, same, again, are.moved.many)
+  moved_strays_by (suc rest) some =
+      let same = ap (λ (s : Side EntryState). length s.strays) (are.goes_on (omega (arith, some))) in
+      let before = added_strays are.moved.added in
+      omega (arith, before, same, are.moved.many)
+
+  moved_strays : length new.strays ≤ length old.strays + n
+  moved_strays = moved_strays_by (left new) refl
 
 module _ (old new : IndexState EntryState) (once : len (items_of old) ≡ count old) where
   loaded : nat_lt (3 * 2 ^ old.k) (4 * (count old + 1)) ≡ true → IsLoaded (counts_in old)
@@ -46,6 +77,8 @@ module _ (old new : IndexState EntryState) (once : len (items_of old) ≡ count 
         lags = λ _ _. omega (arith, rest, is);
         none_left = λ e. absurd (true≢false (sym load.0 ∙ e));
         rests = λ e. absurd (true≢false (sym load.0 ∙ e));
+        over = λ over. let none : left new ≤ 0 = ltb-false 0 (left new) (sym are.growing ∙ over) in omega (arith, none);
+        strays = let more = moved_strays old new moved are load.0 in omega (arith, more, is);
       }
 
 -- where no growth lags
@@ -64,6 +97,8 @@ caught_none index n once timely is rests = record {
   ends = λ e over. absurd (true≢false (sym e ∙ over));
   none_left = λ e. sym is ∙ rests e;
   rests = λ _. refl;
+  over = λ e. sym is ∙ rests e;
+  strays = omega arith;
 }
 
 -- ---- a reserve
@@ -118,11 +153,18 @@ module _ (old : ShelfCounts) (mid new : IndexState EntryState) (caught : CaughtU
         left = omega (arith, rest, fewer, once, caught.items);
       }
 
+  begins_few : is_due mid ≡ true → grow.HasBegun mid new → BeginsToMove 8 old (counts_in new)
+  begins_few e is =
+      let none = caught.over (was_due e).1 in
+      let parts = count_parts mid.draining mid.table mid.strays in
+      let rest : left new ≡ filled mid.table = ap (λ (s : IndexState EntryState). left s) is in
+      record { begins = begins_so e is; few = omega (arith, rest, parts, none, once, caught.items, caught.strays) }
+
   pub reserved : {T E : Type 0} (result : Result T E) → OnOk result (is_due mid ≡ true → grow.HasBegun mid new) → OnOk result (is_due mid ≡ false → StandsAs mid new)
       → OnErr result (StandsAs mid new) → MovesFew 8 old (counts_in new)
   reserved (Ok done) begins stays refused =
       elim (is_due mid) as (λ b. is_due mid ≡ b → MovesFew 8 old (counts_in new)) [
-        | true ↦ λ due. inr (begins_so due (begins due))
+        | true ↦ λ due. inr (begins_few due (begins due))
         | false ↦ λ none. stays_so (stays none)
       ] refl
   reserved (Err fault) begins stays refused = stays_so refused
@@ -173,7 +215,16 @@ moved_none counts = inl (record { homes = refl; none_begins = λ e. e; less = om
 
 pub moved_more : (old new : ShelfCounts) → MovesFew 8 old new → MovesFew 9 old new
 moved_more old new (inl goes) = inl (record { homes = goes.homes; none_begins = goes.none_begins; less = goes.less; few = omega (arith, goes.few) })
-moved_more old new (inr begins) = inr begins
+moved_more old new (inr begins) = inr (record { begins = begins.begins; few = omega (arith, begins.few) })
+
+begun_then : (old mid new : ShelfCounts) → Begins old mid → KeepsTable 1 mid new → Begins old new
+begun_then old mid new begins keeps = record {
+  due = begins.due;
+  last = begins.last;
+  homes = keeps.homes ∙ begins.homes;
+  growing = keeps.growing ∙ begins.growing;
+  left = omega (arith, begins.left, keeps.less);
+}
 
 pub moved_then : (old mid new : ShelfCounts) → MovesFew 8 old mid → KeepsTable 1 mid new → MovesFew 9 old new
 moved_then old mid new (inl goes) keeps = inl (record {
@@ -182,25 +233,13 @@ moved_then old mid new (inl goes) keeps = inl (record {
   less = omega (arith, goes.less, keeps.less);
   few = omega (arith, goes.few, keeps.few);
 })
-moved_then old mid new (inr begins) keeps = inr (record {
-  due = begins.due;
-  last = begins.last;
-  homes = keeps.homes ∙ begins.homes;
-  growing = keeps.growing ∙ begins.growing;
-  left = omega (arith, begins.left, keeps.less);
-})
+moved_then old mid new (inr begins) keeps = inr (record { begins = begun_then old mid new begins.begins keeps; few = omega (arith, begins.few, keeps.few) })
 
 -- it goes on in a growth that lags, too
 pub catches_then : (old mid new : ShelfCounts) → CatchesUp old mid → KeepsTable 1 mid new → CatchesUp old new
 catches_then old mid new catches keeps runs load =
     ⊎_elim (λ less. inl (omega (arith, less, keeps.less)))
-    (λ begins. inr (record {
-      due = begins.due;
-      last = begins.last;
-      homes = keeps.homes ∙ begins.homes;
-      growing = keeps.growing ∙ begins.growing;
-      left = omega (arith, begins.left, keeps.less);
-    })) (catches runs load)
+    (λ begins. inr (begun_then old mid new begins keeps)) (catches runs load)
 
 pub ok_any : {T E A : Type 0} (r : Result T E) → A → IfOk r (λ _. A)
 ok_any (Ok x) a = a

@@ -1,5 +1,5 @@
 -- How many entries each shelf of a store has left to move, after a change of one shelf or of all.
-use Rattle.std.proofs.Common.{◌≡◌, ◌≢◌, ℕ, ◌+◌, ◌<◌, ◌≤◌, ◌-◌, inl, inr, List, length, Option, Some, slice_get, slice_index, slice_set, take, drop, ◌++◌, refl, sym, ap, subst, ◌∙◌, arith, ⊎_elim}
+use Rattle.std.proofs.Common.{◌≡◌, ◌≢◌, ℕ, ◌<◌, ◌≤◌, inl, inr, List, length, Some, slice_get, slice_index, slice_set, take, drop, ◌++◌, sym, ap, subst, ◌∙◌, arith, ⊎_elim}
 use Rattle.mc_shelf.proofs.Common.{cases_eq, get_or-set_other, get_or-set_same, get_or_from_slice_get, IsOnKey, KeyStep, length-map, map-set, option_map, set-get_or, ShelfState, slice_get-map}
 use Rattle.mc_shelf.proofs.Common.{slice_get_within, take-append_seam}
 use Rattle.mc_protocol.specs.declared.step.KeyStep.TheVariants.{Flush}
@@ -11,7 +11,7 @@ use Rattle.mc_shelf.specs.Unions.{lefts}
 -- of a step on a key, by the counts of its shelf
 pub few_left : (old new : ShelfCounts) → MovesFew 9 old new → FewMove old.left new.left
 few_left old new (inl goes) = record { few = goes.few; begins = inl goes.less }
-few_left old new (inr begins) = record { few = omega (arith, begins.last); begins = inr begins.last }
+few_left old new (inr begins) = record { few = omega (arith, begins.begins.last); begins = inr begins.begins.last }
 
 pub step_moves : (step : KeyStep) → IsOnKey step → {old new : List ℕ} → FewMoveSomewhere old new → StepMoves step old new
 step_moves (Flush delay) on few = absurd on

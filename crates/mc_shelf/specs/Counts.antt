@@ -75,9 +75,15 @@ pub record Begins (old new : ShelfCounts) : Type 0 where
   pub growing : new.growing ≡ true
   pub left : new.left ≤ old.items
 
--- Of the entries that are left in an old table at most so many have gone, and no growth has begun but one that is due.
+-- A growth has begun. All items but the strays were to move, and of these at most so many have gone.
+pub record BeginsToMove (most : ℕ) (old new : ShelfCounts) : Type 0 where
+  pub begins : Begins old new
+  pub few : old.items ≤ new.left + old.strays + most
+
+-- Of the entries that are left in an old table at most so many have gone, also where a growth has begun; and none has but one that
+-- is due.
 abbrev pub MovesFew : (most : ℕ) → (old new : ShelfCounts) → Type 0
-MovesFew most old new = GoesOn most old new ⊎ Begins old new
+MovesFew most old new = GoesOn most old new ⊎ BeginsToMove most old new
 
 -- A growth that lags goes on: if one runs, and by the load the next one is due, at least 8 of the
 -- entries that are left have gone, or all that were left; the next one may have begun then.
@@ -85,8 +91,8 @@ abbrev pub CatchesUp : (old new : ShelfCounts) → Type 0
 CatchesUp old new =
     old.growing ≡ true → IsLoaded old → (new.left ≤ old.left - 8) ⊎ Begins old new
 
--- 8 entries were moved at most. A growth that was ended so was lagging; if none ran, all counts are
--- as they were.
+-- 8 entries were moved at most, and as many are strays now that weren't. A growth that was ended so was lagging; if none ran, all
+-- counts are as they were.
 pub record CaughtUp (old new : ShelfCounts) : Type 0 where
   pub items : new.items ≡ old.items
   pub goes : GoesOn 8 old new
@@ -94,3 +100,5 @@ pub record CaughtUp (old new : ShelfCounts) : Type 0 where
   pub lags : old.growing ≡ true → IsLoaded old → new.left ≤ old.left - 8
   pub none_left : old.growing ≡ false → old.left ≡ 0
   pub rests : old.growing ≡ false → new ≡ old
+  pub over : new.growing ≡ false → new.left ≡ 0
+  pub strays : new.strays ≤ old.strays + 8
