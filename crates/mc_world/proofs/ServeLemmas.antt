@@ -7,7 +7,7 @@ use Rattle.mc_world.proofs.Words.{Seat, ◌+◌, ◌<◌, length-append, ◌⊎�
 use Rattle.mc_world.proofs.Words.{OnOk, mod-eq_of_lt, lt-ltb, IsAtEnd, Appends-nil, Appends-trans, Consumes-trans, Settings, Exchange, Wrote, Exchanges, HasEnded, Refusal, no_turn, no_piece}
 use Rattle.mc_world.proofs.Words.{FallsShort, ServeFault, fresh, ended, Runs, at_connection, Happens, RunsUntil, named, with_end, GivesUp, next_session, waiting, most_waiting, most_turns, shelf_of}
 use Rattle.mc_world.proofs.Words.{turn_events, IsService, starts, turn, piece, write, scene, IsRefusal, refused_turn, refused_piece, UntilRefused, Served, ServedAll, seat, one_more, Begins, HasServed}
-use Rattle.mc_world.proofs.Words.{Open, Piece, Turn, Clock, Close, Came, longest_piece}
+use Rattle.mc_world.proofs.Words.{Open, Piece, Turn, Clock, Close, Came, longest_piece, EventMoves, EventsMove}
 use Rattle.mc_session.specs.Exchanges as exchanges
 use Rattle.mc_world.proofs.ChainLemmas as chain
 use Rattle.mc_world.proofs.ConnectionLemmas.{StandsIf, stand_out, stand_length}
@@ -211,6 +211,10 @@ module _ {K : Type 0} (hash_of : K → List ℕ → ℕ) where
   abbrev TellsUntil : WorldState K → List Event → Bool → Event → WorldState K → Type 0
   TellsUntil old events decided event new = (plain : PlainWorld) → WorldStandsAs plain old → RunsUntil hash_of old plain events decided event new
 
+  -- what stays over events, and how the growths move on with them
+  abbrev GoesOn : WorldState K → List Event → WorldState K → Type 0
+  GoesOn old events new = (new.settings ≡ old.settings) × (new.hasher ≡ old.hasher) × EventsMove old.left events new.left
+
   -- so it is behind others, with bytes in front, and with a close behind it that does nothing
   module _ (before : List Event) (decided : Bool) (event : Event) where
     until_join : {old mid new : WorldState K} {events : List Event} → Told hash_of old events mid → TellsUntil mid before decided event new → TellsUntil old (events ++ before) decided event new
@@ -238,15 +242,18 @@ module _ {K : Type 0} (hash_of : K → List ℕ → ℕ) where
     abbrev Lost : (turns : ℕ) → List Event → (written lost : List ℕ) → (old new : WorldState K) → Type 0
     Lost turns events written lost old new = (before : List Event) × (event : Event) × (calls : ℕ) × (decided : Bool)
         × IsRefusal hash_of may_give n first events written before event lost calls × (turns + calls ≤ most_turns) × NoneOpens before × (named event ≡ Some n) × TellsUntil old before decided event new
+        × GoesOn old (before ++ event ∷ []) new
 
     lost_of : {turns : ℕ} {read written lost : List ℕ} {old new : WorldState K} {last : Seat} → turns ≤ most_turns → (served : HasServed hash_of may_give n first turns read written old)
         → Refusal (in_world hash_of) may_give turns (seat n turns) old last new lost → Lost turns served.events written lost old new
     lost_of {old = old} {new = new} few served (no_turn now fewer small gives (refused, told)) = let tells : TellsUntil old (Clock now ∷ []) refused.decided (Turn n) new =
         λ plain stands. let moved : PlainWorld = record plain { now = now } in (moved, (moved, refl, refl), (until_only told).told moved (moment_stands {old = old} now stands)) in
-        let refusal = refused_turn now gives (record { world = old; told = served.told; room = small }) in (Clock now ∷ [], Turn n, 1, refused.decided, refusal, omega (arith, fewer), tt, refl, tells)
+        let goes : GoesOn old (Clock now ∷ Turn n ∷ []) new = (told.settings, told.hasher, (old.left, refl, chain.alone EventMoves (Turn n) old.left new.left (until_only told).moves)) in
+        let refusal = refused_turn now gives (record { world = old; told = served.told; room = small }) in (Clock now ∷ [], Turn n, 1, refused.decided, refusal, omega (arith, fewer), tt, refl, tells, goes)
     lost_of {old = old} {new = new} few served (no_piece bytes some short idle (refused, told)) =
         let tells : TellsUntil old [] refused.decided (Piece n bytes) new = λ plain stands. (plain, refl, (until_only told).told plain stands) in
-        let refusal = refused_piece bytes some short (record { world = old; told = served.told; idle = idle }) in ([], Piece n bytes, 0, refused.decided, refusal, omega (arith, few), tt, refl, tells)
+        let goes : GoesOn old (Piece n bytes ∷ []) new = (told.settings, told.hasher, chain.alone EventMoves (Piece n bytes) old.left new.left (until_only told).moves) in
+        let refusal = refused_piece bytes some short (record { world = old; told = served.told; idle = idle }) in ([], Piece n bytes, 0, refused.decided, refusal, omega (arith, few), tt, refl, tells, goes)
 
 -- A whole run: the worlds before it, after the opening, after the rounds and after the close, and the seat after the rounds.
 pub record Ran {K : Type 0} (hash_of : K → List ℕ → ℕ) (may_give : ℕ → Type 0) (w0 w2 w3 : WorldState K) (s : Seat) (r0 r1 o0 o1 : Option (List ℕ)) : Type 0 where
@@ -268,7 +275,7 @@ module _ {K : Type 0} {hash_of : K → List ℕ → ℕ} {may_give : ℕ → Typ
       → FallsShort (in_world hash_of) may_give (exchanges.scene (seat n 0) w1 r0 o0) (exchanges.scene s w2 r1 o1) → UntilRefused hash_of may_give (next_session w0) w0 r0 o0 (scene w3 r1 o1)
   ran_short {w1 = w1} begins closes run = let (begun, closed, short) = subst (λ (n : ℕ). Begins hash_of n w0 w1 × Told hash_of w2 (Close n ∷ []) w3
       × FallsShort (in_world hash_of) may_give (exchanges.scene (seat n 0) w1 r0 o0) (exchanges.scene s w2 r1 o1)) begins.number (begins, closes, run) in let ran = short.exchanges in
-      let n = next_session w0 in let (is, served) = served_by ran.exchange ran.few (served_nothing begun) in let (before, event, calls, decided, refusal, few, none, names, tells) =
+      let n = next_session w0 in let (is, served) = served_by ran.exchange ran.few (served_nothing begun) in let (before, event, calls, decided, refusal, few, none, names, tells, goes) =
       lost_of hash_of may_give n w0 ran.few served (subst (λ (t : Seat). Refusal (in_world hash_of) may_give ran.turns t short.between s w2 short.lost) is short.refusal) in record {
         events = served.events;
         read = ran.read;
@@ -284,6 +291,10 @@ module _ {K : Type 0} {hash_of : K → List ℕ → ℕ} {may_give : ℕ → Typ
         few = few;
         consumes = Consumes-trans r0 short.reader r1 ran.read short.lost ran.consumes short.consumes;
         appends = ran.appends;
+        settings = closed.settings ∙ goes.0 ∙ served.told.settings;
+        hasher = closed.hasher ∙ goes.1 ∙ served.told.hasher;
+        moves = subst (EventsMove w0.left (served.events ++ (before ++ event ∷ []))) (sym (chain.one EventMoves (Close n) w2.left w3.left closed.moves))
+            (chain.join EventMoves served.events (before ++ event ∷ []) w0.left short.between.left w2.left served.told.moves goes.2);
         told = until_closed hash_of w0 (served.events ++ before) decided event n names (told_written n ran.written tt closed)
             (until_join hash_of before decided event served.told (until_written hash_of before decided event short.between w2 n ran.written none tells));
       }

@@ -3,7 +3,7 @@ use Rattle.std.specs.Prelude.{◌≡◌, ◌⊎◌, ℕ, ◌+◌, ◌%◌, ◌^�
 use Rattle.std.specs.Io.KnownBytes.{Appends, Consumes, IsAtEnd}
 use Rattle.mc_session.specs.Exchanges.{longest_piece, most_waiting}
 use Rattle.mc_world.specs.Connections.{Connection}
-use Rattle.mc_world.specs.Worlds.{PlainWorld, WorldState, numbered, changed, output_of, IsIdle, IsClosed, WorldStandsAs, Told, RunsUntil}
+use Rattle.mc_world.specs.Worlds.{PlainWorld, WorldState, numbered, changed, output_of, IsIdle, IsClosed, WorldStandsAs, EventsMove, Told, RunsUntil}
 use Rattle.mc_world.specs.declared.event.Event.{Event}
 use Rattle.mc_world.specs.declared.event.Event.TheVariants.{Open, Piece, Turn, Clock, Grow, Close}
 
@@ -103,7 +103,8 @@ module _ {K : Type 0} (hash_of : K → List ℕ → ℕ) (may_give : ℕ → Typ
 
   -- A session was served until memory was refused: what came before the refused event, and that
   -- event, which takes memory. If it is a turn, the store took its step without its text, or
-  -- nothing was done; and the session is closed.
+  -- nothing was done; and the session is closed. The store's settings are unchanged, and its
+  -- growths move on as these events have it.
   pub record UntilRefused (old_reader old_writer : Option (List ℕ)) (new : WorldScene K) : Type 0 where
     pub events : List Event
     pub read : List ℕ
@@ -119,6 +120,9 @@ module _ {K : Type 0} (hash_of : K → List ℕ → ℕ) (may_give : ℕ → Typ
     pub few : turns + calls ≤ most_turns
     pub consumes : Consumes old_reader new.reader (read ++ brings)
     pub appends : Appends old_writer new.writer written
+    pub settings : new.world.settings ≡ old.settings
+    pub hasher : new.world.hasher ≡ old.hasher
+    pub moves : EventsMove old.left (events ++ (before ++ event ∷ [])) new.world.left
     pub told : (first : PlainWorld) → WorldStandsAs first old
         → RunsUntil hash_of old first (events ++ before) decided event
         (with_written n written new.world)
