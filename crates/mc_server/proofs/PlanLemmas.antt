@@ -1,11 +1,34 @@
--- The plans of one worker more.
-use Rattle.std.proofs.Common.{List, [], ◌∷◌, ◌++◌}
+-- The plans of one worker more, and what all workers hold together.
+use Rattle.std.proofs.Common.{◌≡◌, ◌≤◌, ◌*◌, ◌/◌, max, ℕ, List, [], ◌∷◌, ◌++◌, length, arith, subst}
+use Rattle.std.proofs.Math.Nat.{le-max_left, le_trans, mul-div-le, mul-le-mul_right}
 use Rattle.std.specs.List.{All}
-use Rattle.std.proofs.lemmas.List.Elements.{All-push}
+use Rattle.std.proofs.lemmas.List.Elements.{All-cons, All-head, All-nil, All-push, All-tail}
+use Rattle.std.proofs.lemmas.List.Sums.{sum_by-le}
 use Rattle.mc_options.specs.declared.options.Options.{Options}
 use Rattle.mc_server.specs.declared.plan.WorkerPlan.{WorkerPlan}
-use Rattle.mc_server.specs.Plans.{IsWorkerOf}
+use Rattle.mc_server.specs.Plans.{IsWorkerOf, held_of, held_together}
 
 pub one_more : (options : Options) (plans : List WorkerPlan) (plan : WorkerPlan) → All (IsWorkerOf options) plans
     → IsWorkerOf options plan → All (IsWorkerOf options) (plans ++ plan ∷ [])
 one_more options plans plan = All-push (IsWorkerOf options) plans plan
+
+-- each holds its part at most
+parts : (options : Options) (plans : List WorkerPlan) → All (IsWorkerOf options) plans → All (λ (plan : WorkerPlan). plan.held ≤ held_of options) plans
+parts options [] all = All-nil (λ (plan : WorkerPlan). plan.held ≤ held_of options)
+parts options (plan ∷ plans) all =
+    let first = (All-head (IsWorkerOf options) plan plans all).held in
+    All-cons (λ (plan : WorkerPlan). plan.held ≤ held_of options) plan plans (omega (arith, first)) (parts options plans (All-tail (IsWorkerOf options) plan plans all))
+
+-- the parts of a whole
+parts_fit : (whole count : ℕ) → count * (whole / max count 1) ≤ whole
+parts_fit whole count = le_trans (mul-le-mul_right (whole / max count 1) (le-max_left count 1)) (mul-div-le whole (max count 1))
+
+seven_eighths : (bytes : ℕ) → ((bytes / 8) * 7) ≤ bytes
+seven_eighths bytes = omega arith
+
+-- all hold the limit of buffers at most
+pub all_fit : (options : Options) (plans : List WorkerPlan) → length plans ≡ options.workers → All (IsWorkerOf options) plans → held_together plans ≤ options.buffers * 1048576
+all_fit options plans count each =
+    let parts = sum_by-le (λ (plan : WorkerPlan). plan.held) (held_of options) plans (parts options plans each) in
+    le_trans (subst (λ (n : ℕ). held_together plans ≤ n * held_of options) count parts)
+    (le_trans (parts_fit (((options.buffers * 1048576) / 8) * 7) options.workers) (seven_eighths (options.buffers * 1048576)))

@@ -1,5 +1,5 @@
 -- What a server is to serve with, by its options, before its first thread starts.
-use Rattle.std.specs.Prelude.{◌≡◌, ℕ, ◌*◌, ◌/◌, max, List, length, All, Option, Some, None}
+use Rattle.std.specs.Prelude.{◌≡◌, ◌≤◌, ℕ, ◌*◌, ◌/◌, max, List, length, sum_by, All, Option, Some, None}
 use Rattle.std.specs.Arc.{arc_value}
 use Rattle.mc_options.specs.declared.options.Options.{Options}
 use Rattle.mc_sockets.specs.Crowds.{most_of}
@@ -14,15 +14,21 @@ use Rattle.mc_server.specs.declared.plan.WorkerPlan.{WorkerPlan}
 abbrev pub held_of : Options → ℕ
 held_of options = ((((options.buffers * 1048576) / 8) * 7) / (max options.workers 1))
 
--- a worker has the idle timeout of the options, and its part of the limit of buffers
+-- a worker has the moment of a clock that stands and the idle timeout of the options, and its part of the limit of buffers
 pub record IsWorkerOf (options : Options) (plan : WorkerPlan) : Type 0 where
+  pub now : plan.now ≡ options.now
   pub idle_timeout : plan.idle_timeout ≡ options.idle_timeout
   pub held : plan.held ≡ held_of options
 
--- as many workers as the options ask for, each by the options
+-- how many bytes the connections of these workers may hold together
+abbrev pub held_together : List WorkerPlan → ℕ
+held_together plans = sum_by (λ plan. plan.held) plans
+
+-- as many workers as the options ask for, each by the options; together they hold at most the limit of buffers
 pub record ArePlansOf (options : Options) (plans : List WorkerPlan) : Type 0 where
   pub count : length plans ≡ options.workers
   pub each : All (IsWorkerOf options) plans
+  pub together : held_together plans ≤ options.buffers * 1048576
 
 -- one thread accepts at the first listener, and counts connections in this crowd: the program's own, or another while that
 -- one answers scrapes

@@ -11,7 +11,7 @@ use crate::client::StoreClient;
 use crate::plan::{Bound, make_plan};
 use crate::threads::serve;
 use mc_hop::Fnv;
-use mc_host::{AskedClock, Diagnostics, End, Level, Refusal, Wanting, bind_needed, open_door};
+use mc_host::{Diagnostics, End, Level, Refusal, Wanting, bind_needed, open_door};
 use mc_options::Options;
 use mc_session::ServeFault;
 use mc_shared::{Caller, Shared};
@@ -29,18 +29,12 @@ const LARGE: usize = 5_242_880;
 
 /// Listens at the options' endpoints, and serves until a listener fails or it is asked to end.
 ///
-/// It uses the clock of the options, and answers scrapes if that is an option. It ends at once if
-/// it can't listen at an endpoint, or memory is refused.
-pub fn listen<R, S>(
-    rt: &R,
-    diagnostics: Diagnostics,
-    options: Options,
-    clock: &AskedClock<S>,
-) -> End
+/// Its workers' clocks stand at the options' moment, or are the system's clock. It answers scrapes
+/// if that is an option. It ends at once if it can't listen at an endpoint, or memory is refused.
+pub fn listen<R, S>(rt: &R, diagnostics: Diagnostics, options: Options, system: &S) -> End
 where
     R: Net + Files + AllocGlobal + Wait + Threads + time::Clock + Sync,
     S: Clock + Sync,
-    requires { clock.now.asked ≡ options.now }
     ensures { EndsListening options.endpoints options.scrapes options.may_quit result }
 {
     let door = match open_door(rt, rt.alloc(), options.scrapes) {
@@ -55,7 +49,7 @@ where
         tell_covered(diagnostics);
     }
     let endpoint = options.endpoints.first;
-    match begin(rt, diagnostics, &options, Bound { listeners, door }, clock) {
+    match begin(rt, diagnostics, &options, Bound { listeners, door }, system) {
         Ok(true) if options.may_quit => End::Stopped,
         Ok(_) => End::Served(Err(ServeFault::Read)),
         Err(Wanting::Descriptor(why)) => End::CannotListen(Refusal { endpoint, why }),
@@ -75,21 +69,21 @@ fn tell_covered(diagnostics: Diagnostics) {
 }
 
 /// Makes the store and serves. Returns whether the server was asked to end, or what was wanting.
-fn begin<R, C>(
+fn begin<R, S>(
     rt: &R,
     diagnostics: Diagnostics,
     options: &Options,
     bound: Bound,
-    clock: &C,
+    system: &S,
 ) -> Result<bool, Wanting>
 where
     R: Net + Files + AllocGlobal + Wait + Threads + time::Clock + Sync,
-    C: Clock + Sync,
+    S: Clock + Sync,
 {
     keep_memory(rt.alloc(), diagnostics.stderr);
     let (shared, caller) = make_store(rt.alloc(), options)?;
     let client = StoreClient::new(&shared, caller);
-    serve_over(rt, diagnostics, options, bound, client, clock)
+    serve_over(rt, diagnostics, options, bound, client, system)
 }
 
 /// Makes the store that the options ask for, and its first caller. It is empty.
@@ -106,21 +100,21 @@ fn make_store(alloc: Global, options: &Options) -> Result<(Shared<Fnv>, Caller),
 
 /// Serves over a store that the options ask for. Returns whether the server was asked to end, or
 /// what was wanting.
-fn serve_over<R, C>(
+fn serve_over<R, S>(
     rt: &R,
     diagnostics: Diagnostics,
     options: &Options,
     bound: Bound,
     client: StoreClient<'_>,
-    clock: &C,
+    system: &S,
 ) -> Result<bool, Wanting>
 where
     R: Net + Files + AllocGlobal + Wait + Threads + time::Clock + Sync,
-    C: Clock + Sync,
+    S: Clock + Sync,
     requires { client ≡ options.now.settings }
 {
     let (plan, common) = make_plan(rt, diagnostics, options, bound)?;
-    match serve(rt, plan, client, &common, clock) {
+    match serve(rt, plan, client, &common, system) {
         Ok(()) => Ok(common.arrivals.is_over_as_asked()),
         Err(wanting) => Err(wanting),
     }

@@ -12,9 +12,9 @@
 //! (`client.rt`).
 //!
 //! A socket's bytes and the scheduling of threads are unspecified, so contracts cover the rest:
-//! that `run` does what the options require, and with `--stdin` serves a session of a new world;
-//! and that the status is that of the end. The rest is tested over sockets (tests/sockets);
-//! docs/GAPS.md lists what isn't proved.
+//! that a server is planned by its options, and ends only as they let it; that `--stdin` serves a
+//! session of a new world; and that the status is that of the end. The rest is tested over sockets
+//! (tests/sockets); docs/GAPS.md lists what isn't proved.
 //!
 //! Begin with `running.rt`, `serving.rt` and `listening.rt`.
 //!
@@ -26,6 +26,7 @@ ghost use Rattle.std.specs.Process.{exit_status};
 ghost use Rattle.mc_host.specs.Ends.{status_of};
 
 mod client;
+mod clock;
 mod listening;
 mod plan;
 mod running;

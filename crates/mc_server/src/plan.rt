@@ -15,6 +15,7 @@ use mc_metrics::Counts;
 use mc_options::Options;
 use mc_sockets::{Arrivals, Crowd, EVENTS, Inbox, Log, Share, WAKER};
 use mc_telemetry::{MetricsServer, Notice, Observer, Outlet, process_start};
+use mc_time::Moment;
 use mio::{Events, Poll, Waker};
 use std::alloc::{AllocError, AllocGlobal, Global};
 use std::fs::Files;
@@ -77,6 +78,8 @@ pub struct WorkerPlan {
     pub share: Share,
     pub poll: Poll,
     pub events: Events,
+    /// The moment of its clock, if that stands.
+    pub now: Option<Moment>,
     /// The idle timeout of its connections, in seconds; with 0 there is none.
     pub idle_timeout: u32,
     /// The shelf that it tidies first.
@@ -280,6 +283,7 @@ impl WorkerPlan {
             share: Share::new(worker),
             poll,
             events,
+            now: options.now,
             idle_timeout: options.idle_timeout,
             first: first_shelf(options, worker),
             held: held_of(options),

@@ -20,8 +20,8 @@ use std::time;
 /// Runs the program by its options.
 ///
 /// With `--stdin` it serves one session over the reader and the writer, by the options' clock.
-/// Without, it listens at the endpoints by that clock, answers scrapes if that is an option, and
-/// ends if it is asked to and may be; it neither reads nor writes here.
+/// Without, it listens at the endpoints, answers scrapes if that is an option, and ends if it is
+/// asked to and may be; it neither reads nor writes here.
 pub fn run<H, R, W>(
     rt: &H,
     diagnostics: Diagnostics,
@@ -42,13 +42,14 @@ where
     ensures reads_nothing { options.stdin ≡ false → reader.new ≡ reader.old }
     ensures writes_nothing { options.stdin ≡ false → writer.new ≡ writer.old }
 {
-    let clock = AskedClock {
-        asked: options.now,
-        system: SteadyClock::new(rt),
-    };
+    let system = SteadyClock::new(rt);
     if options.stdin {
+        let clock = AskedClock {
+            asked: options.now,
+            system,
+        };
         serve(rt.alloc(), options.settings, reader, writer, &clock)
     } else {
-        listen(rt, diagnostics, options, &clock)
+        listen(rt, diagnostics, options, &system)
     }
 }

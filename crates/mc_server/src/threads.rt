@@ -7,8 +7,9 @@
 //! server ends, and those that run end with it.
 
 use crate::client::StoreClient;
+use crate::clock::SharedClock;
 use crate::plan::{Common, Entrance, OwnTask, ServerPlan, ThreadPlan, WorkerPlan};
-use mc_host::Wanting;
+use mc_host::{AskedClock, Wanting};
 use mc_sockets::{ClosingLinks, Crowd, Refusals, SocketLinks, accept_all, accept_beside};
 use mc_telemetry::{MetricsServer, Notice, Outlet, WorkerTally, write_lines};
 use mc_time::Clock;
@@ -25,16 +26,16 @@ const LOGGER: &str = "logger";
 
 /// Serves connections until no more are accepted. Returns what was wanting if a thread couldn't be
 /// started.
-pub fn serve<R, C>(
+pub fn serve<R, S>(
     rt: &R,
     plan: ServerPlan<'_>,
     client: StoreClient<'_>,
     common: &Common,
-    clock: &C,
+    system: &S,
 ) -> Result<(), Wanting>
 where
     R: Files + AllocGlobal + Wait + Threads + time::Clock + Sync,
-    C: Clock + Sync,
+    S: Clock + Sync,
 {
     thread::scope(
         thread::scope_env(),
@@ -43,7 +44,7 @@ where
             let ServerPlan { own, threads } = plan;
             let mut client = client;
             let stats = client.another();
-            let started = start_all(scope, rt, threads, client, common, clock);
+            let started = start_all(scope, rt, threads, client, common, system);
             if started.is_err() {
                 common.arrivals.end();
                 return started;
@@ -71,17 +72,17 @@ fn run_own<R: Files + AllocGlobal + Wait + time::Clock>(
 }
 
 /// Starts all threads but the program's own.
-fn start_all<'s, 'a: 's, 'b: 's, 'c: 's, 'd: 's, 'e: 's, E, R, C>(
+fn start_all<'s, 'a: 's, 'b: 's, 'c: 's, 'd: 's, 'e: 's, E, R, S>(
     scope: &Scope<'s, E>,
     rt: &'a R,
     plan: ThreadPlan<'b>,
     client: StoreClient<'c>,
     common: &'d Common,
-    clock: &'e C,
+    system: &'e S,
 ) -> Result<(), Wanting>
 where
     R: AllocGlobal + Wait + Threads + time::Clock + Sync,
-    C: Clock + Sync,
+    S: Clock + Sync,
 {
     let ThreadPlan {
         workers,
@@ -92,30 +93,30 @@ where
         outlet,
     } = plan;
     let mut client = client;
-    start_workers(scope, rt, workers, &mut client, common, clock)?;
+    start_workers(scope, rt, workers, &mut client, common, system)?;
     start_first(scope, rt, first, common)?;
     start_acceptors(scope, rt, listeners, &crowd, common)?;
     start_logger(scope, rt, notice, outlet, client, common)
 }
 
 /// Starts a thread for each worker.
-fn start_workers<'s, 'a: 's, 'c: 's, 'd: 's, 'e: 's, E, R, C>(
+fn start_workers<'s, 'a: 's, 'c: 's, 'd: 's, 'e: 's, E, R, S>(
     scope: &Scope<'s, E>,
     rt: &'a R,
     plans: Vec<WorkerPlan>,
     client: &mut StoreClient<'c>,
     common: &'d Common,
-    clock: &'e C,
+    system: &'e S,
 ) -> Result<(), Wanting>
 where
     R: AllocGlobal + Wait + Threads + time::Clock + Sync,
-    C: Clock + Sync,
+    S: Clock + Sync,
 {
     for plan in plans {
         let client = client.another();
         common.log.enter();
         let working = move || {
-            run_worker(rt, plan, client, common, clock);
+            run_worker(rt, plan, client, common, system);
             common.log.leave();
         };
         start(scope, Builder::new(), working)?;
@@ -201,17 +202,18 @@ fn start<'s, E, F: FnOnce() + Send + Drop + 's>(
 }
 
 /// Serves the connections of a worker until no more come.
-fn run_worker<R: AllocGlobal + Wait + time::Clock, C: Clock>(
+fn run_worker<R: AllocGlobal + Wait + time::Clock, S: Clock>(
     rt: &R,
     plan: WorkerPlan,
     client: StoreClient<'_>,
     common: &Common,
-    clock: &C,
+    system: &S,
 ) {
     let WorkerPlan {
         share,
         poll,
         events,
+        now,
         idle_timeout,
         first,
         held,
@@ -228,10 +230,14 @@ fn run_worker<R: AllocGlobal + Wait + time::Clock, C: Clock>(
         counts: &counts,
         refusals: Refusals::new(&common.log),
     };
+    let clock = AskedClock {
+        asked: now,
+        system: SharedClock(system),
+    };
     let worker = Worker {
         gate: &NoGate,
         tally: &tally,
-        clock,
+        clock: &clock,
         first,
         share: held,
     };

@@ -9,7 +9,7 @@ use Rattle.mc_server.proofs.threads.start_workers.Goals as goal
 pub start-requires-send-F : goal.start-requires-send-F
 start-requires-send-F g c κs within =
     let runtime : IsSync g.row.R = search (rules, c.requires) parts 8 in
-    let clock : IsSync g.row.C = search (rules, c.requires) parts 8 in
+    let clock : IsSync g.row.S = search (rules, c.requires) parts 8 in
     let runtime_lent = lent (param 1 g.row.R) (param_sync 1 g.row.R runtime) in
-    let clock_lent = lent (param 2 g.row.C) (param_sync 2 g.row.C clock) in
+    let clock_lent = lent (param 2 g.row.S) (param_sync 2 g.row.S clock) in
     search (tuple_send, runtime_lent, clock_lent, client_send, common_lent, plan.the_send, sendable) depth 60 fits 20000
