@@ -9,6 +9,7 @@ use mc_rows::{Ask, ask_step, filled_block, step_of};
 use mc_time::Moment;
 use std::alloc::{AllocError, Global};
 use std::cell::Cell;
+use std::process::Abort;
 use std::test::*;
 
 /// The greatest charge that a line may announce.
@@ -275,12 +276,23 @@ fn asked_beside(alloc: Global, have_left: bool) -> Result<(u64, usize), AllocErr
     let goes_on = Cell::new(false);
     let is_over = Cell::new(false);
     let mut hall = hall_of(alloc, Counting::new(alloc, false)?, 1_000_000);
-    let_two_in(alloc, &mut hall, &is_over)?;
+    asked_beside_two(alloc, &mut hall, have_left, &is_over, &goes_on)
+}
+
+/// Returns the same in a hall without guests. `is_over` is of the two guests.
+fn asked_beside_two<'a>(
+    alloc: Global,
+    hall: &mut Hall<'a>,
+    have_left: bool,
+    is_over: &'a Cell<bool>,
+    goes_on: &'a Cell<bool>,
+) -> Result<(u64, usize), AllocError> {
+    let_two_in(alloc, hall, is_over)?;
     if have_left {
-        let_go(alloc, &mut hall, 1, &is_over);
-        let_go(alloc, &mut hall, 2, &is_over);
+        let_go(alloc, hall, 1, is_over);
+        let_go(alloc, hall, 2, is_over);
     }
-    asked_in(alloc, &mut hall, &goes_on)
+    asked_in(alloc, hall, goes_on)
 }
 
 /// Admits two guests that want 600000 and 400000 bytes, and returns how many wait.
@@ -323,9 +335,20 @@ fn waits_for_another(alloc: Global, input: &[u8], length: usize) -> Result<(usiz
     let goes_on = Cell::new(false);
     let is_over = Cell::new(false);
     let mut hall = hall_of(alloc, store_with(alloc, length)?, 1_048_576);
-    let_in(alloc, &mut hall, 0, OF_1200000, &is_over)?;
-    let before = let_in(alloc, &mut hall, 1, input, &goes_on)?;
-    let after = let_go(alloc, &mut hall, 0, &is_over);
+    Ok(waits_in(alloc, &mut hall, input, &is_over, &goes_on)?)
+}
+
+/// Returns the same in a hall without guests. `is_over` is of the other.
+fn waits_in<'a>(
+    alloc: Global,
+    hall: &mut Hall<'a>,
+    input: &'a [u8],
+    is_over: &'a Cell<bool>,
+    goes_on: &'a Cell<bool>,
+) -> Result<(usize, usize), AllocError> {
+    let_in(alloc, hall, 0, OF_1200000, is_over)?;
+    let before = let_in(alloc, hall, 1, input, goes_on)?;
+    let after = let_go(alloc, hall, 0, is_over);
     Ok((before, after))
 }
 
@@ -358,11 +381,22 @@ fn waits_for_an_idle_one(
     let goes_on = Cell::new(false);
     let is_over = Cell::new(false);
     let mut hall = hall_of(alloc, store_with(alloc, length)?, share);
-    let_in(alloc, &mut hall, 0, b"get a\r\n", &is_over)?;
+    Ok(waits_beside(alloc, &mut hall, has_left, &is_over, &goes_on)?)
+}
+
+/// Returns the same in a hall without guests. `is_over` is of the one that gets the block.
+fn waits_beside<'a>(
+    alloc: Global,
+    hall: &mut Hall<'a>,
+    has_left: bool,
+    is_over: &'a Cell<bool>,
+    goes_on: &'a Cell<bool>,
+) -> Result<usize, AllocError> {
+    let_in(alloc, hall, 0, b"get a\r\n", is_over)?;
     if has_left {
-        let_go(alloc, &mut hall, 0, &is_over);
+        let_go(alloc, hall, 0, is_over);
     }
-    Ok(let_two_in(alloc, &mut hall, &goes_on)?)
+    let_two_in(alloc, hall, goes_on)
 }
 
 /// It is counted for none, also when it has left.
@@ -389,20 +423,33 @@ fn an_idle_guest_counts_for_nothing(rt: HostRuntime) -> Result<(), Fail> {
 fn waits_for_lines(alloc: Global, lines: u64) -> Result<usize, AllocError> {
     let goes_on = Cell::new(false);
     let mut hall = hall_of(alloc, Counting::new(alloc, false)?, 1_000_000);
+    if !let_lines_in(alloc, &mut hall, lines, &goes_on) {
+        return Err(AllocError);
+    }
+    let_in(alloc, &mut hall, u64::MAX, OF_400000, &goes_on)
+}
+
+/// Admits guests that announce 9,000,000 bytes and send none. Returns whether there was memory.
+fn let_lines_in<'a>(
+    alloc: Global,
+    hall: &mut Hall<'a>,
+    lines: u64,
+    goes_on: &'a Cell<bool>,
+) -> bool {
     for number in 0..lines {
         let line = Quick {
             input: OF_9000000,
             more: 0,
-            is_over: &goes_on,
+            is_over: goes_on,
             is_ended: false,
             was_read: false,
             requested: 0,
         };
         if !hall.guests.welcome(alloc, line, GREATEST, number) {
-            return Err(AllocError);
+            return false;
         }
     }
-    let_in(alloc, &mut hall, u64::MAX, OF_400000, &goes_on)
+    true
 }
 
 #[test]
@@ -436,6 +483,26 @@ impl Holdings {
     }
 }
 
+/// Checks the reports of guests in a hall without any. All of them end with `is_over`.
+fn reports_are_right<'a>(
+    rt: &impl Abort,
+    alloc: Global,
+    hall: &mut Hall<'a>,
+    holdings: &Holdings,
+    is_over: &'a Cell<bool>,
+) -> Result<(), AllocError> {
+    assert!(rt; holdings.of(hall) == ((0, 0), 0));
+    let_in(alloc, hall, 0, OF_600000, is_over)?;
+    assert!(rt; holdings.of(hall) == ((600_000, 0), 1));
+    let_in(alloc, hall, 1, OF_400001, is_over)?;
+    let ((held, waiting), reports) = holdings.of(hall);
+    assert!(rt; held >= 600_000 && waiting == 1 && reports == 2);
+    let_go(alloc, hall, 0, is_over);
+    let_go(alloc, hall, 1, is_over);
+    assert!(rt; holdings.of(hall) == ((0, 0), 3));
+    Ok(())
+}
+
 /// A guest holds 600000 bytes of 1000000, one waits that wants 400001, and then both have left.
 #[test]
 fn what_guests_hold_is_reported_once(rt: HostRuntime) -> Result<(), Fail> {
@@ -445,16 +512,7 @@ fn what_guests_hold_is_reported_once(rt: HostRuntime) -> Result<(), Fail> {
         reports: Cell::new(0),
     };
     let mut hall = hall_of(rt.alloc(), Counting::new(rt.alloc(), false)?, 1_000_000);
-    assert!(rt; holdings.of(&mut hall) == ((0, 0), 0));
-    let_in(rt.alloc(), &mut hall, 0, OF_600000, &is_over)?;
-    assert!(rt; holdings.of(&mut hall) == ((600_000, 0), 1));
-    let_in(rt.alloc(), &mut hall, 1, OF_400001, &is_over)?;
-    let ((held, waiting), reports) = holdings.of(&mut hall);
-    assert!(rt; held >= 600_000 && waiting == 1 && reports == 2);
-    let_go(rt.alloc(), &mut hall, 0, &is_over);
-    let_go(rt.alloc(), &mut hall, 1, &is_over);
-    assert!(rt; holdings.of(&mut hall) == ((0, 0), 3));
-    Ok(())
+    Ok(reports_are_right(&rt, rt.alloc(), &mut hall, &holdings, &is_over)?)
 }
 
 /// Returns how many requests of this input are reported as too large, beside an item `a` of 1000000
@@ -466,13 +524,24 @@ fn too_large_in(alloc: Global, input: &[u8]) -> Result<u64, Fail> {
     Ok(hall.store.too_large.get())
 }
 
+/// Returns a line that appends 60000 bytes to `a`, and these.
+fn join_of_60000(alloc: Global) -> Result<Vec<u8>, AllocError> {
+    let mut joined = vec![in alloc; b'x'; 60_022]?;
+    joined[..20].copy_from_slice(b"append a 0 0 60000\r\n");
+    joined[60_020..].copy_from_slice(b"\r\n");
+    Ok(joined)
+}
+
+/// Returns how many requests are reported as too large if `a` would have 1060000 bytes.
+fn too_large_in_join(alloc: Global) -> Result<u64, Fail> {
+    let joined = join_of_60000(alloc)?;
+    too_large_in(alloc, joined.as_slice())
+}
+
 /// The store's greatest charge is 1048576 bytes.
 #[test]
 fn requests_that_are_too_large_are_reported(rt: HostRuntime) -> Result<(), Fail> {
-    let mut joined = vec![in rt.alloc(); b'x'; 60_022]?;
-    joined[..20].copy_from_slice(b"append a 0 0 60000\r\n");
-    joined[60_020..].copy_from_slice(b"\r\n");
-    assert_eq!(rt; too_large_in(rt.alloc(), joined.as_slice())?, 1);
+    assert_eq!(rt; too_large_in_join(rt.alloc())?, 1);
     assert_eq!(rt; too_large_in(rt.alloc(), b"set b 0 0 16777216\r\n")?, 1);
     assert_eq!(rt;
         too_large_in(rt.alloc(), b"get a b\r\nset b 0 0 1\r\nx\r\nfoo\r\n")?,

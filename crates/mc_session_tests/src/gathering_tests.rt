@@ -165,17 +165,22 @@ fn goes_through(alloc: Global, width: usize, fails_at: u64) -> Result<bool, Allo
         calls: Calls::failing_at(fails_at),
     };
     let mut gathering = Gathering::new(alloc, link);
+    Ok(takes_each_byte_once(&mut gathering, text.as_slice()))
+}
+
+/// The same for the texts of this one, through a link that gathered nothing.
+fn takes_each_byte_once(gathering: &mut Gathering<Narrow>, text: &[u8]) -> bool {
     let mut faults = 0u64;
     let mut at = 0usize;
     let mut is_taken = true;
     for length in LENGTHS {
-        let part = part_of(text.as_slice(), at, length);
-        is_taken = is_taken && write_all(&mut gathering, part, &mut faults);
+        let part = part_of(text, at, length);
+        is_taken = is_taken && write_all(gathering, part, &mut faults);
         at = at.saturating_add(length);
     }
-    let is_over = is_taken && read_end(&mut gathering, &mut faults);
-    let is_same = gathering.link().taken.as_slice() == text.as_slice();
-    Ok(is_over && is_same && faults == gathering.faults())
+    let is_over = is_taken && read_end(gathering, &mut faults);
+    let is_same = gathering.link().taken.as_slice() == text;
+    is_over && is_same && faults == gathering.faults()
 }
 
 /// How many bytes the link below takes at once, and which of its calls fails.

@@ -199,12 +199,31 @@ fn sessions_are_answered_from_parts_as_from_replies(rt: HostRuntime) -> Result<(
 /// is decided, and the store answers another session as before.
 fn hit_is_told(rt: &impl Abort, alloc: Global, telling: Telling) -> Result<(), TurnFault> {
     let mut store = new_store(alloc, Telling::Whole)?;
-    is_told(rt, alloc, &mut store, "set a 5 0 2\r\n12\r\n", "STORED\r\n")?;
     let mut session = Session::new(alloc, GREATEST);
-    take_turns(rt, alloc, &mut session, &mut store, "foo\r\n")?;
+    hit_is_told_in(rt, alloc, &mut session, &mut store, telling)
+}
+
+/// The same in a session that was fed nothing, over an empty store.
+fn hit_is_told_in(
+    rt: &impl Abort,
+    alloc: Global,
+    session: &mut Session,
+    store: &mut Lending,
+    telling: Telling,
+) -> Result<(), TurnFault> {
+    is_told(rt, alloc, store, "set a 5 0 2\r\n12\r\n", "STORED\r\n")?;
+    take_turns(rt, alloc, session, store, "foo\r\n")?;
     store.telling = telling;
-    let told = take_turns(rt, alloc, &mut session, &mut store, "get a\r\n");
+    let told = take_turns(rt, alloc, session, store, "get a\r\n");
     assert!(rt; told.is_err() || telling != Telling::Refused);
+    has_text_of_hit(rt, session, &told);
+    store.telling = Telling::Whole;
+    let text = "VALUE a 5 2\r\n12\r\nEND\r\n";
+    is_told(rt, alloc, store, "get a\r\n", text)
+}
+
+/// The text of a hit stands behind that of the turn before; if it is refused, that stands alone.
+fn has_text_of_hit(rt: &impl Abort, session: &Session, told: &Result<(), TurnFault>) {
     match told {
         Ok(()) => {
             let text = b"ERROR\r\nVALUE a 5 2\r\n12\r\nEND\r\n".as_slice();
@@ -215,9 +234,6 @@ fn hit_is_told(rt: &impl Abort, alloc: Global, telling: Telling) -> Result<(), T
             assert_eq!(rt; session.out(), b"ERROR\r\n".as_slice());
         }
     }
-    store.telling = Telling::Whole;
-    let text = "VALUE a 5 2\r\n12\r\nEND\r\n";
-    is_told(rt, alloc, &mut store, "get a\r\n", text)
 }
 
 #[test]
@@ -246,11 +262,21 @@ fn parts_are_one_text(rt: &impl Abort, alloc: Global) -> Result<(), TurnFault> {
         store: PlainStore::starting(alloc, 64, 1_048_576, 7)?,
         telling: Telling::Again,
     };
-    let set = "set a 5 0 5\r\n12\r\n3\r\n";
-    is_told(rt, alloc, &mut store, set, "STORED\r\n")?;
     let mut session = Session::new(alloc, GREATEST);
-    take_turns(rt, alloc, &mut session, &mut store, "foo\r\n")?;
-    match take_turns(rt, alloc, &mut session, &mut store, "gets a\r\n") {
+    parts_are_one_text_in(rt, alloc, &mut session, &mut store)
+}
+
+/// The same in a session that was fed nothing, over an empty store.
+fn parts_are_one_text_in(
+    rt: &impl Abort,
+    alloc: Global,
+    session: &mut Session,
+    store: &mut Lending,
+) -> Result<(), TurnFault> {
+    let set = "set a 5 0 5\r\n12\r\n3\r\n";
+    is_told(rt, alloc, store, set, "STORED\r\n")?;
+    take_turns(rt, alloc, session, store, "foo\r\n")?;
+    match take_turns(rt, alloc, session, store, "gets a\r\n") {
         Ok(()) => {
             let text = b"ERROR\r\nVALUE a 5 5 7\r\n12\r\n3\r\nEND\r\n".as_slice();
             assert_eq!(rt; session.out(), text);

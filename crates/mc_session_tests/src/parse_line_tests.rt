@@ -96,8 +96,8 @@ fn numbers_at_their_limits(rt: HostRuntime) {
     }
 }
 
-#[test]
-fn keys_of_250_and_of_251_bytes(rt: HostRuntime) {
+/// Checks keys of a get.
+fn keys_of_a_get(rt: &impl Abort) {
     let mut get = [b'k'; 257];
     get[..4].copy_from_slice(b"get ");
     assert!(rt; line_of(GREATEST, &get[..254]).is_ok());
@@ -105,13 +105,22 @@ fn keys_of_250_and_of_251_bytes(rt: HostRuntime) {
     // One of two keys is malformed.
     get[255..].copy_from_slice(b" a");
     assert!(rt; line_of(GREATEST, &get).err() == Some(LineFault::BadFormat));
-    // The key's fault comes before the delta's.
+}
+
+/// Checks the key of an incr whose delta is malformed. The key's fault comes before the delta's.
+fn key_of_an_incr(rt: &impl Abort) {
     let mut incr = [b'k'; 258];
     incr[..5].copy_from_slice(b"incr ");
     incr[256..].copy_from_slice(b" x");
     assert!(rt; line_of(GREATEST, &incr).err() == Some(LineFault::BadFormat));
     incr[255..].copy_from_slice(b" -1");
     assert!(rt; line_of(GREATEST, &incr).err() == Some(LineFault::BadDelta));
+}
+
+#[test]
+fn keys_of_250_and_of_251_bytes(rt: HostRuntime) {
+    keys_of_a_get(&rt);
+    key_of_an_incr(&rt);
 }
 
 /// Checks the command of a cas line.

@@ -8,6 +8,7 @@ use mc_bytes::{Append, FIRST_PIECE, Queue, Source};
 use mc_parse::{Feed, Peek, peek_at};
 use mc_protocol::{Command, LineFault, Lone, Verb};
 use std::alloc::{AllocError, Global};
+use std::process::Abort;
 use std::test::*;
 
 const GREATEST: u64 = 1048576;
@@ -205,18 +206,28 @@ fn a_queue_takes_from_its_front(rt: HostRuntime) -> Result<(), AllocError> {
     Ok(())
 }
 
-#[test]
-fn an_append_closes_up_half_of_a_queue(rt: HostRuntime) -> Result<(), AllocError> {
-    let mut queue: Queue<65536> = Queue::new(rt.alloc());
+// Each test below owns a queue or a feed, and the function above it checks that.
+
+fn closes_up(rt: &impl Abort, queue: &mut Queue<65536>) -> Result<(), AllocError> {
     queue.push(b"abcdefgh")?;
-    assert!(rt; consume_to(&mut queue, 3, b"defgh", 8));
+    assert!(rt; consume_to(queue, 3, b"defgh", 8));
     queue.push(b"i")?;
     assert_eq!(rt; queue.filled_bytes(), 9);
-    assert!(rt; consume_to(&mut queue, 2, b"fghi", 9));
+    closes_up_at_half(rt, queue)
+}
+
+/// Checks a queue of `defghi` in memory of 9 bytes.
+fn closes_up_at_half(rt: &impl Abort, queue: &mut Queue<65536>) -> Result<(), AllocError> {
+    assert!(rt; consume_to(queue, 2, b"fghi", 9));
     queue.push(b"j")?;
     assert!(rt; queue.as_slice() == b"fghij".as_slice());
     assert_eq!(rt; queue.filled_bytes(), 5);
     Ok(())
+}
+
+#[test]
+fn an_append_closes_up_half_of_a_queue(rt: HostRuntime) -> Result<(), AllocError> {
+    closes_up(&rt, &mut Queue::new(rt.alloc()))
 }
 
 #[test]
@@ -229,14 +240,17 @@ fn memory_that_a_text_does_not_need_is_given_back(rt: HostRuntime) -> Result<(),
     Ok(())
 }
 
-#[test]
-fn a_large_queue_gives_its_memory_back(rt: HostRuntime) -> Result<(), AllocError> {
-    let mut queue: Queue<65536> = Queue::new(rt.alloc());
+fn gives_its_memory_back(rt: &impl Abort, queue: &mut Queue<65536>) -> Result<(), AllocError> {
     let piece = [b'x'; 8192];
     for _ in 0..16 {
         queue.push(&piece)?;
     }
     assert!(rt; queue.capacity() >= 131072);
+    closes_up_and_clears(rt, queue)
+}
+
+/// Checks a queue of 131072 bytes.
+fn closes_up_and_clears(rt: &impl Abort, queue: &mut Queue<65536>) -> Result<(), AllocError> {
     queue.consume(queue.len().min(131071));
     assert_eq!(rt; queue.filled_bytes(), 131072);
     queue.push(b"x")?;
@@ -244,6 +258,11 @@ fn a_large_queue_gives_its_memory_back(rt: HostRuntime) -> Result<(), AllocError
     queue.clear();
     assert!(rt; queue.capacity() <= 65536 && queue.filled_bytes() == 0);
     Ok(())
+}
+
+#[test]
+fn a_large_queue_gives_its_memory_back(rt: HostRuntime) -> Result<(), AllocError> {
+    gives_its_memory_back(&rt, &mut Queue::new(rt.alloc()))
 }
 
 #[test]
@@ -258,9 +277,7 @@ fn a_queue_that_rests_keeps_a_first_piece(rt: HostRuntime) -> Result<(), AllocEr
     Ok(())
 }
 
-#[test]
-fn room_is_made_at_once_for_a_text_that_has_begun(rt: HostRuntime) -> Result<(), AllocError> {
-    let mut queue: Queue<64> = Queue::new(rt.alloc());
+fn makes_room_at_once(rt: &impl Abort, queue: &mut Queue<64>) -> Result<(), AllocError> {
     queue.push_part(&[b'x'; 99], 1600)?;
     queue.push_part(b"x", 1600)?;
     assert!(rt; queue.capacity() < 1600);
@@ -269,6 +286,11 @@ fn room_is_made_at_once_for_a_text_that_has_begun(rt: HostRuntime) -> Result<(),
     queue.clear();
     assert!(rt; queue.capacity() <= 64);
     Ok(())
+}
+
+#[test]
+fn room_is_made_at_once_for_a_text_that_has_begun(rt: HostRuntime) -> Result<(), AllocError> {
+    makes_room_at_once(&rt, &mut Queue::new(rt.alloc()))
 }
 
 #[test]
@@ -286,22 +308,33 @@ fn a_part_that_is_refused(rt: HostRuntime) -> Result<(), AllocError> {
     Ok(())
 }
 
-#[test]
-fn a_source_has_the_room_that_is_asked_for(rt: HostRuntime) -> Result<(), AllocError> {
-    let mut queue: Queue<65536> = Queue::new(rt.alloc());
-    for room in [2048, 1, 2048, 16384] {
-        let mut well = Well { left: usize::MAX };
-        assert_eq!(rt; queue.push_part_from(&mut well, room, 0)?, room);
-        assert_eq!(rt; queue.len(), room);
-        queue.consume(room.min(queue.len()));
+/// Checks that a source has this room in an empty queue.
+fn lends_room(rt: &impl Abort, queue: &mut Queue<65536>, room: usize) -> Result<(), AllocError> {
+    let mut well = Well { left: usize::MAX };
+    assert_eq!(rt; queue.push_part_from(&mut well, room, 0)?, room);
+    assert_eq!(rt; queue.len(), room);
+    queue.consume(room.min(queue.len()));
+    Ok(())
+}
+
+/// Checks rooms in order.
+fn lends_rooms(
+    rt: &impl Abort,
+    queue: &mut Queue<65536>,
+    rooms: &[usize],
+) -> Result<(), AllocError> {
+    for room in rooms {
+        lends_room(rt, queue, *room)?;
     }
     Ok(())
 }
 
-/// An idle queue keeps the room for its source, and no more.
 #[test]
-fn room_that_is_lent_again_is_kept(rt: HostRuntime) -> Result<(), AllocError> {
-    let mut queue: Queue<65536> = Queue::new(rt.alloc());
+fn a_source_has_the_room_that_is_asked_for(rt: HostRuntime) -> Result<(), AllocError> {
+    lends_rooms(&rt, &mut Queue::new(rt.alloc()), &[2048, 1, 2048, 16384])
+}
+
+fn keeps_the_room(rt: &impl Abort, queue: &mut Queue<65536>) -> Result<(), AllocError> {
     for _ in 0..9 {
         let mut well = Well { left: 100 };
         queue.push_part_from(&mut well, 2048, 0)?;
@@ -309,6 +342,12 @@ fn room_that_is_lent_again_is_kept(rt: HostRuntime) -> Result<(), AllocError> {
         assert_eq!(rt; queue.capacity(), 2048);
     }
     Ok(())
+}
+
+/// An idle queue keeps the room for its source, and no more.
+#[test]
+fn room_that_is_lent_again_is_kept(rt: HostRuntime) -> Result<(), AllocError> {
+    keeps_the_room(&rt, &mut Queue::new(rt.alloc()))
 }
 
 /// Reads pieces of 16384 bytes of a text of 1048576. Returns whether the buffer didn't move.
@@ -395,123 +434,161 @@ fn faults_and_more(rt: HostRuntime) {
     }
 }
 
+/// Checks a line of 65536 bytes, and then with its end.
+fn longest_is_a_line(rt: &impl Abort, longest: &mut Vec<u8>) -> Result<(), AllocError> {
+    assert!(rt; shows(peek_at(GREATEST, longest), Seen::More));
+    longest.push(b'\n')?;
+    assert!(rt; shows(peek_at(GREATEST, longest), Seen::Lone(Lone::Version, 65537)));
+    Ok(())
+}
+
+/// Checks a line of 65537 bytes, and then with its end.
+fn longer_is_too_long(rt: &impl Abort, longer: &mut Vec<u8>) -> Result<(), AllocError> {
+    assert!(rt; shows(peek_at(GREATEST, longer), Seen::TooLong));
+    longer.push(b'\n')?;
+    assert!(rt; shows(peek_at(GREATEST, longer), Seen::TooLong));
+    Ok(())
+}
+
 #[test]
 fn the_longest_line(rt: HostRuntime) -> Result<(), AllocError> {
-    let mut longest = long_line(rt.alloc(), 65536)?;
-    assert!(rt; shows(peek_at(GREATEST, &longest), Seen::More));
-    longest.push(b'\n')?;
-    assert!(rt;
-        shows(
-            peek_at(GREATEST, &longest),
-            Seen::Lone(Lone::Version, 65537)
-        )
-    );
-    let mut longer = long_line(rt.alloc(), 65537)?;
-    assert!(rt; shows(peek_at(GREATEST, &longer), Seen::TooLong));
-    longer.push(b'\n')?;
-    assert!(rt; shows(peek_at(GREATEST, &longer), Seen::TooLong));
+    longest_is_a_line(&rt, &mut long_line(rt.alloc(), 65536)?)?;
+    longer_is_too_long(&rt, &mut long_line(rt.alloc(), 65537)?)
+}
+
+/// Checks a feed for charges of at most 100.
+fn passes_a_block_over(rt: &impl Abort, feed: &mut Feed) -> Result<(), AllocError> {
+    let too_large = Seen::Bad(LineFault::TooLarge { passed: 202 }, 15);
+    assert!(rt; takes(feed, b"set a 0 0 200\r\nxyz", too_large, 18)?);
+    assert!(rt; passes(feed, 15, 0));
+    for _ in 0..199 {
+        assert!(rt; takes(feed, b"x", Seen::More, 0)?);
+        assert_eq!(rt; feed.filled_bytes(), 0);
+    }
+    goes_on_behind_it(rt, feed)
+}
+
+/// The last byte of the block that is skipped has not arrived.
+fn goes_on_behind_it(rt: &impl Abort, feed: &mut Feed) -> Result<(), AllocError> {
+    assert!(rt; takes(feed, b"version\r\nqu", VERSION, 11)?);
+    assert!(rt; passes(feed, 9, 2) && shows(feed.peek(), Seen::More));
+    assert!(rt; takes(feed, b"it\r\n", Seen::Lone(Lone::Quit, 6), 6)?);
+    feed.clear();
+    assert_eq!(rt; feed.held(), 0);
     Ok(())
 }
 
 #[test]
 fn a_block_that_is_passed_over(rt: HostRuntime) -> Result<(), AllocError> {
-    let mut feed = Feed::new(rt.alloc(), 100);
-    let too_large = Seen::Bad(LineFault::TooLarge { passed: 202 }, 15);
-    assert!(rt; takes(&mut feed, b"set a 0 0 200\r\nxyz", too_large, 18)?);
-    assert!(rt; passes(&mut feed, 15, 0));
-    for _ in 0..199 {
-        assert!(rt; takes(&mut feed, b"x", Seen::More, 0)?);
-        assert_eq!(rt; feed.filled_bytes(), 0);
+    passes_a_block_over(&rt, &mut Feed::new(rt.alloc(), 100))
+}
+
+fn holds_no_piece(rt: &impl Abort, feed: &mut Feed) -> Result<(), AllocError> {
+    let line = b"set a 0 0 2097152\r\n";
+    let too_large = Seen::Bad(LineFault::TooLarge { passed: 2097154 }, 19);
+    assert!(rt; takes(feed, line, too_large, line.len())?);
+    assert!(rt; passes(feed, 19, 0));
+    let piece = [b'x'; 16384];
+    for _ in 0..128 {
+        assert!(rt; takes(feed, &piece, Seen::More, 0)?);
     }
-    assert!(rt; takes(&mut feed, b"version\r\nqu", VERSION, 11)?);
-    assert!(rt; passes(&mut feed, 9, 2) && shows(feed.peek(), Seen::More));
-    assert!(rt; takes(&mut feed, b"it\r\n", Seen::Lone(Lone::Quit, 6), 6)?);
-    feed.clear();
-    assert_eq!(rt; feed.held(), 0);
+    assert!(rt; takes(feed, b"\r\n", Seen::More, 0)?);
+    assert!(rt; takes(feed, b"version\r\n", VERSION, 9)?);
     Ok(())
 }
 
 /// A block of this length is skipped in pieces, none of which is held.
 #[test]
 fn what_is_passed_over_is_never_held(rt: HostRuntime) -> Result<(), AllocError> {
-    let mut feed = Feed::new(rt.alloc(), GREATEST);
-    let line = b"set a 0 0 2097152\r\n";
-    let too_large = Seen::Bad(LineFault::TooLarge { passed: 2097154 }, 19);
-    assert!(rt; takes(&mut feed, line, too_large, line.len())?);
-    assert!(rt; passes(&mut feed, 19, 0));
-    let piece = [b'x'; 16384];
-    for _ in 0..128 {
-        assert!(rt; takes(&mut feed, &piece, Seen::More, 0)?);
+    holds_no_piece(&rt, &mut Feed::new(rt.alloc(), GREATEST))
+}
+
+fn holds_nothing_of_a_source(rt: &impl Abort, feed: &mut Feed) -> Result<(), AllocError> {
+    assert!(rt; push_at_last(feed, b"set a 0 0 2097152\r\n")?);
+    assert!(rt; passes(feed, 19, 0));
+    let mut well = Well { left: 2097154 };
+    for _ in 0..129 {
+        assert!(rt; take_at_last(feed, &mut well, 16384)?);
+        assert!(rt; feed.held() == 0 && feed.filled_bytes() == 0);
     }
-    assert!(rt; takes(&mut feed, b"\r\n", Seen::More, 0)?);
-    assert!(rt; takes(&mut feed, b"version\r\n", VERSION, 9)?);
+    assert!(rt; takes(feed, b"version\r\n", VERSION, 9)?);
     Ok(())
 }
 
 #[test]
 fn what_is_passed_over_of_a_source_is_never_held(rt: HostRuntime) -> Result<(), AllocError> {
-    let mut feed = Feed::new(rt.alloc(), GREATEST);
-    assert!(rt; push_at_last(&mut feed, b"set a 0 0 2097152\r\n")?);
-    assert!(rt; passes(&mut feed, 19, 0));
-    let mut well = Well { left: 2097154 };
-    for _ in 0..129 {
-        assert!(rt; take_at_last(&mut feed, &mut well, 16384)?);
-        assert!(rt; feed.held() == 0 && feed.filled_bytes() == 0);
-    }
-    assert!(rt; takes(&mut feed, b"version\r\n", VERSION, 9)?);
-    Ok(())
+    holds_nothing_of_a_source(&rt, &mut Feed::new(rt.alloc(), GREATEST))
 }
 
-/// A block of 1000000 bytes in pieces of 16384; the last piece is shorter.
-#[test]
-fn a_block_is_announced_by_its_line(rt: HostRuntime) -> Result<(), AllocError> {
-    let mut feed = Feed::new(rt.alloc(), GREATEST);
+fn announces_a_block(rt: &impl Abort, feed: &mut Feed) -> Result<(), AllocError> {
     assert_eq!(rt; feed.announced_bytes(), 0);
     feed.push(b"set a 0 0 100000\r\n")?;
     assert_eq!(rt; feed.announced_bytes(), 100020);
     for _ in 0..2 {
         feed.push(&[b'x'; 8192])?;
     }
+    keeps_its_room_until_it_is_cleared(rt, feed);
+    Ok(())
+}
+
+/// Checks a feed that has the line of a block of 100000 bytes and some of those.
+fn keeps_its_room_until_it_is_cleared(rt: &impl Abort, feed: &mut Feed) {
     assert!(rt; feed.capacity() >= 100020 && feed.rest() >= 100020);
     feed.clear();
     assert_eq!(rt; feed.announced_bytes(), 0);
     assert!(rt; feed.rest() <= FIRST_PIECE && feed.capacity() <= FIRST_PIECE);
-    Ok(())
 }
 
 #[test]
-fn a_block_comes_from_a_source(rt: HostRuntime) -> Result<(), AllocError> {
-    let mut feed = Feed::new(rt.alloc(), GREATEST);
-    assert!(rt; push_at_last(&mut feed, b"set a 0 0 1000000\r\n")?);
+fn a_block_is_announced_by_its_line(rt: HostRuntime) -> Result<(), AllocError> {
+    announces_a_block(&rt, &mut Feed::new(rt.alloc(), GREATEST))
+}
+
+fn takes_a_block_from_a_source(rt: &impl Abort, feed: &mut Feed) -> Result<(), AllocError> {
+    assert!(rt; push_at_last(feed, b"set a 0 0 1000000\r\n")?);
     let mut well = Well { left: 1000000 };
     for _ in 0..62 {
-        assert!(rt; take_at_last(&mut feed, &mut well, 16384)? && shows(feed.peek(), Seen::More));
+        assert!(rt; take_at_last(feed, &mut well, 16384)? && shows(feed.peek(), Seen::More));
     }
-    assert!(rt; push_at_last(&mut feed, b"\r\n")?);
+    assert!(rt; push_at_last(feed, b"\r\n")?);
     assert_eq!(rt; len_of(feed.peek()), Some(1000021));
     Ok(())
+}
+
+/// A block of 1000000 bytes in pieces of 16384; the last piece is shorter.
+#[test]
+fn a_block_comes_from_a_source(rt: HostRuntime) -> Result<(), AllocError> {
+    takes_a_block_from_a_source(&rt, &mut Feed::new(rt.alloc(), GREATEST))
 }
 
 /// The number of turns taken, the next key, and how many keys are left.
 const TURNS: [(usize, &[u8], usize); 3] = [(0, b"one", 3), (1, b"two", 2), (2, b"three", 1)];
 
-#[test]
-fn a_retrieval_in_turns(rt: HostRuntime) -> Result<(), AllocError> {
-    let mut feed = Feed::new(rt.alloc(), GREATEST);
-    assert!(rt; push_at_last(&mut feed, b"gats 60 one  two three \r\nquit\r\n")?);
+/// Checks a key of it that is found first by reading the line from its beginning, and then by the
+/// mark.
+fn finds_a_key(rt: &impl Abort, feed: &mut Feed, taken: usize, key: &[u8], left: usize) {
+    for _ in 0..2 {
+        assert!(rt; is_gats_60(feed.peek_after(taken), left, key));
+        feed.mark(taken);
+    }
+}
+
+fn retrieves_in_turns(rt: &impl Abort, feed: &mut Feed) -> Result<(), AllocError> {
+    assert!(rt; push_at_last(feed, b"gats 60 one  two three \r\nquit\r\n")?);
     for (taken, key, left) in &TURNS {
-        // Found first by reading the line from its beginning, and then by the mark.
-        for _ in 0..2 {
-            assert!(rt; is_gats_60(feed.peek_after(*taken), *left, key));
-            feed.mark(*taken);
-        }
+        finds_a_key(rt, feed, *taken, key, *left);
         // What comes behind it changes nothing.
-        assert!(rt; push_at_last(&mut feed, b"version\r\n")?);
+        assert!(rt; push_at_last(feed, b"version\r\n")?);
     }
     assert!(rt; is_gats_60(feed.peek_after(usize::MAX), 0, b""));
-    assert!(rt; pass_unit(&mut feed) == Some(25));
+    assert!(rt; pass_unit(feed) == Some(25));
     assert!(rt; shows(feed.peek_after(1), Seen::Lone(Lone::Quit, 6)));
     Ok(())
+}
+
+#[test]
+fn a_retrieval_in_turns(rt: HostRuntime) -> Result<(), AllocError> {
+    retrieves_in_turns(&rt, &mut Feed::new(rt.alloc(), GREATEST))
 }
 
 /// A stream in pieces. Only the last piece ends a unit.
@@ -533,15 +610,13 @@ fn a_push_that_is_refused(rt: HostRuntime) -> Result<(), AllocError> {
     Ok(())
 }
 
-#[test]
-fn a_stream_in_pieces_of_one_byte(rt: HostRuntime) -> Result<(), AllocError> {
-    let mut feed = Feed::new(rt.alloc(), GREATEST);
+fn takes_bytes(rt: &impl Abort, feed: &mut Feed) -> Result<(), AllocError> {
     let stream = b" set a 0 0 3 \r\na\nc\r\nversion\nfoo\r\nset a 0 0 1\r\nabcquit\r\n";
     // The last byte of each unit.
     let lasts: [usize; 5] = [19, 27, 32, 48, 54];
     for (place, byte) in stream.iter().enumerate() {
-        assert!(rt; push_at_last(&mut feed, &[*byte])?);
-        let is_whole = pass_unit(&mut feed).is_some();
+        assert!(rt; push_at_last(feed, &[*byte])?);
+        let is_whole = pass_unit(feed).is_some();
         assert!(rt; is_whole == lasts.contains(&place), "at {place}");
     }
     assert_eq!(rt; feed.held(), 0);
@@ -549,29 +624,40 @@ fn a_stream_in_pieces_of_one_byte(rt: HostRuntime) -> Result<(), AllocError> {
 }
 
 #[test]
-fn the_longest_line_in_pieces(rt: HostRuntime) -> Result<(), AllocError> {
-    let mut feed = Feed::new(rt.alloc(), GREATEST);
+fn a_stream_in_pieces_of_one_byte(rt: HostRuntime) -> Result<(), AllocError> {
+    takes_bytes(&rt, &mut Feed::new(rt.alloc(), GREATEST))
+}
+
+fn takes_the_longest_line(rt: &impl Abort, feed: &mut Feed) -> Result<(), AllocError> {
     let spaces = [b' '; 8191];
-    assert!(rt; push_at_last(&mut feed, b"version ")?);
+    assert!(rt; push_at_last(feed, b"version ")?);
     for _ in 0..8 {
         assert!(rt; shows(feed.peek(), Seen::More));
-        assert!(rt; push_at_last(&mut feed, &spaces)?);
+        assert!(rt; push_at_last(feed, &spaces)?);
     }
     assert!(rt; feed.held() == 65536 && shows(feed.peek(), Seen::More));
-    assert!(rt; takes(&mut feed, b"\n", Seen::Lone(Lone::Version, 65537), 65537)?);
+    assert!(rt; takes(feed, b"\n", Seen::Lone(Lone::Version, 65537), 65537)?);
+    Ok(())
+}
+
+#[test]
+fn the_longest_line_in_pieces(rt: HostRuntime) -> Result<(), AllocError> {
+    takes_the_longest_line(&rt, &mut Feed::new(rt.alloc(), GREATEST))
+}
+
+fn takes_a_line_too_long(rt: &impl Abort, feed: &mut Feed) -> Result<(), AllocError> {
+    let spaces = [b' '; 8192];
+    for _ in 0..8 {
+        assert!(rt; shows(feed.peek(), Seen::More));
+        assert!(rt; push_at_last(feed, &spaces)?);
+    }
+    assert!(rt; shows(feed.peek(), Seen::More));
+    assert!(rt; takes(feed, b" ", Seen::TooLong, 65537)?);
+    assert!(rt; takes(feed, b"\n", Seen::TooLong, 65538)?);
     Ok(())
 }
 
 #[test]
 fn a_line_one_byte_too_long_in_pieces(rt: HostRuntime) -> Result<(), AllocError> {
-    let mut feed = Feed::new(rt.alloc(), GREATEST);
-    let spaces = [b' '; 8192];
-    for _ in 0..8 {
-        assert!(rt; shows(feed.peek(), Seen::More));
-        assert!(rt; push_at_last(&mut feed, &spaces)?);
-    }
-    assert!(rt; shows(feed.peek(), Seen::More));
-    assert!(rt; takes(&mut feed, b" ", Seen::TooLong, 65537)?);
-    assert!(rt; takes(&mut feed, b"\n", Seen::TooLong, 65538)?);
-    Ok(())
+    takes_a_line_too_long(&rt, &mut Feed::new(rt.alloc(), GREATEST))
 }

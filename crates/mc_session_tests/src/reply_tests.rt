@@ -59,14 +59,22 @@ fn filled(alloc: Global, bytes: &[u8]) -> Result<Vec<u8>, AllocError> {
 /// Checks that the call appends this text.
 ///
 /// After an error the vector must be unchanged, and the call must succeed the second time.
-fn expect(rt: &impl Abort, alloc: Global, call: Call<'_>, want: &str) -> Result<(), Fail> {
+fn expect(rt: &impl Abort, alloc: Global, call: &Call<'_>, want: &str) -> Result<(), Fail> {
     let mut out = filled(alloc, BEFORE)?;
-    let mut result = call_once(rt, &call, &mut out);
-    if result.is_err() {
+    Ok(appends(rt, call, &mut out, want)?)
+}
+
+/// The same for a vector of `BEFORE` without room for more.
+fn appends(
+    rt: &impl Abort,
+    call: &Call<'_>,
+    out: &mut Vec<u8>,
+    want: &str,
+) -> Result<(), AllocError> {
+    if call_once(rt, call, out).is_err() {
         assert_eq!(rt; out.as_slice(), BEFORE);
-        result = call_once(rt, &call, &mut out);
+        call_once(rt, call, out)?;
     }
-    result?;
     let text = out.as_slice().strip_prefix(BEFORE);
     assert_eq!(rt; text, Some(want.as_bytes()));
     Ok(())
@@ -83,11 +91,22 @@ fn store(quiet: bool) -> Command<'static> {
     }
 }
 
+/// Checks that a storage command is answered each reply by its text.
+fn replies_are_told(
+    rt: &impl Abort,
+    alloc: Global,
+    replies: &[(Reply, &'static str)],
+) -> Result<(), Fail> {
+    let command = store(false);
+    for (reply, want) in replies {
+        expect(rt, alloc, &Call::Step(&command, 0, reply), want)?;
+    }
+    Ok(())
+}
+
 #[test]
 fn a_reply_is_a_line(rt: HostRuntime) -> Result<(), Fail> {
-    let alloc = rt.alloc();
-    let command = store(false);
-    for (reply, want) in [
+    let replies = [
         (Reply::Stored, "STORED\r\n"),
         (Reply::NotStored, "NOT_STORED\r\n"),
         (Reply::Exists, "EXISTS\r\n"),
@@ -109,10 +128,8 @@ fn a_reply_is_a_line(rt: HostRuntime) -> Result<(), Fail> {
             "SERVER_ERROR out of memory storing object\r\n",
         ),
         (Reply::Flushed, "OK\r\n"),
-    ] {
-        expect(&rt, alloc, Call::Step(&command, 0, &reply), want)?;
-    }
-    Ok(())
+    ];
+    replies_are_told(&rt, rt.alloc(), &replies)
 }
 
 /// Returns each command that can end in `noreply`, with it.
@@ -153,7 +170,7 @@ fn quiet_commands() -> [Command<'static>; 6] {
 fn a_quiet_command_is_answered_nothing(rt: HostRuntime) -> Result<(), Fail> {
     let alloc = rt.alloc();
     for command in quiet_commands() {
-        expect(&rt, alloc, Call::Step(&command, 0, &Reply::NoChunk), "")?;
+        expect(&rt, alloc, &Call::Step(&command, 0, &Reply::NoChunk), "")?;
     }
     Ok(())
 }
@@ -162,7 +179,7 @@ fn a_quiet_command_is_answered_nothing(rt: HostRuntime) -> Result<(), Fail> {
 fn a_quiet_command_is_told_of_no_spent_numbers(rt: HostRuntime) -> Result<(), Fail> {
     let alloc = rt.alloc();
     for command in quiet_commands() {
-        expect(&rt, alloc, Call::Spent(&command), "")?;
+        expect(&rt, alloc, &Call::Spent(&command), "")?;
     }
     Ok(())
 }
@@ -226,7 +243,7 @@ fn found_in_parts(
     parts: &[Bytes<'_>],
 ) -> Result<(), Fail> {
     let call = Call::Hit(command, found.at, found.flags, found.unique, parts);
-    expect(rt, alloc, call, found.text)
+    expect(rt, alloc, &call, found.text)
 }
 
 /// Checks that a hit has the same text from a reply and from its block in one part or more.
@@ -236,19 +253,26 @@ fn found_is_told(rt: &impl Abort, alloc: Global, found: &Found) -> Result<(), Fa
         unique: found.unique,
         block: Block::of(filled(alloc, found.block)?),
     };
-    for command in retrievals(found.with_unique) {
-        expect(
-            rt,
-            alloc,
-            Call::Step(&command, found.at, &reply),
-            found.text,
-        )?;
-        found_in_parts(rt, alloc, &command, found, &[Bytes::of(found.block)])?;
-        let (front, back) = found.block.split_at(found.block.len() / 2);
-        let parts = [Bytes::of(front), Bytes::of(b"".as_slice()), Bytes::of(back)];
-        found_in_parts(rt, alloc, &command, found, &parts)?;
+    for command in &retrievals(found.with_unique) {
+        is_one_text(rt, alloc, command, found, &reply)?;
     }
     Ok(())
+}
+
+/// The same for one command.
+fn is_one_text(
+    rt: &impl Abort,
+    alloc: Global,
+    command: &Command<'_>,
+    found: &Found,
+    reply: &Reply,
+) -> Result<(), Fail> {
+    let call = Call::Step(command, found.at, reply);
+    expect(rt, alloc, &call, found.text)?;
+    found_in_parts(rt, alloc, command, found, &[Bytes::of(found.block)])?;
+    let (front, back) = found.block.split_at(found.block.len() / 2);
+    let parts = [Bytes::of(front), Bytes::of(b"".as_slice()), Bytes::of(back)];
+    found_in_parts(rt, alloc, command, found, &parts)
 }
 
 #[test]
@@ -263,21 +287,29 @@ fn a_retrieval_tells_what_it_found_and_ends(rt: HostRuntime) -> Result<(), Fail>
 fn a_retrieval_tells_nothing_of_a_miss_and_ends(rt: HostRuntime) -> Result<(), Fail> {
     for (with_unique, at, want) in [(false, 0, ""), (true, 1, "END\r\n")] {
         for command in retrievals(with_unique) {
-            expect(
-                &rt,
-                rt.alloc(),
-                Call::Step(&command, at, &Reply::Miss),
-                want,
-            )?;
+            let call = Call::Step(&command, at, &Reply::Miss);
+            expect(&rt, rt.alloc(), &call, want)?;
         }
+    }
+    Ok(())
+}
+
+/// Checks that each call appends its text.
+fn each_appends(
+    rt: &impl Abort,
+    alloc: Global,
+    calls: &[(Call<'_>, &'static str)],
+) -> Result<(), Fail> {
+    for (call, want) in calls {
+        expect(rt, alloc, call, want)?;
     }
     Ok(())
 }
 
 #[test]
 fn faults_and_plain_commands_have_their_texts(rt: HostRuntime) -> Result<(), Fail> {
-    let alloc = rt.alloc();
-    for (call, want) in [
+    let command = store(false);
+    let calls = [
         (Call::Fault(LineFault::Unknown), "ERROR\r\n"),
         (
             Call::Fault(LineFault::BadFormat),
@@ -301,14 +333,10 @@ fn faults_and_plain_commands_have_their_texts(rt: HostRuntime) -> Result<(), Fai
             "VERSION 1.6.0\r\n",
         ),
         (Call::Plain(&Command::Lone(Lone::Quit)), ""),
-    ] {
-        expect(&rt, alloc, call, want)?;
-    }
-    let command = store(false);
-    expect(
-        &rt,
-        alloc,
-        Call::Spent(&command),
-        "SERVER_ERROR out of unique numbers\r\n",
-    )
+        (
+            Call::Spent(&command),
+            "SERVER_ERROR out of unique numbers\r\n",
+        ),
+    ];
+    each_appends(&rt, rt.alloc(), &calls)
 }

@@ -5,12 +5,37 @@
 ghost use Rattle.std.specs.Prelude.{◌≤◌};
 
 use mc_command::PlainStore;
-use mc_protocol::{Steps, Verb};
-use mc_rows::{Ask, Row, Want, ask_step, filled_block, first_unlike, set, step_of, told_of};
+use mc_protocol::{StepFault, Steps, Verb};
+use mc_rows::{
+    Ask, Row, Want, ask_step, filled_block, first_unlike, is_wanted, set, step_of, told_of,
+};
 use mc_time::Moment;
 use std::alloc::{AllocError, Global};
 use std::process::Abort;
 use std::test::Fail;
+
+/// Returns whether a step has the expected answer. It is taken again if memory is refused.
+///
+/// The key isn't read before the step, so the step meets the key's dead item.
+fn is_answered(store: &mut PlainStore, alloc: Global, row: Row<'_>) -> bool {
+    let (seconds, key, ask, want) = row;
+    if key.len() > 250 {
+        return false;
+    }
+    let now = Moment::from_seconds_at_most(seconds);
+    let step = step_of(key, ask);
+    is_wanted(&ask_step(store, alloc, &step, now), want)
+}
+
+/// Returns the place of the first row with an unexpected answer. No key is read before its step.
+fn first_unread(store: &mut PlainStore, alloc: Global, rows: &[Row<'_>]) -> Option<usize> {
+    for (at, row) in rows.iter().enumerate() {
+        if !is_answered(store, alloc, *row) {
+            return Some(at);
+        }
+    }
+    None
+}
 
 /// Checks that a new store with these pages and this greatest charge answers each row as expected.
 fn answers(
@@ -25,6 +50,13 @@ fn answers(
 {
     let mut store = PlainStore::new(alloc, pages, greatest)?;
     assert_eq!(rt; first_unlike(&mut store, alloc, rows)?, None);
+    Ok(())
+}
+
+/// The same for a store of one page, if no key is read before its step.
+fn answers_unread(rt: &impl Abort, alloc: Global, rows: &[Row<'_>]) -> Result<(), Fail> {
+    let mut store = PlainStore::new(alloc, 1, 1048576)?;
+    assert_eq!(rt; first_unread(&mut store, alloc, rows), None);
     Ok(())
 }
 
@@ -170,6 +202,7 @@ fn a_full_chunk_is_not_written_over(rt: HostRuntime) -> Result<(), Fail> {
     answers(&rt, rt.alloc(), 1, 1048576, &rows)
 }
 
+/// No key is read before its step, so each set of `a` meets the dead item itself.
 #[test]
 fn the_dead_hold_their_chunks_until_they_are_dropped(rt: HostRuntime) -> Result<(), Fail> {
     let large = filled_block(rt.alloc(), 600000)?;
@@ -185,7 +218,7 @@ fn the_dead_hold_their_chunks_until_they_are_dropped(rt: HostRuntime) -> Result<
         (1020, b"b", Ask::Flush(0), Want::Told("flushed")),
         set(1020, b"a", 0, large, "stored"),
     ];
-    answers(&rt, rt.alloc(), 1, 1048576, &rows)
+    answers_unread(&rt, rt.alloc(), &rows)
 }
 
 #[test]
@@ -273,14 +306,16 @@ fn a_long_number_asks_room_where_it_is_counted(rt: HostRuntime) -> Result<(), Fa
     answers(&rt, rt.alloc(), 2, 8388608, &rows)
 }
 
-#[test]
-fn what_is_not_written_takes_no_memory(rt: HostRuntime) -> Result<(), Fail> {
-    let large = filled_block(rt.alloc(), 600000)?;
-    let large = large.as_slice();
-    let mut store = PlainStore::new(rt.alloc(), 1, 700000)?;
-    let now = Moment::from_seconds_at_most(1000);
-    let step = step_of(b"a", Ask::Store(Verb::Set, 0, large));
-    let _ = ask_step(&mut store, rt.alloc(), &step, now)?;
+/// Returns a store of one page with an item `a` of this block, and a greatest charge of 700000.
+fn full_store(alloc: Global, block: &[u8]) -> Result<PlainStore, StepFault> {
+    let mut store = PlainStore::new(alloc, 1, 700000)?;
+    let step = step_of(b"a", Ask::Store(Verb::Set, 0, block));
+    let _ = ask_step(&mut store, alloc, &step, Moment::from_seconds_at_most(1000))?;
+    Ok(store)
+}
+
+/// Checks what it is told of writes that it can't make, each of which is tried once.
+fn writes_are_refused(rt: &impl Abort, alloc: Global, store: &mut PlainStore, large: &[u8]) {
     let asks: [(&[u8], Ask<'_>, &'static str); 4] = [
         (b"a", Ask::Store(Verb::Append, 0, large), "too large"),
         (b"a", Ask::Store(Verb::Prepend, 0, large), "too large"),
@@ -288,11 +323,18 @@ fn what_is_not_written_takes_no_memory(rt: HostRuntime) -> Result<(), Fail> {
         (b"b", Ask::Store(Verb::Set, 0, b"x"), "no chunk"),
     ];
     for (key, ask, want) in asks {
-        assert!(&rt; key.len() <= 250);
+        assert!(rt; key.len() <= 250);
         let step = step_of(key, ask);
         let now = Moment::from_seconds_at_most(1000);
-        let told = told_of(&store.step(rt.alloc(), &step, now));
-        assert!(&rt; told == want, "{told} for {want}");
+        let told = told_of(&store.step(alloc, &step, now));
+        assert!(rt; told == want, "{told} for {want}");
     }
+}
+
+#[test]
+fn what_is_not_written_takes_no_memory(rt: HostRuntime) -> Result<(), Fail> {
+    let large = filled_block(rt.alloc(), 600000)?;
+    let mut store = full_store(rt.alloc(), large.as_slice())?;
+    writes_are_refused(&rt, rt.alloc(), &mut store, large.as_slice());
     Ok(())
 }

@@ -32,19 +32,22 @@ fn run(
     reads: usize,
     writes: usize,
 ) -> Result<(Result<(), ServeFault>, Vec<u8>), AllocError> {
-    let mut reader = Drip::failing(input, reads, ErrorKind::Other);
     let mut writer = Sip::failing(alloc, 1000, writes, ErrorKind::Other)?;
+    let ended = run_onto(alloc, input, reads, &mut writer)?;
+    Ok((ended, writer.into_taken()))
+}
+
+/// Runs a session onto a writer, and returns how it ends.
+fn run_onto(
+    alloc: Global,
+    input: &[u8],
+    reads: usize,
+    writer: &mut Sip,
+) -> Result<Result<(), ServeFault>, AllocError> {
+    let mut reader = Drip::failing(input, reads, ErrorKind::Other);
     let mut store = PlainStore::new(alloc, 64, PAGE)?;
     let clock = Fixed(Moment::from_seconds(1000));
-    let ended = serve(
-        alloc,
-        &mut reader,
-        &mut writer,
-        GREATEST,
-        &mut store,
-        &clock,
-    );
-    Ok((ended, writer.into_taken()))
+    Ok(serve(alloc, &mut reader, writer, GREATEST, &mut store, &clock))
 }
 
 /// The same, if memory may be refused before the run; a test has at most one refusal.
@@ -67,15 +70,25 @@ fn written(rt: &impl Abort, alloc: Global, input: &[u8]) -> Result<Vec<u8>, Fail
         return Ok(part);
     }
     assert!(rt; matches!(ended, Err(ServeFault::NoMemory)));
+    Ok(written_again(rt, alloc, input, part.as_slice())?)
+}
+
+/// Returns the output of a run after one that was refused memory and wrote `part`.
+fn written_again(
+    rt: &impl Abort,
+    alloc: Global,
+    input: &[u8],
+    part: &[u8],
+) -> Result<Vec<u8>, AllocError> {
     let (again, whole) = run(alloc, input, NEVER, NEVER)?;
     assert!(rt; again.is_ok());
-    assert!(rt; whole.as_slice().starts_with(part.as_slice()));
+    assert!(rt; whole.as_slice().starts_with(part));
     Ok(whole)
 }
 
 #[test]
 fn rows_are_written(rt: HostRuntime) -> Result<(), Fail> {
-    for (input, output) in SESSIONS {
+    for (input, output) in &SESSIONS {
         let out = written(&rt, rt.alloc(), input.as_bytes())?;
         assert_eq!(rt; out.as_slice(), output.as_bytes(), "at {input}");
     }
@@ -90,37 +103,68 @@ fn a_block_that_is_too_large_is_passed_over(rt: HostRuntime) -> Result<(), Fail>
     Ok(())
 }
 
+/// Checks that the output is that of a run over `came`.
+fn is_written(rt: &impl Abort, alloc: Global, came: &[u8], out: &[u8]) -> Result<(), Fail> {
+    let whole = written(rt, alloc, came)?;
+    let reads = came.len();
+    assert_eq!(rt; out, whole.as_slice(), "after {reads}");
+    Ok(())
+}
+
+/// Checks a run whose reads fail once `came` was read.
+fn is_answered_before_a_read(
+    rt: &impl Abort,
+    alloc: Global,
+    input: &[u8],
+    came: &[u8],
+    output: &[u8],
+) -> Result<(), Fail> {
+    let (ended, out) = run_once(alloc, input, came.len(), NEVER)?;
+    assert!(rt; output.starts_with(out.as_slice()));
+    if matches!(ended, Err(ServeFault::NoMemory)) {
+        return Ok(());
+    }
+    // A closed session reads no further.
+    assert!(rt; matches!(ended, Ok(()) | Err(ServeFault::Read)));
+    is_written(rt, alloc, came, out.as_slice())
+}
+
 #[test]
 fn a_failed_read_leaves_what_came_before_answered(rt: HostRuntime) -> Result<(), Fail> {
-    for (input, output) in SESSIONS {
+    for (input, output) in &SESSIONS {
         let input = input.as_bytes();
         for reads in 0..=input.len() {
             let (came, _) = input.split_at(reads);
-            let (ended, out) = run_once(rt.alloc(), input, reads, NEVER)?;
-            assert!(rt; output.as_bytes().starts_with(out.as_slice()));
-            if !matches!(ended, Err(ServeFault::NoMemory)) {
-                // A closed session reads no further.
-                assert!(rt; matches!(ended, Ok(()) | Err(ServeFault::Read)));
-                assert_eq!(rt; out, written(&rt, rt.alloc(), came)?, "after {reads}");
-            }
+            is_answered_before_a_read(&rt, rt.alloc(), input, came, output.as_bytes())?;
         }
+    }
+    Ok(())
+}
+
+/// Checks a run whose writes fail once `front` was written.
+fn is_written_before_a_write(
+    rt: &impl Abort,
+    alloc: Global,
+    input: &[u8],
+    front: &[u8],
+) -> Result<(), AllocError> {
+    let (ended, out) = run_once(alloc, input, NEVER, front.len())?;
+    if matches!(ended, Err(ServeFault::NoMemory)) {
+        assert!(rt; front.starts_with(out.as_slice()));
+    } else {
+        assert!(rt; matches!(ended, Err(ServeFault::Write)));
+        assert_eq!(rt; out.as_slice(), front);
     }
     Ok(())
 }
 
 #[test]
 fn a_failed_write_leaves_a_beginning(rt: HostRuntime) -> Result<(), Fail> {
-    for (input, output) in SESSIONS {
+    for (input, output) in &SESSIONS {
         let output = output.as_bytes();
         for writes in 0..output.len() {
             let (front, _) = output.split_at(writes);
-            let (ended, out) = run_once(rt.alloc(), input.as_bytes(), NEVER, writes)?;
-            if matches!(ended, Err(ServeFault::NoMemory)) {
-                assert!(rt; front.starts_with(out.as_slice()));
-            } else {
-                assert!(rt; matches!(ended, Err(ServeFault::Write)));
-                assert_eq!(rt; out.as_slice(), front);
-            }
+            is_written_before_a_write(&rt, rt.alloc(), input.as_bytes(), front)?;
         }
     }
     Ok(())
@@ -395,19 +439,43 @@ fn step_is_taken_by(
     after: &str,
 ) -> Result<(), AllocError> {
     asks(rt, alloc, store, "set a 0 0 1\r\n1\r\n", "STORED\r\n")?;
+    let is_taken = is_decided_behind_a_turn(rt, alloc, store, command, text)?;
+    let holds = if is_taken { after } else { BEFORE };
+    asks(rt, alloc, store, "get a\r\n", holds)
+}
+
+/// Takes the step in a session of its own, and returns whether it is decided.
+fn is_decided_behind_a_turn(
+    rt: &impl Abort,
+    alloc: Global,
+    store: &mut PlainStore,
+    command: &str,
+    text: &str,
+) -> Result<bool, AllocError> {
     let mut session = Session::new(alloc, GREATEST);
     is_fed_behind_a_turn(rt, alloc, &mut session, store, command)?;
-    let holds = match session.turn(alloc, store, Moment::from_seconds(1000)) {
+    Ok(is_decided(rt, alloc, &mut session, store, command, text))
+}
+
+/// Takes the turn that is due, and returns whether its step is decided.
+fn is_decided(
+    rt: &impl Abort,
+    alloc: Global,
+    session: &mut Session,
+    store: &mut PlainStore,
+    command: &str,
+    text: &str,
+) -> bool {
+    match session.turn(alloc, store, Moment::from_seconds(1000)) {
         Ok(_) => {
-            has_text(rt, &mut session, command, text);
-            after
+            has_text(rt, session, command, text);
+            true
         }
         Err(fault) => {
-            is_closed_by_a_fault(rt, &session, command);
-            if fault.decided { after } else { BEFORE }
+            is_closed_by_a_fault(rt, session, command);
+            fault.decided
         }
-    };
-    asks(rt, alloc, store, "get a\r\n", holds)
+    }
 }
 
 /// Feeds a command behind a turn that was taken.
@@ -441,7 +509,7 @@ fn is_closed_by_a_fault(rt: &impl Abort, session: &Session, command: &str) {
 
 #[test]
 fn a_refused_turn_tells_whether_its_step_stands(rt: HostRuntime) -> Result<(), Fail> {
-    for (command, text, after) in STEPS {
+    for (command, text, after) in &STEPS {
         if step_is_taken(&rt, rt.alloc(), command, text, after).is_err() {
             step_is_taken(&rt, rt.alloc(), command, text, after)?;
         }

@@ -8,6 +8,7 @@ use mc_testing::{Call, Calls};
 use mc_time::Moment;
 use std::alloc::{AllocError, Global};
 use std::cell::Cell;
+use std::process::Abort;
 use std::sync::atomic::{AtomicU64, Ordering};
 use std::test::*;
 
@@ -194,7 +195,6 @@ const COURSES: [Course; 6] = [
 /// The answer must also be the guest's last answer. A write must pass one byte of output, and any
 /// other answer none. The link must be told once that memory was refused, if the store refuses it.
 fn goes_as(alloc: Global, store: &mut Counting, course: &Course) -> Result<bool, AllocError> {
-    let now = Moment::from_seconds_at_most(1000);
     let seen = Cell::new((0, 0));
     let refusals = Cell::new(0);
     let link = Slow {
@@ -208,25 +208,53 @@ fn goes_as(alloc: Global, store: &mut Counting, course: &Course) -> Result<bool,
         requested: 0,
     };
     let mut guest = Guest::new(alloc, link, 1048576)?;
-    let mut goes_so = guest.last() == None;
-    for letter in course.answers.as_bytes() {
-        let (right, _) = seen.get();
-        let wrote = if *letter == b'W' { 1 } else { 0 };
-        let answer = guest.visit(alloc, store, now);
-        goes_so = goes_so
-            && letter_of(answer) == *letter
-            && guest.last() == Some(answer)
-            && seen.get() == (right.saturating_add(wrote), 0);
-    }
+    let goes_so = guest.last() == None && are_answers(alloc, &mut guest, store, course, &seen);
     let wanted = if course.is_refused { 1 } else { 0 };
     Ok(goes_so && store.asked == course.steps && refusals.get() == wanted)
 }
 
+/// Visits a guest whose link counts in `seen`, and returns whether each answer is its letter's.
+fn are_answers(
+    alloc: Global,
+    guest: &mut Guest<Slow<'_>>,
+    store: &mut Counting,
+    course: &Course,
+    seen: &Cell<(usize, usize)>,
+) -> bool {
+    for letter in course.answers.as_bytes() {
+        if !is_answer(alloc, guest, store, *letter, seen) {
+            return false;
+        }
+    }
+    true
+}
+
+/// Visits it once, and returns whether the answer is this letter's.
+fn is_answer(
+    alloc: Global,
+    guest: &mut Guest<Slow<'_>>,
+    store: &mut Counting,
+    letter: u8,
+    seen: &Cell<(usize, usize)>,
+) -> bool {
+    let (right, _) = seen.get();
+    let wrote = if letter == b'W' { 1 } else { 0 };
+    let answer = guest.visit(alloc, store, Moment::from_seconds_at_most(1000));
+    letter_of(answer) == letter
+        && guest.last() == Some(answer)
+        && seen.get() == (right.saturating_add(wrote), 0)
+}
+
+/// Returns whether a guest of a new store goes so.
+fn goes_in_a_new_store(alloc: Global, course: &Course) -> Result<bool, AllocError> {
+    let mut store = Counting::new(alloc, course.is_refused)?;
+    goes_as(alloc, &mut store, course)
+}
+
 #[test]
 fn visits_do_what_is_due(rt: HostRuntime) -> Result<(), Fail> {
-    for course in COURSES {
-        let mut store = Counting::new(rt.alloc(), course.is_refused)?;
-        assert!(rt; goes_as(rt.alloc(), &mut store, &course)?);
+    for course in &COURSES {
+        assert!(rt; goes_in_a_new_store(rt.alloc(), course)?);
     }
     Ok(())
 }
@@ -262,25 +290,42 @@ impl<'a> Link for Flood<'a> {
     }
 }
 
-#[test]
-fn a_read_that_fills_its_piece_makes_the_next_longer(rt: HostRuntime) -> Result<(), Fail> {
+/// Checks the visits of a guest whose link floods it, and notes in `length`.
+fn pieces_are_longer(
+    rt: &impl Abort,
+    alloc: Global,
+    guest: &mut Guest<Flood<'_>>,
+    store: &mut Counting,
+    length: &AtomicU64,
+) {
     let now = Moment::from_seconds_at_most(1000);
-    let mut store = Counting::new(rt.alloc(), false)?;
-    let length = AtomicU64::new(0);
-    let mut guest = Guest::new(
-        rt.alloc(),
-        Flood {
-            piece: &length,
-            was_read: false,
-            requested: 0,
-        },
-        1048576,
-    )?;
     let lengths: [u64; 3] = [2048, 16384, 16384];
     for wanted in lengths {
-        let answer = guest.visit(rt.alloc(), &mut store, now);
+        let answer = guest.visit(alloc, store, now);
         assert_eq!(rt; answer, Visit::Read);
         assert_eq!(rt; length.load(Ordering::SeqCst), wanted);
     }
+}
+
+/// The same for a new guest.
+fn pieces_of_a_flood_are_longer(
+    rt: &impl Abort,
+    alloc: Global,
+    store: &mut Counting,
+) -> Result<(), AllocError> {
+    let length = AtomicU64::new(0);
+    let link = Flood {
+        piece: &length,
+        was_read: false,
+        requested: 0,
+    };
+    let mut guest = Guest::new(alloc, link, 1048576)?;
+    pieces_are_longer(rt, alloc, &mut guest, store, &length);
     Ok(())
+}
+
+#[test]
+fn a_read_that_fills_its_piece_makes_the_next_longer(rt: HostRuntime) -> Result<(), Fail> {
+    let mut store = Counting::new(rt.alloc(), false)?;
+    Ok(pieces_of_a_flood_are_longer(&rt, rt.alloc(), &mut store)?)
 }
