@@ -257,3 +257,7 @@ drops_one old mid new drops keeps one = record {
   fewer = omega (arith, drops.fewer, one);
   few = omega (arith, drops.few, keeps.few, one);
 }
+
+-- what a sweep drops is counted
+pub counted_before : {before was after has had was' is : ℕ} → (is + after ≡ was' + before) ⊎ (is ≡ 2 ^ 64 - 1) → before ≡ had → after ≡ has → was' ≡ was → (is + has ≡ was + had) ⊎ (is ≡ 2 ^ 64 - 1)
+counted_before counted before after same = ⊎_elim (λ all. inl (omega (arith, all, before, after, same))) (λ most. inr most) counted

@@ -48,6 +48,12 @@ pub record DropsAlone (old new : ShelfCounts) : Type 0 where
   pub fewer : new.items ≤ old.items
   pub few : old.left + new.items ≤ new.left + old.items
 
+-- Each item that has gone is counted as reclaimed, or the count is the greatest number of 64 bits.
+abbrev pub AreReclaimed : (old new : ShelfState) → Type 0
+AreReclaimed old new =
+    (new.reclaimed + len new.content.items ≡ old.reclaimed + len old.content.items)
+    ⊎ (new.reclaimed ≡ 2 ^ 64 - 1)
+
 -- No growth has begun, and of the entries that are left in an old table at most so many have gone.
 pub record GoesOn (most : ℕ) (old new : ShelfCounts) : Type 0 where
   pub homes : new.homes ≡ old.homes

@@ -110,7 +110,8 @@ coded_content =
     (λ _. refl)
 
 -- A shelf: what it holds, and what moves beside it: for how many more entries there is room, how many homes the table has that
--- new entries go to, whether it grows, how many of an old table's entries are left to move then, and how many stand in no table.
+-- new entries go to, whether it grows, how many of an old table's entries are left to move then, and how many stand in no table;
+-- and how many items purges and flushes have dropped.
 pub record ShelfState : Type 0 where
   pub content : ShelfContent
   pub room : ℕ
@@ -118,19 +119,21 @@ pub record ShelfState : Type 0 where
   pub growing : Bool
   pub left : ℕ
   pub strays : ℕ
+  pub reclaimed : ℕ
 
 abbrev pub coded_shelf : Coded ShelfState
 coded_shelf =
-    code_by (ShelfContent × (ℕ × (ℕ × (Bool × (ℕ × ℕ)))))
-    (coded× coded_content (coded× coded_ℕ (coded× coded_ℕ (coded× coded_bool (coded× coded_ℕ coded_ℕ)))))
-    (λ s. (s.content, (s.room, (s.homes, (s.growing, (s.left, s.strays))))))
+    code_by (ShelfContent × (ℕ × (ℕ × (Bool × (ℕ × (ℕ × ℕ))))))
+    (coded× coded_content (coded× coded_ℕ (coded× coded_ℕ (coded× coded_bool (coded× coded_ℕ (coded× coded_ℕ coded_ℕ))))))
+    (λ s. (s.content, (s.room, (s.homes, (s.growing, (s.left, (s.strays, s.reclaimed)))))))
     (λ p. record {
       content = p.0;
       room = p.1.0;
       homes = p.1.1.0;
       growing = p.1.1.1.0;
       left = p.1.1.1.1.0;
-      strays = p.1.1.1.1.1;
+      strays = p.1.1.1.1.1.0;
+      reclaimed = p.1.1.1.1.1.1;
     })
     (λ _. refl)
 

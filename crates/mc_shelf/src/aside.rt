@@ -9,8 +9,10 @@ ghost use Rattle.std.specs.FinMap.{empty};
 ghost use Rattle.mc_protocol.specs.Plain.{item_need};
 ghost use Rattle.mc_shelf.specs.Asides.{AreOff, IsOff, count_in};
 ghost use Rattle.mc_shelf.specs.Bare.{IsBare};
+ghost use Rattle.mc_shelf.specs.Counts.{AreReclaimed};
 ghost use Rattle.mc_shelf.specs.States.{nothing_held};
 
+use crate::counts::counted_up;
 use crate::entry::Entry;
 use crate::shelf::Shelf;
 use mc_slab::{Chunks, Class};
@@ -19,21 +21,24 @@ use std::mem;
 impl Shelf {
     /// Replaces this shelf by one without items, and returns this one, to be laid aside.
     ///
-    /// The greatest charge is unchanged, and no flush is pending. It takes no memory, and the cost
-    /// doesn't grow with the items.
+    /// The greatest charge is unchanged, and no flush is pending. The items of this one count as
+    /// reclaimed. It takes no memory, and the cost doesn't grow with the items.
     pub fn emptied_by(&mut self, bare: Shelf) -> Shelf
         requires { IsBare bare }
         ensures before { result ≡ self.old }
         ensures bare { self.new.content ≡ nothing_held self.old.content.greatest }
+        ensures reclaimed { AreReclaimed self.old self.new }
     {
         let Shelf { index, .. } = bare;
         let greatest = self.greatest;
+        let reclaimed = counted_up(self.reclaimed, self.index.len(), 0);
         mem::replace(
             self,
             Shelf {
                 greatest,
                 index,
                 cut: None,
+                reclaimed,
             },
         )
     }

@@ -19,7 +19,7 @@ ghost use Rattle.mc_shelf.specs.Plans.{
   next_of,
   writes,
 };
-ghost use Rattle.mc_shelf.specs.Counts.{DropsAlone, counts_of};
+ghost use Rattle.mc_shelf.specs.Counts.{AreReclaimed, DropsAlone, counts_of};
 ghost use Rattle.mc_shelf.specs.Sweeps.{AreOut, GivesFor};
 ghost use Rattle.mc_shelf.specs.Deaths.{NoneIsDead};
 ghost use Rattle.mc_shelf.specs.Unions.{IsFlushed, lefts};
@@ -102,6 +102,7 @@ impl Shelf {
             (purged (λ key. shelf_of hash_of shelves key == at) now state)
             self.new.content desk.new }
         ensures table { DropsAlone (counts_of self.old) (counts_of self.new) }
+        ensures reclaimed { AreReclaimed self.old self.new }
     {
         self.purge(now, desk);
     }
@@ -116,6 +117,7 @@ impl Shelf {
         ensures shelf { IsFlushed delay now self.old.content self.new.content }
         ensures desk { GivesFor self.old.content.items self.new.content.items desk.old desk.new }
         ensures table { DropsAlone (counts_of self.old) (counts_of self.new) }
+        ensures reclaimed { AreReclaimed self.old self.new }
     {
         if delay == 0 {
             self.clear(desk);

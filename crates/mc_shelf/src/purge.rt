@@ -10,11 +10,12 @@ ghost use Rattle.mc_slab.specs.Classes.{IsClass};
 ghost use Rattle.mc_slab.specs.Slabs.{out_of};
 ghost use Rattle.mc_protocol.specs.Plain.{Plain};
 ghost use Rattle.mc_protocol.specs.Purge.{purged};
-ghost use Rattle.mc_shelf.specs.Counts.{DropsAlone, counts_of};
+ghost use Rattle.mc_shelf.specs.Counts.{AreReclaimed, DropsAlone, counts_of};
 ghost use Rattle.mc_shelf.specs.Parts.{GoesTo, IsDeskOf, IsShelfOf, shelf_of};
 ghost use Rattle.mc_shelf.specs.States.{ShelfContent};
 ghost use Rattle.mc_shelf.specs.Sweeps.{AreOut, BeginsPurge, GivesFor, IsPurged, TakesBack, TakesDead, count_among};
 
+use crate::counts::counted_up;
 use crate::desk::Desk;
 use crate::plan::is_gone;
 use crate::shelf::Shelf;
@@ -42,10 +43,12 @@ impl Shelf {
         ensures shelf { IsPurged now self.old.content self.new.content }
         ensures desk { GivesFor self.old.content.items self.new.content.items desk.old desk.new }
         ensures table { DropsAlone (counts_of self.old) (counts_of self.new) }
+        ensures reclaimed { AreReclaimed self.old self.new }
     {
         if !self.index.may_have_dead(self.cut, now) {
             return;
         }
+        let before = self.index.len();
         let mut soonest = Soonest::empty();
         let mut at = 0;
         while let Some((number, place)) = self.index.filled_from(at) {
@@ -59,6 +62,8 @@ impl Shelf {
             }
         }
         self.index.keep_soonest(soonest);
+        let after = self.index.len();
+        self.reclaimed = counted_up(self.reclaimed, before, after);
     }
 
     /// Removes the items that are dead at a moment, and keeps their chunks for `end_purge`.
@@ -69,6 +74,7 @@ impl Shelf {
     pub fn begin_purge(&mut self, alloc: Global, now: Moment) -> Purging
         ensures begins { BeginsPurge now self.old.content result self.new.content }
         ensures table { DropsAlone (counts_of self.old) (counts_of self.new) }
+        ensures reclaimed { AreReclaimed self.old self.new }
     {
         match Vec::with_capacity(alloc, self.len()) {
             Ok(room) => Purging::Apart(self.take_dead(now, room)),
@@ -84,8 +90,10 @@ impl Shelf {
         requires room { len self.old.content.items ≤ vec_capacity room }
         ensures took { TakesDead now self.old.content result.items self.new.content }
         ensures table { DropsAlone (counts_of self.old) (counts_of self.new) }
+        ensures reclaimed { AreReclaimed self.old self.new }
     {
         let mut chunks = room;
+        let before = self.index.len();
         let mut soonest = Soonest::empty();
         let mut at = 0;
         let mut ahead = 0;
@@ -101,6 +109,8 @@ impl Shelf {
             }
         }
         self.index.keep_soonest(soonest);
+        let left = self.index.len();
+        self.reclaimed = counted_up(self.reclaimed, before, left);
         chunks
     }
 
@@ -121,6 +131,7 @@ impl Shelf {
             (purged (λ key. shelf_of hash_of shelves key == at) now state)
             self.new.content desk.new }
         ensures table { DropsAlone (counts_of self.old) (counts_of self.new) }
+        ensures reclaimed { AreReclaimed self.old self.new }
     {
         match purging {
             Purging::Apart(chunks) => desk.take_back(chunks),

@@ -14,7 +14,7 @@ ghost use Rattle.mc_protocol.specs.declared.step.KeyStep.{KeyStep as Step};
 ghost use Rattle.mc_protocol.specs.declared.row.Row.TheVariants.{Reads};
 ghost use Rattle.mc_protocol.specs.Commands.{key_of};
 ghost use Rattle.mc_protocol.specs.Plain.{Entry as Item};
-ghost use Rattle.mc_shelf.specs.Counts.{CatchesUp, DropsAlone, FitTogether, KeepsTable, MovesFew, counts_of};
+ghost use Rattle.mc_shelf.specs.Counts.{AreReclaimed, CatchesUp, DropsAlone, FitTogether, KeepsTable, MovesFew, counts_of};
 ghost use Rattle.mc_shelf.specs.States.{CanStandAt, IsHash, nothing_held};
 ghost use Rattle.mc_shelf.specs.Numbers.{KeysAreCounted, HasPlaces};
 ghost use Rattle.mc_shelf.specs.Plans.{
@@ -51,7 +51,7 @@ ghost use Rattle.mc_shelf.specs.Plans.{
 ghost use Rattle.mc_shelf.specs.Sweeps.{AreOut, GivesFor};
 
 use crate::begun::Begun;
-use crate::counts::ShelfCounts;
+use crate::counts::{ShelfCounts, counted_up};
 use crate::desk::{Desk, Wanted};
 use crate::entry::Entry;
 use crate::exchange::Brought;
@@ -72,7 +72,8 @@ const SMALL: u64 = 493_552;
 ///
 /// Contracts see what it holds: the greatest charge, the items and the hashes under their keys, and
 /// the flush. They also see what moves: the room for further entries, the homes of the table,
-/// whether it grows, the entries of an old table that are still to be moved, and the strays.
+/// whether it grows, the entries of an old table that are still to be moved, and the strays. And
+/// they see how many items purges and flushes dropped.
 #[derive(Drop)]
 pub struct Shelf {
     /// The greatest charge of an item, in bytes, 0 to 8388608.
@@ -81,6 +82,8 @@ pub struct Shelf {
     pub(crate) index: Index,
     /// The second of the pending or past flush. Items that were updated before it die then.
     pub(crate) cut: Option<u64>,
+    /// The number of items that purges and flushes dropped, at most 2^64 - 1.
+    pub(crate) reclaimed: u64,
 }
 
 impl Model for Shelf {
@@ -105,6 +108,7 @@ impl Model for Shelf {
       growing = s.index.growing;
       left = left s.index;
       strays = length s.index.strays;
+      reclaimed = s.reclaimed;
     } };
 
     ghost invariant = { λ s. s.greatest ≤ 8388608 };
@@ -120,11 +124,13 @@ impl Shelf {
         ensures homes { IfOk result (λ shelf. shelf.homes ≡ 64) }
         ensures left { IfOk result (λ shelf. shelf.left ≡ 0) }
         ensures rests { IfOk result (λ shelf. (shelf.growing ≡ false) × (shelf.strays ≡ 0)) }
+        ensures reclaimed { IfOk result (λ shelf. shelf.reclaimed ≡ 0) }
     {
         Ok(Shelf {
             greatest,
             index: Index::new(alloc)?,
             cut: None,
+            reclaimed: 0,
         })
     }
 
@@ -404,10 +410,12 @@ impl Shelf {
             ≡ record self.old.content { items = empty; hashes = empty } }
         ensures desk { GivesFor self.old.content.items self.new.content.items desk.old desk.new }
         ensures table { DropsAlone (counts_of self.old) (counts_of self.new) }
+        ensures reclaimed { AreReclaimed self.old self.new }
     {
         if self.index.is_empty() {
             return;
         }
+        let before = self.index.len();
         let mut at = 0;
         while let Some((number, place)) = self.index.filled_from(at) {
             let entry = self.index.remove(place);
@@ -415,6 +423,8 @@ impl Shelf {
             at = number;
         }
         self.index.keep_soonest(Soonest::empty());
+        let after = self.index.len();
+        self.reclaimed = counted_up(self.reclaimed, before, after);
     }
 
     /// Sets the moment of a flush: from then on items updated before it are dead. `None` is no
@@ -455,6 +465,15 @@ impl Shelf {
         ensures fits { FitTogether result }
     {
         self.index.counts()
+    }
+
+    /// Returns the number of items that purges and flushes dropped, at most 2^64 - 1.
+    ///
+    /// An item that a step on its key dropped isn't counted.
+    pub fn reclaimed(&self) -> u64
+        ensures { result ≡ self.now.reclaimed }
+    {
+        self.reclaimed
     }
 
     /// Returns what a step at a moment does, without making room. Only a hit's block takes memory.

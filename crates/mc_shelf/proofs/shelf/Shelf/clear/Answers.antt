@@ -1,11 +1,11 @@
-use Rattle.std.proofs.Common.{arith, sym, ap, subst, ◌∙◌}
-use Rattle.mc_shelf.proofs.Common.{EntryState, IndexState, items_of, ShelfState}
+use Rattle.std.proofs.Common.{arith, inl, refl, sym, ap, subst, ◌∙◌}
+use Rattle.mc_shelf.proofs.Common.{EntryState, IndexState, items_of, len, ShelfState}
 use Rattle.mc_shelf.specs.Sweeps.{GivesFor}
 use Rattle.mc_shelf.proofs.DeathLemmas.{sooner_none}
 use Rattle.mc_shelf.proofs.ShelfLemmas.{content_of}
 use Rattle.mc_shelf.proofs.SweepLemmas.{IsNone, below_removed, cleared, entry_gives, entry_out, fewer_removed, gives_none}
 use Rattle.mc_shelf.specs.Counts.{DropsAlone, counts_in, counts_of}
-use Rattle.mc_shelf.proofs.CountLemmas.{drops_none, drops_one}
+use Rattle.mc_shelf.proofs.CountLemmas.{counted_before, drops_none, drops_one}
 use Rattle.mc_shelf.proofs.LenLemmas.{one_less}
 use Rattle.mc_shelf.proofs.shelf.Shelf.clear.Goals as goal
 
@@ -18,6 +18,7 @@ loop-number-init c = record {
       (gives_none (items_of c.self.inside.index) c.args.desk.now);
   table = subst (λ (s : ShelfState). DropsAlone (counts_of s) (counts_in c.self.inside.index)) c.self.view_is (drops_none (counts_in c.self.inside.index));
   below = λ k e lt there. absurd (omega arith);
+  reclaimed = ap (λ (s : ShelfState). s.reclaimed) c.self.view_is;
 }
 
 pub give-requires : goal.give-requires
@@ -42,6 +43,7 @@ loop-number-preserved c =
       table = drops_one (counts_of c.args.self.now) (counts_in index) (counts_in c.remove-entry.new.self) held.table c.remove-entry.ensures.table
           (one_less (items_of index) (items_of c.remove-entry.new.self) entry.key entry.item c.remove-entry.ensures.item c.remove-entry.ensures.removed.items);
       below = below_removed c.in-Some.ensures.next IsNone held.below c.remove-entry.ensures.lower;
+      reclaimed = held.reclaimed;
     }
 
 pub invariant_of-self : goal.invariant_of-self
@@ -69,3 +71,18 @@ returns-clause-table c =
 
 pub returns-then-is_empty-clause-table : goal.returns-then-is_empty-clause-table
 returns-then-is_empty-clause-table c = drops_none (counts_of c.args.self.now)
+
+-- what went is counted
+pub counted_up-self-inside-requires : goal.counted_up-self-inside-requires
+counted_up-self-inside-requires c =
+    let same = ap (λ (s : ShelfState). len s.content.items) c.self.view_is in
+    let kept = ap (λ (i : IndexState EntryState). len (items_of i)) c.keep_soonest.ensures in
+    omega (arith, c.loop-number.invariant.table.fewer, same, kept, c.len-before.ensures.count, c.len-after.ensures.count)
+
+pub returns-clause-reclaimed : goal.returns-clause-reclaimed
+returns-clause-reclaimed c =
+    counted_before c.counted_up-self-inside.ensures (c.len-before.ensures.count ∙ ap (λ (s : ShelfState). len s.content.items) c.self.view_is) c.len-after.ensures.count
+    c.loop-number.invariant.reclaimed
+
+pub returns-then-is_empty-clause-reclaimed : goal.returns-then-is_empty-clause-reclaimed
+returns-then-is_empty-clause-reclaimed c = inl refl

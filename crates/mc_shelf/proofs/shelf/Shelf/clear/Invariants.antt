@@ -13,6 +13,7 @@ invariant-loop-number l = record {
   gives : GivesFor l.fn.self.content.items (items_of l.self-inside.index) l.fn.desk l.desk;
   table : DropsAlone (counts_of l.fn.self) (counts_in l.self-inside.index);
   below : Below l.self-inside.index l.at IsNone;
+  reclaimed : l.self-inside.reclaimed ≡ l.fn.self.reclaimed;
 }
 
 abbrev pub decreases-loop-number : goal.decreases-loop-number

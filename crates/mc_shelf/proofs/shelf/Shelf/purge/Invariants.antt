@@ -1,3 +1,4 @@
+use Rattle.std.proofs.Common.{◌≡◌}
 use Rattle.mc_shelf.proofs.Common.{count_from, items_of}
 use Rattle.mc_shelf.specs.Sweeps.{GivesFor}
 use Rattle.mc_shelf.proofs.SweepLemmas.{IsSwept}
@@ -7,6 +8,7 @@ abbrev pub invariant-loop-number : goal.invariant-loop-number
 invariant-loop-number l = record {
   walk : IsSwept l.now l.fn.self l.self-inside.greatest l.self-inside.cut l.self-inside.index l.at l.soonest;
   gives : GivesFor l.fn.self.content.items (items_of l.self-inside.index) l.fn.desk l.desk;
+  reclaimed : l.self-inside.reclaimed ≡ l.fn.self.reclaimed;
 }
 
 abbrev pub decreases-loop-number : goal.decreases-loop-number

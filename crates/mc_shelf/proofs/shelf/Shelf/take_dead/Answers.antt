@@ -2,6 +2,7 @@ use Rattle.std.proofs.Common.{◌≡◌, arith, refl, sym, ap, subst, length, �
 use Rattle.mc_shelf.proofs.Common.{count_of, EntryState, IndexState, items_of, len, ShelfState}
 use Rattle.mc_shelf.specs.Sweeps.{TakesDead, count_among}
 use Rattle.mc_shelf.specs.Counts.{DropsAlone, counts_in, counts_of}
+use Rattle.mc_shelf.proofs.CountLemmas.{counted_before}
 use Rattle.mc_shelf.proofs.LenLemmas.{one_less}
 use Rattle.mc_shelf.proofs.ShelfLemmas.{content_of}
 use Rattle.mc_shelf.proofs.SweepLemmas.{counted_one, fewer_removed, swept_all, swept_gone, swept_on, swept_start}
@@ -18,6 +19,7 @@ loop-number-init c = record {
       let same = ap (λ (s : ShelfState). len s.content.items) c.self.view_is in
       let none : vec_len c.args.room ≡ 0 = c.args.room.ok.0 ∙ ap (λ l. length l) c.requires.empty in
       omega (arith, none, same, c.requires.room);
+  reclaimed = ap (λ (s : ShelfState). s.reclaimed) c.self.view_is;
 }
 
 pub push_reserved-requires : goal.push_reserved-requires
@@ -44,6 +46,7 @@ loop-number-preserved-then-is_gone c =
           c.into_chunks.result c.remove-entry.ensures.item c.remove-entry.ensures.removed.items c.into_chunks.ensures.need c.push_reserved.ensures.items class in
           omega (arith, one, held.counts class);
       room = omega (arith, less, held.room, c.push_reserved.ensures.len, c.push_reserved.ensures.capacity);
+      reclaimed = held.reclaimed;
     }
 
 pub loop-number-smaller : goal.loop-number-smaller
@@ -57,6 +60,7 @@ loop-number-preserved c =
           c.with_found-soonest.result c.with_found-soonest.ensures.others c.with_found-soonest.ensures.found;
       counts = held.counts;
       room = held.room;
+      reclaimed = held.reclaimed;
     }
 
 pub invariant_of-self : goal.invariant_of-self
@@ -76,3 +80,15 @@ returns-clause-took c =
 pub returns-clause-table : goal.returns-clause-table
 returns-clause-table c =
     subst (λ (i : IndexState EntryState). DropsAlone (counts_of c.args.self.now) (counts_in i)) (sym c.keep_soonest.ensures) c.loop-number.invariant.walk.table
+
+-- what went is counted
+pub counted_up-self-inside-requires : goal.counted_up-self-inside-requires
+counted_up-self-inside-requires c =
+    let same = ap (λ (s : ShelfState). len s.content.items) c.self.view_is in
+    let kept = ap (λ (i : IndexState EntryState). len (items_of i)) c.keep_soonest.ensures in
+    omega (arith, c.loop-number.invariant.walk.table.fewer, same, kept, c.len-before.ensures.count, c.len-left.ensures.count)
+
+pub returns-clause-reclaimed : goal.returns-clause-reclaimed
+returns-clause-reclaimed c =
+    counted_before c.counted_up-self-inside.ensures (c.len-before.ensures.count ∙ ap (λ (s : ShelfState). len s.content.items) c.self.view_is) c.len-left.ensures.count
+    c.loop-number.invariant.reclaimed
