@@ -53,6 +53,7 @@ QUERIES = [
     ("sum(memcached_slab_items_outofmemory_total)", 0),
     ("count(memcached_slab_items_outofmemory_total)", 41),
     ("memcached_items_evicted_total", 0),
+    ("memcached_items_reclaimed_total", 0),
     ("memcached_connections_rejected_total", 0),
     ("count(process_max_fds > 0)", 1),
     ("count(time() - process_start_time_seconds < 60)", 1),

@@ -40,7 +40,7 @@ def closed(reason):
 # What tables have: homes, growths that began and that run, entries that these have still to move, and strays.
 TABLES = ["mcserver_table_homes", "mcserver_growths_total", "mcserver_growths_running", "mcserver_growth_entries_left", "mcserver_stray_entries"]
 ITEMS, STORED, REFUSED = "memcached_current_items", "memcached_items_total", "mcserver_refusals_total"
-TOO_LARGE = "memcached_item_too_large_total"
+TOO_LARGE, RECLAIMED = "memcached_item_too_large_total", "memcached_items_reclaimed_total"
 HELD, BUFFERS, WAITING = "mcserver_buffer_bytes", "mcserver_buffer_limit_bytes", "mcserver_waiting_connections"
 # The ticks of a second in the system's times of a process, the bytes of a page, and those of a MiB.
 TICKS, PAGE, MIB = os.sysconf("SC_CLK_TCK"), os.sysconf("SC_PAGE_SIZE"), 1048576
@@ -138,6 +138,14 @@ def of_one_home(count):
     return list(itertools.islice((it for it in keys if hash_of(it) // 256 % 256 == 7), count))
 
 
+class TickingServer(MetricsServer):
+    """A running server whose clock goes, and where scrapes are answered."""
+
+    def __init__(self, *args, **options):
+        self.metrics = free_port()
+        Server.__init__(self, args=["--metrics", str(self.metrics), *args], **options)
+
+
 class Metrics(ProgramCase):
     def test_each_command_counts_as_what_it_is(self):
         with MetricsServer() as server, Peer(server.port) as peer:
@@ -206,6 +214,33 @@ class Metrics(ProgramCase):
     def tables(self, server):
         now = server.scrape()
         return [now[name] for name in TABLES]
+
+    def test_reclaimed_items(self):
+        """Expired items count when they are removed, one that a get finds dead doesn't, and those of a flush_all do; it never falls."""
+        with TickingServer("--shelves", "8", workers=1) as server, Peer(server.port) as peer:
+            self.assertEqual(0, server.scrape()[RECLAIMED])
+            for number in range(40):
+                peer.asks(b"set kept%d 0 0 1\r\nx\r\n" % number, b"STORED\r\n")
+            peer.asks(b"delete kept39\r\n", b"DELETED\r\n")
+            peer.send(b"".join(b"set short%d 0 1 1\r\nx\r\n" % number for number in range(500)))
+            peer.is_told(b"STORED\r\n" * 500)
+            seen = [0]
+
+            def count():
+                seen.append(server.scrape()[RECLAIMED])
+                return seen[-1]
+
+            # a worker comes to one of 8 shelves a second
+            self.assertTrue(until(lambda: count() == 500, 8 + 1 + SOON, 0.1), seen)
+            self.assertEqual(sorted(seen), seen)
+            self.assertEqual(39, server.scrape()[ITEMS])
+            peer.asks(b"flush_all\r\n", b"OK\r\n")
+            self.assertEqual([539, 0], [server.scrape()[it] for it in (RECLAIMED, ITEMS)])
+            peer.asks(b"set kept 0 0 1\r\nx\r\n", b"STORED\r\n")
+            peer.asks(b"flush_all 2\r\n", b"OK\r\n")
+            self.assertEqual(539, count())
+            self.assertTrue(until(lambda: count() == 540, 2 + 8 + 1 + SOON, 0.1), seen)
+            self.assertEqual(sorted(seen), seen)
 
     def test_refusals(self):
         """Each reply for want of a chunk counts, and as nothing else."""

@@ -53,6 +53,7 @@ figure_of reading figure.Accepted = reading.accepted
 figure_of reading figure.Most = reading.most
 figure_of reading (figure.Closed place) = number_at reading.closed.items place
 figure_of reading figure.Items = reading.tables.items
+figure_of reading figure.Reclaimed = reading.tables.reclaimed
 figure_of reading figure.Bytes = bytes_of reading.slabs.items
 figure_of reading figure.Limit = reading.limit
 figure_of reading figure.Shelves = reading.shelves
@@ -78,6 +79,7 @@ together tables others = record {
   running = sum_in_64_bits tables.running others.running;
   left = sum_in_64_bits tables.left others.left;
   strays = sum_in_64_bits tables.strays others.strays;
+  reclaimed = sum_in_64_bits tables.reclaimed others.reclaimed;
 }
 
 -- the buffers of all workers, with those of one more

@@ -84,6 +84,8 @@ pub struct TablesReading {
     pub left: u64,
     /// The entries in lists, without a bucket near their homes.
     pub strays: u64,
+    /// The items that purges and flushes dropped.
+    pub reclaimed: u64,
 }
 
 /// The size of a class of chunks.
@@ -120,6 +122,8 @@ pub enum Figure {
     /// The connections that were closed for the reason at this index.
     Closed(usize),
     Items,
+    /// The items that purges and flushes dropped.
+    Reclaimed,
     /// The bytes of the chunks that items use.
     Bytes,
     Limit,
@@ -181,6 +185,7 @@ impl Reading {
             Figure::Most => self.most,
             Figure::Closed(place) => number_at(self.closed.as_slice(), place),
             Figure::Items => self.tables.items,
+            Figure::Reclaimed => self.tables.reclaimed,
             Figure::Bytes => bytes_of(self.slabs.as_slice()),
             Figure::Limit => self.limit,
             Figure::Shelves => self.shelves,
@@ -220,6 +225,7 @@ impl TablesReading {
         running: 0,
         left: 0,
         strays: 0,
+        reclaimed: 0,
     };
 
     /// Returns the sum of two sizes; each number is at most 2^64 - 1.
@@ -233,6 +239,7 @@ impl TablesReading {
             running: self.running.saturating_add(others.running),
             left: self.left.saturating_add(others.left),
             strays: self.strays.saturating_add(others.strays),
+            reclaimed: self.reclaimed.saturating_add(others.reclaimed),
         }
     }
 }

@@ -65,6 +65,7 @@ impl<'a> StoreClient<'a> {
             return TablesReading::NONE;
         }
         let counts = self.shared.shelf_counts(rt, &mut self.caller, shelf);
+        let reclaimed = self.shared.reclaimed(rt, &mut self.caller, shelf);
         TablesReading {
             items: counts.items,
             homes: counts.homes,
@@ -72,6 +73,7 @@ impl<'a> StoreClient<'a> {
             running: u64::from(counts.growing),
             left: counts.left,
             strays: counts.strays,
+            reclaimed,
         }
     }
 

@@ -28,6 +28,13 @@ impl<'a, K: KeyHash + Drop> AtShelf<'a, K> {
     {
         self.shelf.counts()
     }
+
+    /// Returns the number of items that purges and flushes of the shelf dropped.
+    fn reclaimed(&self) -> u64
+        ensures { result ≡ self.now.shelf.reclaimed }
+    {
+        self.shelf.reclaimed()
+    }
 }
 
 impl<'a, K: KeyHash + Drop> AtBoth<'a, K> {
@@ -66,6 +73,22 @@ fn shelf_counts_for<K: KeyHash + Drop, R: Wait>(
     (hold.give_back(), counts)
 }
 
+/// Returns the reclaimed items of a shelf for a caller, and the caller. Nothing is decided.
+fn reclaimed_for<K: KeyHash + Drop, R: Wait>(
+    caller: Caller,
+    asked: (&Shared<K>, &R, u32),
+) -> (Caller, u64)
+    requires own { caller.table ≡ asked.0.now.table }
+    requires inside { asked.2 < asked.0.now.began.settings.shelves }
+    ensures same { result.0 ≡ caller }
+    ensures agrees { Agrees (start_of K.hash_of asked.entry.0.now.began) caller.past }
+{
+    let (shared, rt, at) = asked;
+    let hold = shared.wait_for_shelf(rt, caller, at);
+    let reclaimed = hold.reclaimed();
+    (hold.give_back(), reclaimed)
+}
+
 /// Returns the account of a class for a caller, and the caller. Nothing is decided.
 fn account_for<K: KeyHash + Drop, R: Wait>(
     caller: Caller,
@@ -102,6 +125,19 @@ impl<K: KeyHash + Drop> Shared<K> {
             result }
     {
         replace_with(caller, (self, rt, shelf), shelf_counts_for)
+    }
+
+    /// Returns the number of items that purges and flushes of a shelf dropped, when it was held.
+    ///
+    /// It is at most 2^64 - 1 and never falls. It waits for the shelf. Nothing is decided, no item
+    /// is walked, and it takes no memory.
+    pub fn reclaimed<R: Wait>(&self, rt: &R, caller: &mut Caller, shelf: u32) -> u64
+        requires own { caller.old.table ≡ self.now.table }
+        requires shelf { shelf < self.now.began.settings.shelves }
+        ensures same { (caller.new.table ≡ caller.old.table) × (caller.new.past ≡ caller.old.past) }
+        ensures agrees { Agrees (start_of K.hash_of self.now.began) caller.new.past }
+    {
+        replace_with(caller, (self, rt, shelf), reclaimed_for)
     }
 
     /// Returns the pages of a class, and how many of its chunks items use, when the desk was held.

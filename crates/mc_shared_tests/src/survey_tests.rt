@@ -35,6 +35,14 @@ fn account_of<R: Wait>(rt: &R, shared: &Shared<Fnv>, caller: &mut Caller, class:
     shared.account(rt, caller, class)
 }
 
+/// Returns the number of reclaimed items of a key's shelf. The caller's past is unchanged.
+fn reclaimed_beside<R: Wait>(rt: &R, shared: &Shared<Fnv>, caller: &mut Caller, key: &[u8]) -> u64
+    requires { caller.old.table ≡ shared.now.table }
+    ensures { caller.new ≡ caller.old }
+{
+    shared.reclaimed(rt, caller, shared.shelf_of(key))
+}
+
 /// Returns the number of items of a key's shelf, if its table has 64 homes, else 0.
 fn items<R: Wait>(sole: &mut Sole<'_, R, Fnv>, key: &[u8]) -> u64 {
     let Sole { rt, shared, caller } = sole;
@@ -134,6 +142,68 @@ fn items_and_chunks_are_counted(rt: HostRuntime) -> Result<(), Fail> {
     for (settings, wanted) in &ROWS {
         let told = told_by(&rt, rt.alloc(), *settings)?;
         assert!(rt; told == Some(*wanted));
+    }
+    Ok(())
+}
+
+/// Returns the number of reclaimed items of the shelves of `a` and `k`.
+fn reclaimed<R: Wait>(sole: &mut Sole<'_, R, Fnv>) -> [u64; 2] {
+    let Sole { rt, shared, caller } = sole;
+    let first = reclaimed_beside(*rt, shared, caller, b"a");
+    [first, reclaimed_beside(*rt, shared, caller, b"k")]
+}
+
+/// Calls, and the number of items reclaimed after each of the shelves of `a` and `k`.
+///
+/// The first numbers are those of a store with one shelf, which both keys have. A step that finds
+/// its key's item dead drops it, and it isn't counted.
+const DROPS: [(Row, [u64; 2], [u64; 2]); 10] = [
+    (FIRST, [0, 0], [0, 0]),
+    (SECOND, [0, 0], [0, 0]),
+    ((1009, b"a", Act::Tidy), [0, 0], [0, 0]),
+    (TIDY, [1, 1], [1, 0]),
+    (AGAIN, [1, 1], [1, 0]),
+    ((1015, b"a", Act::Told(Ask::Get, "miss")), [1, 1], [1, 0]),
+    ((1015, b"a", Act::Tidy), [1, 1], [1, 0]),
+    (LATER, [1, 1], [1, 0]),
+    ((1020, b"k", Act::Tidy), [2, 2], [1, 1]),
+    (LAST, [2, 2], [1, 1]),
+];
+
+/// An item that is dead at 1015, a flush at 1020, and an item that lives on.
+const AGAIN: Row = (
+    1010,
+    b"a",
+    Act::Told(Ask::Store(Verb::Set, 5, b"x"), "stored"),
+);
+
+const LATER: Row = (1015, b"", Act::Told(Ask::Flush(5), "flushed"));
+
+const LAST: Row = (
+    1020,
+    b"a",
+    Act::Told(Ask::Store(Verb::Set, 0, b"x"), "stored"),
+);
+
+/// Drops all items.
+const FLUSH: Row = (1020, b"", Act::Told(Ask::Flush(0), "flushed"));
+
+/// Returns whether the calls have their results and numbers, and a flush of one item counts it.
+fn are_counted<R: Wait>(sole: &mut Sole<'_, R, Fnv>, alloc: Global, has_one: bool) -> bool {
+    for (row, of_one, of_many) in &DROPS {
+        let wanted = if has_one { *of_one } else { *of_many };
+        if !sole.is_told(alloc, row) || reclaimed(sole) != wanted {
+            return false;
+        }
+    }
+    sole.is_told(alloc, &FLUSH) && reclaimed(sole) == if has_one { [3, 3] } else { [2, 1] }
+}
+
+#[test]
+fn items_that_purges_and_flushes_drop_are_counted(rt: HostRuntime) -> Result<(), Fail> {
+    for (settings, has_one) in [(ONE, true), (SOME, false), (MANY, false)] {
+        let mut sole = Sole::open(&rt, rt.alloc(), settings, Fnv)?;
+        assert!(rt; are_counted(&mut sole, rt.alloc(), has_one));
     }
     Ok(())
 }

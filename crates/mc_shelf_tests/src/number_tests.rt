@@ -1,7 +1,7 @@
 //! The number of items of a shelf, and of its keys by number, the hash modulo 4096.
 
 use crate::lengths::{ByLength, front};
-use crate::seen::{counts, dead_chunks, keys};
+use crate::seen::{counts, dead_chunks, keys, reclaimed};
 use crate::stores::open_with;
 use mc_hop::{Constant, KeyHash};
 use mc_protocol::Verb;
@@ -57,6 +57,38 @@ fn a_shelf_counts_its_items(rt: HostRuntime) -> Result<(), Fail> {
             has.1,
             row.0
         );
+    }
+    Ok(())
+}
+
+/// Keys of one hash, on the first shelf. A dead item that a step on its key drops isn't counted.
+#[test]
+fn items_that_purges_and_flushes_drop_are_counted(rt: HostRuntime) -> Result<(), Fail> {
+    // The number of dropped items after each row, and after a purge at its second if there is one.
+    let rows: [(Row<'_>, bool, u64); 14] = [
+        (set(1000, b"a", 0, b"x", "stored"), false, 0),
+        (set(1000, b"b", 10, b"x", "stored"), false, 0),
+        (set(1000, b"c", 5, b"x", "stored"), false, 0),
+        (set(1000, b"d", 5, b"x", "stored"), true, 0),
+        ((1005, b"e", Ask::Get, Want::Told("miss")), true, 2),
+        ((1005, b"a", Ask::Delete, Want::Told("deleted")), true, 2),
+        ((1010, b"b", Ask::Get, Want::Told("miss")), true, 2),
+        (set(1010, b"a", 5, b"x", "stored"), true, 2),
+        (set(1015, b"a", 0, b"x", "stored"), true, 2),
+        (set(1015, b"b", 0, b"x", "stored"), true, 2),
+        ((1015, b"", Ask::Flush(5), Want::Told("flushed")), true, 2),
+        ((1020, b"e", Ask::Get, Want::Told("miss")), true, 4),
+        (set(1020, b"a", 0, b"x", "stored"), true, 4),
+        ((1020, b"", Ask::Flush(0), Want::Told("flushed")), true, 5),
+    ];
+    let alloc = rt.alloc();
+    let mut store = open_with(alloc, 64, Constant(5056))?;
+    for (row, purges, want) in rows {
+        assert_eq!(rt; first_unlike(&mut store, alloc, &[row])?, None);
+        purge_at(&mut store, row.0, purges);
+        let (same, count) = reclaimed(store);
+        store = same;
+        assert!(rt; count == Some(want), "not {want} at {}", row.0);
     }
     Ok(())
 }

@@ -71,6 +71,16 @@ pub(crate) fn keys<K: KeyHash + Drop>(store: Store<K>, number: usize) -> (Store<
     (Store::from_parts(parts), has)
 }
 
+/// Returns the number of items of the first shelf that purges and flushes dropped.
+pub(crate) fn reclaimed<K: KeyHash + Drop>(store: Store<K>) -> (Store<K>, Option<u64>) {
+    let parts = store.into_parts();
+    let count = match parts.shelves.first() {
+        Some(shelf) => Some(shelf.reclaimed()),
+        None => None,
+    };
+    (Store::from_parts(parts), count)
+}
+
 /// Begins a purge of a shelf, and returns the chunks of its dead items.
 ///
 /// It tries again if memory is refused, and returns none after the second refusal.

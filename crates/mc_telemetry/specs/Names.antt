@@ -44,6 +44,7 @@ name_of figure.Accepted = codes "memcached_connections_total"
 name_of figure.Most = codes "memcached_max_connections"
 name_of (figure.Closed place) = closed_name place
 name_of figure.Items = codes "memcached_current_items"
+name_of figure.Reclaimed = codes "memcached_items_reclaimed_total"
 name_of figure.Bytes = codes "memcached_current_bytes"
 name_of figure.Limit = codes "memcached_limit_bytes"
 name_of figure.Shelves = codes "mcserver_shelves"

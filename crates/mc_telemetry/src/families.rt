@@ -76,7 +76,7 @@ const REASONS: &[(&str, Figure)] = &[
 ];
 
 /// The metrics of a page, in this order.
-pub const FAMILIES: [Family; 41] = [
+pub const FAMILIES: [Family; 42] = [
     Family(
         Gauge,
         "memcached_up",
@@ -148,6 +148,12 @@ pub const FAMILIES: [Family; 41] = [
         "memcached_items_evicted_total",
         "Items removed to make room: always 0, since a full store refuses.",
         One(Figure::Zero),
+    ),
+    Family(
+        Counter,
+        "memcached_items_reclaimed_total",
+        "Expired or flushed items whose memory was given back without a command on their key.",
+        One(Figure::Reclaimed),
     ),
     Family(
         Gauge,
