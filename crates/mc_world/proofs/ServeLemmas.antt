@@ -249,11 +249,13 @@ module _ {K : Type 0} (hash_of : K → List ℕ → ℕ) where
     lost_of {old = old} {new = new} few served (no_turn now fewer small gives (refused, told)) = let tells : TellsUntil old (Clock now ∷ []) refused.decided (Turn n) new =
         λ plain stands. let moved : PlainWorld = record plain { now = now } in (moved, (moved, refl, refl), (until_only told).told moved (moment_stands {old = old} now stands)) in
         let goes : GoesOn old (Clock now ∷ Turn n ∷ []) new = (told.settings, told.hasher, (old.left, refl, chain.alone EventMoves (Turn n) old.left new.left (until_only told).moves)) in
-        let refusal = refused_turn now gives (record { world = old; told = served.told; room = small }) in (Clock now ∷ [], Turn n, 1, refused.decided, refusal, omega (arith, fewer), tt, refl, tells, goes)
+        let refusal = refused_turn now gives (record { world = old; told = served.told; room = small }) in
+        (Clock now ∷ [], Turn n, 1, refused.decided, refusal, omega (arith, fewer), tt, refl, tells, goes)
     lost_of {old = old} {new = new} few served (no_piece bytes some short idle (refused, told)) =
         let tells : TellsUntil old [] refused.decided (Piece n bytes) new = λ plain stands. (plain, refl, (until_only told).told plain stands) in
         let goes : GoesOn old (Piece n bytes ∷ []) new = (told.settings, told.hasher, chain.alone EventMoves (Piece n bytes) old.left new.left (until_only told).moves) in
-        let refusal = refused_piece bytes some short (record { world = old; told = served.told; idle = idle }) in ([], Piece n bytes, 0, refused.decided, refusal, omega (arith, few), tt, refl, tells, goes)
+        let refusal = refused_piece bytes some short (record { world = old; told = served.told; idle = idle }) in
+        ([], Piece n bytes, 0, refused.decided, refusal, omega (arith, few), tt, refl, tells, goes)
 
 -- A whole run: the worlds before it, after the opening, after the rounds and after the close, and the seat after the rounds.
 pub record Ran {K : Type 0} (hash_of : K → List ℕ → ℕ) (may_give : ℕ → Type 0) (w0 w2 w3 : WorldState K) (s : Seat) (r0 r1 o0 o1 : Option (List ℕ)) : Type 0 where
