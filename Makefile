@@ -23,7 +23,7 @@ ARGS ?=
 JOBS ?= $(shell nproc)
 MINUTES ?= 30
 
-.PHONY: build try bench-build run test check crate rows history fmt bench bench-tcp bench-waiting clean
+.PHONY: build try bench-build run test check crate rows history fmt bench bench-tcp bench-waiting bench-instructions clean
 .PHONY: docs docs-check where test-clients test-scaling test-metrics test-package test-containers soak man install uninstall deb is-built thin
 
 # Proves the program and what is below it, and builds it (build.py tells how far it is). It is run once, for --help, which ends it at once. What is
@@ -96,6 +96,10 @@ bench: build bench-build
 # Over TCP beside memcached, turn about: make bench-tcp OPTIONS="--quick --only get"
 bench-tcp: build
 	@python3 bench/tcp.py $(OPTIONS)
+
+# The instructions of a request over TCP, by valgrind: make bench-instructions OPTIONS="--now 1000"
+bench-instructions: build
+	@python3 bench/instructions.py $(OPTIONS)
 
 # How long polite clients wait beside others, with memcached beside it: make bench-waiting OPTIONS="--quick --only flush"
 bench-waiting: build
