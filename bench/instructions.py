@@ -3,7 +3,7 @@
 
 Each count is a run of many requests less a run of a quarter of them, so that the start and the end of the server go. The server has one worker
 and 12 connections, of which one at a time asks, by a sequence that is the same in each run. Keys have 32 bytes, blocks 100. With --now the server
-reads no clock; by the system's clock two runs differ by up to 1 %.
+reads no clock. Compare figures of this client alone: by another one the same get counted 5,511 instructions, and 7,055 by this; why isn't known.
 
     bench/instructions.py [--program PATH] [--now N] [--requests N]
 """
@@ -64,7 +64,7 @@ def answers(port):
 
 
 def exchange(link, sent, wanted):
-    """Asks, and ends the program unless the answer is the wanted one. It pauses first: without callgrind a server is at rest then."""
+    """Asks, and ends the program unless the answer is the wanted one. It pauses first, so that the server is at rest."""
     time.sleep(PAUSE)
     link.sendall(sent)
     got = link.recv(len(wanted), socket.MSG_WAITALL)
