@@ -12,14 +12,10 @@ ghost use Rattle.mc_bytes.specs.Queues.{twice};
 
 use crate::append::Append;
 use crate::source::Source;
+use crate::spares::{self, Spares};
 use std::alloc::{AllocError, Global};
 use std::marker::Model;
-
-/// A larger allocation, in bytes, is a mapping of its own, and is shrunk before it is freed.
-const LARGE: usize = 4_194_304;
-
-/// The size in bytes to which it is shrunk.
-const SMALL: usize = 4096;
+use std::mem;
 
 /// Bytes, and room behind them for sources. Contracts see the bytes, and the reserved memory.
 #[derive(Drop)]
@@ -29,6 +25,8 @@ pub struct Buffer {
     /// The number of bytes. The content of the room is unspecified: zeros, or what a source once
     /// wrote.
     filled: usize,
+    /// Where large buffers come from and go to, if anywhere.
+    spares: Option<Spares>,
 }
 
 impl Model for Buffer {
@@ -43,17 +41,18 @@ impl Model for Buffer {
 }
 
 impl Buffer {
-    ghost use Rattle.std.specs.Prelude.{◌≡◌, ◌+◌, ◌-◌, ◌<◌, ◌≤◌, [], ◌++◌, drop, length, max, OnOk, OnErr, IfOk};
+    ghost use Rattle.std.specs.Prelude.{◌≡◌, ◌+◌, ◌-◌, ◌<◌, ◌≤◌, [], ◌++◌, drop, length, max, IsTrue, IsFalse, OnOk, OnErr, IfOk};
     ghost use Rattle.mc_bytes.specs.Sources.{Brings};
     ghost use Rattle.mc_bytes.specs.Queues.{twice};
 
-    /// Makes an empty buffer. It takes no memory.
-    pub fn new(alloc: Global) -> Buffer
+    /// Makes an empty buffer, which takes large memory from these spares. It takes no memory.
+    pub fn new(alloc: Global, spares: Option<Spares>) -> Buffer
         ensures { result ≡ record { bytes = []; reserved = 0 } }
     {
         Buffer {
             all: Vec::new(alloc),
             filled: 0,
+            spares,
         }
     }
 
@@ -95,8 +94,15 @@ impl Buffer {
         Ok(())
     }
 
-    /// Appends a text. An error leaves the bytes unchanged.
-    pub fn append<T: Append>(&mut self, text: &T, alloc: Global) -> Result<(), AllocError>
+    /// Appends a text, whose largest part has `bytes` bytes. An error leaves the bytes unchanged.
+    ///
+    /// An empty buffer takes a spare of the text's size, if there is one.
+    pub fn append<T: Append>(
+        &mut self,
+        text: &T,
+        bytes: usize,
+        alloc: Global,
+    ) -> Result<(), AllocError>
         requires { T.can_append text.now }
         ensures ok { OnOk result (self.new.bytes ≡ self.old.bytes ++ T.bytes text.now) }
         ensures err { OnErr result (self.new.bytes ≡ self.old.bytes) }
@@ -104,6 +110,9 @@ impl Buffer {
             (self.new.reserved ≤ max self.old.reserved (twice (length self.new.bytes))) }
     {
         let reserved = self.all.capacity();
+        if self.filled == 0 && bytes > reserved {
+            self.take_spare(bytes, twice(bytes));
+        }
         self.all.truncate(self.filled);
         text.append_to(&mut self.all)?;
         tighten(&mut self.all, reserved, alloc)?;
@@ -137,13 +146,35 @@ impl Buffer {
         }
     }
 
-    /// Reserves memory for exactly `more` bytes, if there is some.
-    pub fn reserve(&mut self, more: usize)
+    /// Reserves memory for exactly `more` bytes, if there is some, or takes a spare with room for
+    /// them and at most `most` bytes.
+    pub fn reserve(&mut self, more: usize, most: usize)
         ensures same { self.new.bytes ≡ self.old.bytes }
-        ensures grown { self.new.reserved ≤ max self.old.reserved (length self.old.bytes + more) }
+        ensures grown { self.new.reserved
+            ≤ max self.old.reserved (max (length self.old.bytes + more) most) }
     {
-        let room = self.all.len() - self.filled;
-        let _ = self.all.reserve_exact(more.saturating_sub(room));
+        let wanted = self.filled.saturating_add(more);
+        if wanted <= self.all.capacity() || !self.take_spare(wanted, most) {
+            let room = self.all.len() - self.filled;
+            let _ = self.all.reserve_exact(more.saturating_sub(room));
+        }
+    }
+
+    /// Moves the bytes into a spare with `least` to `most` bytes of memory, and returns whether there
+    /// was one.
+    fn take_spare(&mut self, least: usize, most: usize) -> bool
+        ensures same { self.new.bytes ≡ self.old.bytes }
+        ensures taken { IsTrue result → self.new.reserved ≤ most }
+        ensures none { IsFalse result → self.new.reserved ≡ self.old.reserved }
+    {
+        let Some(spares) = &self.spares else {
+            return false;
+        };
+        let Some(spare) = spares.take(self.filled, least, most) else {
+            return false;
+        };
+        self.all = with_front(spare, self.as_slice());
+        true
     }
 
     /// Drops the first `front` bytes. What is left must not be longer than the front.
@@ -165,7 +196,8 @@ impl Buffer {
         self.filled = 0;
     }
 
-    /// Frees the memory if the buffer is empty and has more than `kept` bytes of it.
+    /// Frees the memory if the buffer is empty and has more than `kept` bytes of it. Large memory
+    /// becomes a spare.
     pub fn give_back(&mut self, kept: usize, alloc: Global)
         ensures same { self.new.bytes ≡ self.old.bytes }
         ensures small { length self.new.bytes ≡ 0 → self.new.reserved ≤ kept }
@@ -173,21 +205,26 @@ impl Buffer {
         ensures some { 0 < length self.old.bytes → self.new.reserved ≡ self.old.reserved }
     {
         if self.filled == 0 && self.all.capacity() > kept {
-            make_small(&mut self.all);
-            self.all = Vec::new(alloc);
+            let all = mem::replace(&mut self.all, Vec::new(alloc));
+            match &self.spares {
+                Some(spares) => spares.keep(all),
+                None => spares::free(all),
+            }
         }
     }
 }
 
-/// Shrinks a large allocation whose bytes are no longer wanted.
-///
-/// The C library caches freed allocations up to the size of the largest mapping that was freed
-/// whole, and twice as many bytes for each thread.
-fn make_small(all: &mut Vec<u8>) {
-    if all.capacity() > LARGE {
-        all.clear();
-        all.shrink_to(SMALL);
-    }
+/// Writes bytes over the front of a spare.
+fn with_front(spare: Vec<u8>, front: &[u8]) -> Vec<u8>
+    requires { length front.now ≤ length spare.items }
+    ensures front { take (length front.now) result.items ≡ front.now }
+    ensures long { length result.items ≡ length spare.items }
+    ensures reserved { vec_capacity result ≡ vec_capacity spare }
+{
+    let mut spare = spare;
+    let (onto, _) = spare.as_mut_slice().split_at_mut(front.len());
+    onto.copy_from_slice(front);
+    spare
 }
 
 /// Copies an append's bytes to memory of their length if it reserved more than it may.

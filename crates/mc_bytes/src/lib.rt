@@ -6,7 +6,7 @@
 //!
 //! A [`Buffer`] has bytes and room behind them. A [`Queue`] is a buffer with a count of consumed
 //! bytes. A [`Source`] writes into a queue's room, so a piece is read where it will stay. A text
-//! appends itself as a value of [`Append`].
+//! appends itself as a value of [`Append`]. [`Spares`] are large buffers between two uses.
 //!
 //! Contracts see a queue as the bytes that aren't consumed, the number of bytes in its memory, with
 //! consumed ones in front of them, and the number of bytes reserved. They promise exactly which
@@ -23,8 +23,10 @@ mod append;
 mod buffer;
 mod queue;
 mod source;
+mod spares;
 
 pub use append::Append;
 pub use buffer::Buffer;
 pub use queue::{FIRST_PIECE, Queue};
 pub use source::Source;
+pub use spares::Spares;

@@ -7,9 +7,13 @@
 //! not by a closure: a closure that captures a lent `Command` has the unit type as its
 //! postcondition.
 
+ghost use Rattle.std.specs.Prelude.{◌≤◌};
+ghost use Rattle.mc_bytes.specs.Queues.{begun};
+
 use crate::append::Append;
 use crate::buffer::Buffer;
 use crate::source::Source;
+use crate::spares::Spares;
 use std::alloc::{AllocError, Global};
 use std::marker::Model;
 
@@ -59,9 +63,18 @@ impl<const KEPT: usize> Queue<KEPT> {
     pub fn new(alloc: Global) -> Queue<KEPT>
         ensures { result ≡ nothing_held }
     {
+        Queue::with_spares(alloc, None)
+    }
+
+    /// Makes an empty queue that takes large memory from these spares, and gives it back to them.
+    ///
+    /// It takes no memory.
+    pub fn with_spares(alloc: Global, spares: Option<Spares>) -> Queue<KEPT>
+        ensures { result ≡ nothing_held }
+    {
         Queue {
             alloc,
-            buffer: Buffer::new(alloc),
+            buffer: Buffer::new(alloc, spares),
             taken: 0,
         }
     }
@@ -185,8 +198,22 @@ impl<const KEPT: usize> Queue<KEPT> {
         ensures half { OnOk result (IsHalfFull self.new) }
         ensures grown { OnOk result (IsGrown self.old self.new) }
     {
+        self.append_sized(text, 0)
+    }
+
+    /// Appends a text as `append` does. An empty queue takes a spare of the text's size, if there is
+    /// one.
+    ///
+    /// `bytes` is the size of the text's largest part. It decides nothing else.
+    pub fn append_sized<T: Append>(&mut self, text: &T, bytes: usize) -> Result<(), AllocError>
+        requires { T.can_append text.now }
+        ensures ok { OnOk result (self.new.bytes ≡ self.old.bytes ++ T.bytes text.now) }
+        ensures err { OnErr result (self.new.bytes ≡ self.old.bytes) }
+        ensures half { OnOk result (IsHalfFull self.new) }
+        ensures grown { OnOk result (IsGrown self.old self.new) }
+    {
         self.close_up();
-        let result = self.buffer.append(text, self.alloc);
+        let result = self.buffer.append(text, bytes, self.alloc);
         self.buffer.give_back(KEPT, self.alloc);
         result
     }
@@ -253,8 +280,17 @@ impl<const KEPT: usize> Queue<KEPT> {
         let there = self.len();
         if KEPT < whole && whole / SHARE <= there && there < whole {
             let missing = (whole - there).saturating_add(BEHIND);
-            self.buffer.reserve(missing);
+            self.buffer.reserve(missing, begun(there));
         }
         self.buffer.give_back(KEPT, self.alloc);
     }
+}
+
+/// Returns the memory in bytes for a text, a sixteenth of which is there.
+fn begun(there: usize) -> usize
+    ensures { result ≤ begun there }
+{
+    there
+        .saturating_mul(SHARE + 1)
+        .saturating_add(BEHIND + SHARE - 1)
 }
