@@ -7,7 +7,7 @@
 use crate::ahead::Ahead;
 use crate::cursor::{Cursor, cursor_after};
 use crate::peek::Peek;
-use mc_bytes::{Queue, Source};
+use mc_bytes::{Queue, Source, Spares};
 use mc_protocol::LineFault;
 use std::alloc::{AllocError, Global};
 use std::marker::Model;
@@ -53,10 +53,20 @@ impl Feed {
     pub fn new(alloc: Global, greatest: u64) -> Feed
         ensures { result ≡ record { greatest = greatest; passed = 0; bytes = [] } }
     {
+        Feed::with_spares(alloc, greatest, None)
+    }
+
+    /// Makes an empty feed that takes the memory of large blocks from these spares, and gives it
+    /// back to them.
+    ///
+    /// It takes no memory.
+    pub fn with_spares(alloc: Global, greatest: u64, spares: Option<Spares>) -> Feed
+        ensures { result ≡ record { greatest = greatest; passed = 0; bytes = [] } }
+    {
         Feed {
             greatest,
             passed: 0,
-            unread: Queue::new(alloc),
+            unread: Queue::with_spares(alloc, spares),
             cursor: None,
             ahead: Ahead::none(),
         }

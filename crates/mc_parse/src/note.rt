@@ -5,7 +5,7 @@
 
 ghost use Rattle.std.specs.Prelude.{◌≡◌, ◌≤◌, ◌+◌, ◌<◌, ℕ, List, length, take};
 ghost use Rattle.std.specs.Result.{IfOk};
-ghost use Rattle.mc_protocol.specs.Commands.{block_in, retrieval_in};
+ghost use Rattle.mc_protocol.specs.Commands.{block_in, retrieval_in, HasBlock};
 ghost use Rattle.mc_parse.specs.Units.{with_block, IsLine};
 ghost use Rattle.mc_parse.specs.Peeks.{unit_of, FindsSpelled, MissesNone, StaysWhole};
 ghost use Rattle.mc_parse.specs.Cursors.{IsFirstCursor};
@@ -80,36 +80,7 @@ pub fn lend<'a>(noted: &Noted, text: &'a [u8], block: &'a [u8]) -> Command<'a>
     ensures { result ≡ with_block (read text.now noted.now) block.now }
 {
     match *noted {
-        CommandOf::Store {
-            verb,
-            key,
-            flags,
-            exptime,
-            quiet,
-            ..
-        } => CommandOf::Store {
-            verb,
-            key: key.lend(text),
-            flags,
-            exptime,
-            block: Bytes::of(block),
-            quiet,
-        },
-        CommandOf::Cas {
-            key,
-            flags,
-            exptime,
-            unique,
-            quiet,
-            ..
-        } => CommandOf::Cas {
-            key: key.lend(text),
-            flags,
-            exptime,
-            block: Bytes::of(block),
-            unique,
-            quiet,
-        },
+        CommandOf::Store { .. } | CommandOf::Cas { .. } => lend_stored(noted, text, block),
         CommandOf::Get { keys, with_unique } => CommandOf::Get {
             keys: keys.lend(text),
             with_unique,
@@ -144,6 +115,48 @@ pub fn lend<'a>(noted: &Noted, text: &'a [u8], block: &'a [u8]) -> Command<'a>
         },
         CommandOf::FlushAll { delay, quiet } => CommandOf::FlushAll { delay, quiet },
         CommandOf::Lone(lone) => CommandOf::Lone(lone),
+    }
+}
+
+/// Returns a command with a block as `lend` does.
+#[inline]
+fn lend_stored<'a>(noted: &Noted, text: &'a [u8], block: &'a [u8]) -> Command<'a>
+    requires { HasBlock (with_block (read text.now noted.now) block.now) }
+    ensures { result ≡ with_block (read text.now noted.now) block.now }
+{
+    let block = Bytes::of(block);
+    match *noted {
+        CommandOf::Store {
+            verb,
+            key,
+            flags,
+            exptime,
+            quiet,
+            ..
+        } => CommandOf::Store {
+            verb,
+            key: key.lend(text),
+            flags,
+            exptime,
+            block,
+            quiet,
+        },
+        CommandOf::Cas {
+            key,
+            flags,
+            exptime,
+            unique,
+            quiet,
+            ..
+        } => CommandOf::Cas {
+            key: key.lend(text),
+            flags,
+            exptime,
+            block,
+            unique,
+            quiet,
+        },
+        _ => unreachable!(),
     }
 }
 
