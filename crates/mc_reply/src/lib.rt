@@ -26,5 +26,6 @@ mod retrieval;
 mod text;
 mod texts;
 
+pub use retrieval::length_of;
 pub use text::Text;
 pub use texts::{write, write_fault, write_hit, write_plain, write_spent, write_too_long};

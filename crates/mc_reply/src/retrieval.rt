@@ -84,7 +84,7 @@ fn end_of(count: usize, at: usize) -> &'static [u8]
 }
 
 /// Returns the number of bytes of parts, at most 2^64 - 1.
-fn length_of(parts: &[Bytes<'_>]) -> usize
+pub fn length_of(parts: &[Bytes<'_>]) -> usize
     ensures { result ≡ min (length (concat parts.now)) 18446744073709551615 }
 {
     let mut counted = 0_usize;
