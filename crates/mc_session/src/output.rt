@@ -1,6 +1,6 @@
 //! The output of a session.
 
-use mc_bytes::{Append, Queue};
+use mc_bytes::{Append, Queue, Spares};
 use std::alloc::{AllocError, Global};
 use std::marker::Model;
 
@@ -25,12 +25,13 @@ impl Output {
     ghost use Rattle.std.specs.Prelude.{◌≡◌, ◌≤◌, [], ◌++◌, drop, length, OnOk, OnErr};
     ghost use Rattle.mc_bytes.specs.Queues.{first_piece};
 
-    /// Makes an empty output. It takes no memory.
-    pub fn new(alloc: Global) -> Output
+    /// Makes an empty output, which takes the memory of large texts from these spares. It takes no
+    /// memory.
+    pub fn new(alloc: Global, spares: Option<Spares>) -> Output
         ensures { result ≡ [] }
     {
         Output {
-            queue: Queue::new(alloc),
+            queue: Queue::with_spares(alloc, spares),
         }
     }
 
@@ -50,6 +51,18 @@ impl Output {
         ensures err { OnErr result (self.new ≡ self.old) }
     {
         self.queue.append(text)
+    }
+
+    /// Appends a text as `append` does, into a spare if it is large and there is one of its size.
+    ///
+    /// `bytes` is the size of the text's largest part.
+    #[inline]
+    pub fn append_sized<T: Append>(&mut self, text: &T, bytes: usize) -> Result<(), AllocError>
+        requires { T.can_append text.now }
+        ensures ok { OnOk result (self.new ≡ self.old ++ T.bytes text.now) }
+        ensures err { OnErr result (self.new ≡ self.old) }
+    {
+        self.queue.append_sized(text, bytes)
     }
 
     /// Drops the first `n` bytes, which were written. It moves nothing.

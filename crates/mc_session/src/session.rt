@@ -9,7 +9,7 @@ ghost use Rattle.mc_session.specs.Turns.{SessionState};
 use crate::after_turn::AfterTurn;
 use crate::answer::answer;
 use crate::output::Output;
-use mc_bytes::Source;
+use mc_bytes::{Source, Spares};
 use mc_parse::{Feed, Peek};
 use mc_protocol::{Command, Steps};
 use mc_time::Moment;
@@ -91,10 +91,20 @@ impl Session {
     pub fn new(alloc: Global, greatest: u64) -> Session
         ensures { result ≡ opened greatest }
     {
+        Session::with_spares(alloc, greatest, None)
+    }
+
+    /// Makes a session that takes the memory of large blocks and texts from these spares, and gives
+    /// it back to them.
+    ///
+    /// It takes no memory.
+    pub fn with_spares(alloc: Global, greatest: u64, spares: Option<&Spares>) -> Session
+        ensures { result ≡ opened greatest }
+    {
         Session {
-            feed: Feed::new(alloc, greatest),
+            feed: Feed::with_spares(alloc, greatest, Spares::another(spares)),
             taken: 0,
-            out: Output::new(alloc),
+            out: Output::new(alloc, Spares::another(spares)),
             is_open: true,
         }
     }
@@ -214,6 +224,16 @@ impl Session {
         ensures { IsTrue result ↔ IsFalse self.now.is_open }
     {
         !self.is_open
+    }
+
+    /// Returns whether there are no unread bytes and no output.
+    pub fn is_empty(&self) -> bool
+        ensures unread { IsTrue result → length self.now.unread.bytes ≡ 0 }
+        ensures out { IsTrue result → length self.now.out ≡ 0 }
+        ensures all { length self.now.unread.bytes ≡ 0 → length self.now.out ≡ 0 → IsTrue result }
+    {
+        let (unread, unsent) = (self.feed.held(), self.out.as_slice().len());
+        unread == 0 && unsent == 0
     }
 
     /// Returns how many bytes of output are in memory: those not written, and written ones before

@@ -9,7 +9,7 @@ ghost use Rattle.mc_protocol.specs.Commands.{steps};
 
 use crate::output::Output;
 use mc_protocol::{Answer, Bytes, Command, Reply};
-use mc_reply::Text;
+use mc_reply::{Text, length_of};
 use std::alloc::AllocError;
 
 /// A command that takes a step.
@@ -34,12 +34,13 @@ impl<'a> Answer for Teller<'a> {
         × (new.out.now ≡ old.out.now ++ reply_text old.asked.now.command.now 0 reply) };
 
     fn hit(&mut self, flags: u32, unique: u64, parts: &[Bytes<'_>]) -> Result<(), AllocError> {
-        self.out.append(&Text::Hit {
+        let text = Text::Hit {
             command: self.asked.command,
             flags,
             unique,
             parts,
-        })
+        };
+        self.out.append_sized(&text, length_of(parts))
     }
 
     fn reply(&mut self, reply: &Reply) -> Result<(), AllocError> {

@@ -32,6 +32,8 @@ mod rows_tests;
 #[cfg(test)]
 mod session_tests;
 #[cfg(test)]
+mod spares_tests;
+#[cfg(test)]
 mod visit_tests;
 #[cfg(test)]
 mod waiting_tests;

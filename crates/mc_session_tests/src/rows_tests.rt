@@ -27,17 +27,94 @@ fn is_answered(store: &mut PlainStore, alloc: Global, row: Row<'_>) -> bool {
     is_wanted(&ask_step(store, alloc, &step, now), want)
 }
 
-/// Returns the place of the first row with an unexpected answer. No key is read before its step.
-fn first_unread(store: &mut PlainStore, alloc: Global, rows: &[Row<'_>]) -> Option<usize> {
-    for (at, row) in rows.iter().enumerate() {
-        if !is_answered(store, alloc, *row) {
+/// A step without its key, and its expected answer. A block is given by its length.
+#[derive(Clone, Copy)]
+enum Act {
+    /// A set: the exptime, the length and the reply.
+    Set(i64, usize, &'static str),
+    /// A read that finds an item: its unique number and its length.
+    Hit(u64, usize),
+    /// A step without such a block.
+    Small(Ask<'static>, Want<'static>),
+}
+
+/// The second, the key and the step. All blocks are fronts of one that a test makes once.
+type Play = (u64, &'static [u8], Act);
+
+/// Lends the first `len` bytes, at most all.
+fn part(bytes: &[u8], len: usize) -> &[u8] {
+    let (part, _) = bytes.split_at(len.min(bytes.len()));
+    part
+}
+
+/// Returns the row of a play whose block is a front of these bytes.
+fn row_of<'a>(play: &Play, bytes: &'a [u8]) -> Row<'a> {
+    let (seconds, key, act) = *play;
+    match act {
+        Act::Set(exptime, len, want) => set(seconds, key, exptime, part(bytes, len), want),
+        Act::Hit(unique, len) => (seconds, key, Ask::Get, Want::Hit(unique, part(bytes, len))),
+        Act::Small(ask, want) => (seconds, key, ask, want),
+    }
+}
+
+/// Returns the first unexpected answer with its second, as `first_unlike`.
+fn first_wrong(
+    store: &mut PlainStore,
+    alloc: Global,
+    bytes: &[u8],
+    plays: &[Play],
+) -> Result<Option<(u64, &'static str)>, StepFault> {
+    for play in plays {
+        let wrong = first_unlike(store, alloc, &[row_of(play, bytes)])?;
+        if wrong.is_some() {
+            return Ok(wrong);
+        }
+    }
+    Ok(None)
+}
+
+/// Returns the place of the first play with an unexpected answer. No key is read before its step.
+fn first_unread(
+    store: &mut PlainStore,
+    alloc: Global,
+    bytes: &[u8],
+    plays: &[Play],
+) -> Option<usize> {
+    for (at, play) in plays.iter().enumerate() {
+        if !is_answered(store, alloc, row_of(play, bytes)) {
             return Some(at);
         }
     }
     None
 }
 
-/// Checks that a new store with these pages and this greatest charge answers each row as expected.
+/// Checks bytes.
+fn are_bytes(rt: &impl Abort, has: &[u8], expected: &[u8]) {
+    assert_eq!(rt; has, expected);
+}
+
+/// Checks that no play has an unexpected answer.
+fn is_none(rt: &impl Abort, wrong: Option<usize>) {
+    assert_eq!(rt; wrong, None);
+}
+
+/// Checks that there is no unexpected answer.
+fn is_expected(rt: &impl Abort, unlike: Option<(u64, &'static str)>) {
+    assert_eq!(rt; unlike, None);
+}
+
+/// Checks that a store answers each row as expected.
+fn answers_in(
+    rt: &impl Abort,
+    alloc: Global,
+    store: &mut PlainStore,
+    rows: &[Row<'_>],
+) -> Result<(), Fail> {
+    is_expected(rt, first_unlike(store, alloc, rows)?);
+    Ok(())
+}
+
+/// The same for a new store with these pages and this greatest charge.
 fn answers(
     rt: &impl Abort,
     alloc: Global,
@@ -49,222 +126,249 @@ fn answers(
     requires greatest { greatest ≤ 8388608 }
 {
     let mut store = PlainStore::new(alloc, pages, greatest)?;
-    assert_eq!(rt; first_unlike(&mut store, alloc, rows)?, None);
+    answers_in(rt, alloc, &mut store, rows)
+}
+
+/// Checks that a store answers each play as expected.
+fn plays_in(
+    rt: &impl Abort,
+    alloc: Global,
+    store: &mut PlainStore,
+    bytes: &[u8],
+    plays: &[Play],
+) -> Result<(), Fail> {
+    is_expected(rt, first_wrong(store, alloc, bytes, plays)?);
     Ok(())
+}
+
+/// The same for a new store with these pages and this greatest charge.
+fn plays_out(
+    rt: &impl Abort,
+    alloc: Global,
+    pages: u32,
+    greatest: u64,
+    bytes: &[u8],
+    plays: &[Play],
+) -> Result<(), Fail>
+    requires pages { (1 ≤ pages) × (pages ≤ 65536) }
+    requires greatest { greatest ≤ 8388608 }
+{
+    let mut store = PlainStore::new(alloc, pages, greatest)?;
+    plays_in(rt, alloc, &mut store, bytes, plays)
 }
 
 /// The same for a store of one page, if no key is read before its step.
-fn answers_unread(rt: &impl Abort, alloc: Global, rows: &[Row<'_>]) -> Result<(), Fail> {
+fn plays_unread(rt: &impl Abort, alloc: Global, bytes: &[u8], plays: &[Play]) -> Result<(), Fail> {
     let mut store = PlainStore::new(alloc, 1, 1048576)?;
-    assert_eq!(rt; first_unread(&mut store, alloc, rows), None);
+    is_none(rt, first_unread(&mut store, alloc, bytes, plays));
     Ok(())
 }
 
+const STORED: Want<'static> = Want::Told("stored");
+
+const NOT_FOUND: Want<'static> = Want::Told("not found");
+
+const MISS: Want<'static> = Want::Told("miss");
+
+const NO_CHUNK: Want<'static> = Want::Told("no chunk");
+
+const FLUSHED: Want<'static> = Want::Told("flushed");
+
+const X: Ask<'static> = Ask::Store(Verb::Set, 0, b"x");
+
+const Y: Ask<'static> = Ask::Store(Verb::Set, 0, b"y");
+
+static EXPTIMES: [Row<'static>; 6] = [
+    (1000, b"a", Ask::Store(Verb::Set, 2592000, b"x"), STORED),
+    (1000, b"b", Ask::Store(Verb::Set, 2592001, b"y"), STORED),
+    (2592000, b"b", Ask::Get, Want::Hit(2, b"y")),
+    (2592001, b"b", Ask::Get, MISS),
+    (2592999, b"a", Ask::Get, Want::Hit(1, b"x")),
+    (2593000, b"a", Ask::Get, MISS),
+];
+
 #[test]
 fn exptimes_up_to_30_days_count_from_now(rt: HostRuntime) -> Result<(), Fail> {
-    let rows: [Row<'_>; 6] = [
-        set(1000, b"a", 2592000, b"x", "stored"),
-        set(1000, b"b", 2592001, b"y", "stored"),
-        (2592000, b"b", Ask::Get, Want::Hit(2, b"y")),
-        (2592001, b"b", Ask::Get, Want::Told("miss")),
-        (2592999, b"a", Ask::Get, Want::Hit(1, b"x")),
-        (2593000, b"a", Ask::Get, Want::Told("miss")),
-    ];
-    answers(&rt, rt.alloc(), 64, 1048576, &rows)
+    answers(&rt, rt.alloc(), 64, 1048576, &EXPTIMES)
 }
+
+static FLUSHES: [Row<'static>; 8] = [
+    (1000, b"a", Ask::Flush(10), FLUSHED),
+    (1005, b"a", X, STORED),
+    (1009, b"a", Ask::Get, Want::Hit(1, b"x")),
+    (1010, b"a", Ask::Get, MISS),
+    (1010, b"b", Y, STORED),
+    (1011, b"b", Ask::Get, Want::Hit(2, b"y")),
+    (1011, b"b", Ask::Flush(0), FLUSHED),
+    (1011, b"b", Ask::Get, MISS),
+];
 
 #[test]
 fn a_flush_comes_after_its_delay(rt: HostRuntime) -> Result<(), Fail> {
-    let rows: [Row<'_>; 8] = [
-        (1000, b"a", Ask::Flush(10), Want::Told("flushed")),
-        set(1005, b"a", 0, b"x", "stored"),
-        (1009, b"a", Ask::Get, Want::Hit(1, b"x")),
-        (1010, b"a", Ask::Get, Want::Told("miss")),
-        set(1010, b"b", 0, b"y", "stored"),
-        (1011, b"b", Ask::Get, Want::Hit(2, b"y")),
-        (1011, b"b", Ask::Flush(0), Want::Told("flushed")),
-        (1011, b"b", Ask::Get, Want::Told("miss")),
-    ];
-    answers(&rt, rt.alloc(), 64, 1048576, &rows)
+    answers(&rt, rt.alloc(), 64, 1048576, &FLUSHES)
 }
+
+const NOT_STORED: Want<'static> = Want::Told("not stored");
+
+static CONDITIONS: [Row<'static>; 12] = [
+    (1000, b"a", Ask::Store(Verb::Append, 0, b"x"), NOT_STORED),
+    (1000, b"a", Ask::Cas(1, b"y"), NOT_FOUND),
+    (1000, b"a", Ask::Store(Verb::Set, 0, b"b"), STORED),
+    (1000, b"a", Ask::Store(Verb::Append, 0, b"c"), STORED),
+    (1000, b"a", Ask::Store(Verb::Prepend, 0, b"a"), STORED),
+    (1000, b"a", Ask::Get, Want::Hit(3, b"abc")),
+    (1000, b"a", Ask::Store(Verb::Add, 0, b"d"), NOT_STORED),
+    (1000, b"a", Ask::Store(Verb::Replace, 0, b"e"), STORED),
+    (1000, b"a", Ask::Cas(4, b"y"), STORED),
+    (1000, b"a", Ask::Cas(4, b"z"), Want::Told("exists")),
+    (1000, b"a", Ask::Get, Want::Hit(5, b"y")),
+    (1000, b"b", Ask::Store(Verb::Add, -1, b"x"), STORED),
+];
 
 #[test]
 fn storage_commands_store_on_their_condition(rt: HostRuntime) -> Result<(), Fail> {
-    let rows: [Row<'_>; 12] = [
-        (
-            1000,
-            b"a",
-            Ask::Store(Verb::Append, 0, b"x"),
-            Want::Told("not stored"),
-        ),
-        (1000, b"a", Ask::Cas(1, b"y"), Want::Told("not found")),
-        set(1000, b"a", 0, b"b", "stored"),
-        (
-            1000,
-            b"a",
-            Ask::Store(Verb::Append, 0, b"c"),
-            Want::Told("stored"),
-        ),
-        (
-            1000,
-            b"a",
-            Ask::Store(Verb::Prepend, 0, b"a"),
-            Want::Told("stored"),
-        ),
-        (1000, b"a", Ask::Get, Want::Hit(3, b"abc")),
-        (
-            1000,
-            b"a",
-            Ask::Store(Verb::Add, 0, b"d"),
-            Want::Told("not stored"),
-        ),
-        (
-            1000,
-            b"a",
-            Ask::Store(Verb::Replace, 0, b"e"),
-            Want::Told("stored"),
-        ),
-        (1000, b"a", Ask::Cas(4, b"y"), Want::Told("stored")),
-        (1000, b"a", Ask::Cas(4, b"z"), Want::Told("exists")),
-        (1000, b"a", Ask::Get, Want::Hit(5, b"y")),
-        (
-            1000,
-            b"b",
-            Ask::Store(Verb::Add, -1, b"x"),
-            Want::Told("stored"),
-        ),
-    ];
-    answers(&rt, rt.alloc(), 64, 1048576, &rows)
+    answers(&rt, rt.alloc(), 64, 1048576, &CONDITIONS)
 }
+
+static TOUCHES: [Row<'static>; 10] = [
+    (1000, b"a", Ask::Touch(0), NOT_FOUND),
+    (1000, b"a", X, STORED),
+    (1000, b"a", Ask::Gat(10), Want::Hit(1, b"x")),
+    (1009, b"a", Ask::Get, Want::Hit(1, b"x")),
+    (1009, b"a", Ask::Touch(-1), Want::Told("touched")),
+    (1009, b"a", Ask::Get, MISS),
+    (1009, b"a", Ask::Delete, NOT_FOUND),
+    (1009, b"a", X, STORED),
+    (1009, b"a", Ask::Delete, Want::Told("deleted")),
+    (1009, b"a", Ask::Gat(0), MISS),
+];
 
 #[test]
 fn touches_set_the_expiry_and_deletes_remove(rt: HostRuntime) -> Result<(), Fail> {
-    let rows: [Row<'_>; 10] = [
-        (1000, b"a", Ask::Touch(0), Want::Told("not found")),
-        set(1000, b"a", 0, b"x", "stored"),
-        (1000, b"a", Ask::Gat(10), Want::Hit(1, b"x")),
-        (1009, b"a", Ask::Get, Want::Hit(1, b"x")),
-        (1009, b"a", Ask::Touch(-1), Want::Told("touched")),
-        (1009, b"a", Ask::Get, Want::Told("miss")),
-        (1009, b"a", Ask::Delete, Want::Told("not found")),
-        set(1009, b"a", 0, b"x", "stored"),
-        (1009, b"a", Ask::Delete, Want::Told("deleted")),
-        (1009, b"a", Ask::Gat(0), Want::Told("miss")),
-    ];
-    answers(&rt, rt.alloc(), 64, 1048576, &rows)
+    answers(&rt, rt.alloc(), 64, 1048576, &TOUCHES)
 }
+
+const MOST: Ask<'static> = Ask::Store(Verb::Set, 0, b"18446744073709551615");
+
+static COUNTS: [Row<'static>; 7] = [
+    (1000, b"n", Ask::Incr(1), NOT_FOUND),
+    (1000, b"n", MOST, STORED),
+    (1000, b"n", Ask::Incr(1), Want::Number(0)),
+    (1000, b"n", Ask::Decr(5), Want::Number(0)),
+    (1000, b"n", Ask::Get, Want::Hit(3, b"0")),
+    (1000, b"n", Ask::Store(Verb::Set, 0, b"12x"), STORED),
+    (1000, b"n", Ask::Incr(1), Want::Told("not numeric")),
+];
 
 #[test]
 fn counts_wrap_up_and_stop_at_zero(rt: HostRuntime) -> Result<(), Fail> {
-    let rows: [Row<'_>; 7] = [
-        (1000, b"n", Ask::Incr(1), Want::Told("not found")),
-        set(1000, b"n", 0, b"18446744073709551615", "stored"),
-        (1000, b"n", Ask::Incr(1), Want::Number(0)),
-        (1000, b"n", Ask::Decr(5), Want::Number(0)),
-        (1000, b"n", Ask::Get, Want::Hit(3, b"0")),
-        set(1000, b"n", 0, b"12x", "stored"),
-        (1000, b"n", Ask::Incr(1), Want::Told("not numeric")),
-    ];
-    answers(&rt, rt.alloc(), 64, 1048576, &rows)
+    answers(&rt, rt.alloc(), 64, 1048576, &COUNTS)
 }
+
+const TOO_LARGE: Want<'static> = Want::Told("too large");
+
+/// A charge is 48 bytes, the key and the block.
+static LARGE: [Row<'static>; 3] = [
+    (1000, b"a", X, STORED),
+    (1000, b"a", Ask::Store(Verb::Append, 0, b"y"), TOO_LARGE),
+    (1000, b"a", Ask::Get, Want::Hit(1, b"x")),
+];
 
 #[test]
 fn what_is_too_large_is_not_written(rt: HostRuntime) -> Result<(), Fail> {
-    // A charge is 48 bytes, the key and the block.
-    let rows: [Row<'_>; 3] = [
-        set(1000, b"a", 0, b"x", "stored"),
-        (
-            1000,
-            b"a",
-            Ask::Store(Verb::Append, 0, b"y"),
-            Want::Told("too large"),
-        ),
-        (1000, b"a", Ask::Get, Want::Hit(1, b"x")),
-    ];
-    answers(&rt, rt.alloc(), 64, 50, &rows)
+    answers(&rt, rt.alloc(), 64, 50, &LARGE)
 }
 
 // A page has one chunk for a charge above 493552 bytes, and this store has one page.
 
+const HALF: usize = 600000;
+
+static FULL: [Play; 7] = [
+    (1000, b"a", Act::Set(0, HALF, "stored")),
+    (1000, b"b", Act::Small(X, NO_CHUNK)),
+    (1000, b"a", Act::Set(0, HALF, "no chunk")),
+    (1000, b"a", Act::Hit(1, HALF)),
+    (1000, b"a", Act::Small(Ask::Delete, Want::Told("deleted"))),
+    (1000, b"b", Act::Small(X, NO_CHUNK)),
+    (1000, b"b", Act::Set(0, HALF, "stored")),
+];
+
 #[test]
 fn a_full_chunk_is_not_written_over(rt: HostRuntime) -> Result<(), Fail> {
-    let large = filled_block(rt.alloc(), 600000)?;
-    let large = large.as_slice();
-    let rows: [Row<'_>; 7] = [
-        set(1000, b"a", 0, large, "stored"),
-        set(1000, b"b", 0, b"x", "no chunk"),
-        set(1000, b"a", 0, large, "no chunk"),
-        (1000, b"a", Ask::Get, Want::Hit(1, large)),
-        (1000, b"a", Ask::Delete, Want::Told("deleted")),
-        set(1000, b"b", 0, b"x", "no chunk"),
-        set(1000, b"b", 0, large, "stored"),
-    ];
-    answers(&rt, rt.alloc(), 1, 1048576, &rows)
+    let bytes = filled_block(rt.alloc(), HALF)?;
+    plays_out(&rt, rt.alloc(), 1, 1048576, bytes.as_slice(), &FULL)
 }
+
+static DEAD: [Play; 8] = [
+    (1000, b"a", Act::Set(10, HALF, "stored")),
+    (1010, b"b", Act::Set(0, HALF, "no chunk")),
+    (1010, b"a", Act::Set(10, HALF, "stored")),
+    (1010, b"a", Act::Hit(2, HALF)),
+    // A write without a chunk for its class also drops the key's dead item.
+    (1020, b"a", Act::Small(X, NO_CHUNK)),
+    (1020, b"b", Act::Set(0, HALF, "stored")),
+    (1020, b"b", Act::Small(Ask::Flush(0), FLUSHED)),
+    (1020, b"a", Act::Set(0, HALF, "stored")),
+];
 
 /// No key is read before its step, so each set of `a` meets the dead item itself.
 #[test]
 fn the_dead_hold_their_chunks_until_they_are_dropped(rt: HostRuntime) -> Result<(), Fail> {
-    let large = filled_block(rt.alloc(), 600000)?;
-    let large = large.as_slice();
-    let rows: [Row<'_>; 8] = [
-        set(1000, b"a", 10, large, "stored"),
-        set(1010, b"b", 0, large, "no chunk"),
-        set(1010, b"a", 10, large, "stored"),
-        (1010, b"a", Ask::Get, Want::Hit(2, large)),
-        // A write without a chunk for its class also drops the key's dead item.
-        set(1020, b"a", 0, b"x", "no chunk"),
-        set(1020, b"b", 0, large, "stored"),
-        (1020, b"b", Ask::Flush(0), Want::Told("flushed")),
-        set(1020, b"a", 0, large, "stored"),
-    ];
-    answers_unread(&rt, rt.alloc(), &rows)
+    let bytes = filled_block(rt.alloc(), HALF)?;
+    plays_unread(&rt, rt.alloc(), bytes.as_slice(), &DEAD)
 }
+
+/// 48 bytes, a key of 47 and a block of 1 are the 96 bytes of the first class's chunks.
+const LONG: &[u8] = b"a key of as many bytes as leave room for one, 0";
+
+static LENGTHENED: [Row<'static>; 5] = [
+    (1000, LONG, Ask::Store(Verb::Set, 0, b"9"), STORED),
+    (1000, LONG, Ask::Incr(1), NO_CHUNK),
+    (1000, LONG, Ask::Get, Want::Hit(1, b"9")),
+    (1000, LONG, Ask::Decr(9), Want::Number(0)),
+    (1000, LONG, Ask::Get, Want::Hit(2, b"0")),
+];
 
 #[test]
 fn a_number_asks_room_where_its_class_changes(rt: HostRuntime) -> Result<(), Fail> {
-    // 48 bytes, a key of 47 and a block of 1 are the 96 bytes of the first class's chunks.
-    let key = b"a key of as many bytes as leave room for one, 0";
-    let rows: [Row<'_>; 5] = [
-        set(1000, key, 0, b"9", "stored"),
-        (1000, key, Ask::Incr(1), Want::Told("no chunk")),
-        (1000, key, Ask::Get, Want::Hit(1, b"9")),
-        (1000, key, Ask::Decr(9), Want::Number(0)),
-        (1000, key, Ask::Get, Want::Hit(2, b"0")),
-    ];
-    answers(&rt, rt.alloc(), 1, 1048576, &rows)
+    answers(&rt, rt.alloc(), 1, 1048576, &LENGTHENED)
 }
 
 // Above 1048576 bytes an item takes the fewest whole pages that hold it, up to 8388608.
 
+const TWO: usize = 2000000;
+
+const THREE: usize = 3000000;
+
+/// 48 bytes, a key of 1 and this block are a page.
+const ONE: usize = 1048527;
+
+static PAGES: [Play; 7] = [
+    (1000, b"b", Act::Set(0, THREE, "stored")),
+    (1000, b"s", Act::Small(X, NO_CHUNK)),
+    (1000, b"b", Act::Set(0, THREE, "no chunk")),
+    (1000, b"b", Act::Small(Ask::Delete, Want::Told("deleted"))),
+    (1000, b"c", Act::Set(0, TWO, "stored")),
+    (1000, b"d", Act::Set(0, ONE, "stored")),
+    (1000, b"e", Act::Set(0, ONE, "no chunk")),
+];
+
 #[test]
 fn large_items_take_whole_pages(rt: HostRuntime) -> Result<(), Fail> {
-    let three = filled_block(rt.alloc(), 3000000)?;
-    let two = filled_block(rt.alloc(), 2000000)?;
-    // 48 bytes, a key of 1 and this block are a page.
-    let one = filled_block(rt.alloc(), 1048527)?;
-    let rows: [Row<'_>; 7] = [
-        set(1000, b"b", 0, three.as_slice(), "stored"),
-        set(1000, b"s", 0, b"x", "no chunk"),
-        set(1000, b"b", 0, three.as_slice(), "no chunk"),
-        (1000, b"b", Ask::Delete, Want::Told("deleted")),
-        set(1000, b"c", 0, two.as_slice(), "stored"),
-        set(1000, b"d", 0, one.as_slice(), "stored"),
-        set(1000, b"e", 0, one.as_slice(), "no chunk"),
-    ];
-    answers(&rt, rt.alloc(), 3, 8388608, &rows)
+    let bytes = filled_block(rt.alloc(), THREE)?;
+    plays_out(&rt, rt.alloc(), 3, 8388608, bytes.as_slice(), &PAGES)
 }
+
+static EIGHT_PAGES: [Play; 3] = [
+    (1000, b"k", Act::Set(0, 8388559, "stored")),
+    (1000, b"k", Act::Set(0, 8388560, "too large")),
+    (1000, b"s", Act::Small(X, NO_CHUNK)),
+];
 
 #[test]
 fn the_largest_item_takes_eight_pages(rt: HostRuntime) -> Result<(), Fail> {
-    let most = filled_block(rt.alloc(), 8388559)?;
-    let more = filled_block(rt.alloc(), 8388560)?;
-    let rows: [Row<'_>; 3] = [
-        set(1000, b"k", 0, most.as_slice(), "stored"),
-        set(1000, b"k", 0, more.as_slice(), "too large"),
-        set(1000, b"s", 0, b"x", "no chunk"),
-    ];
-    answers(&rt, rt.alloc(), 8, 8388608, &rows)
+    let bytes = filled_block(rt.alloc(), 8388560)?;
+    plays_out(&rt, rt.alloc(), 8, 8388608, bytes.as_slice(), &EIGHT_PAGES)
 }
 
 /// Returns a number of `len` bytes: a 7, and spaces behind it. It allocates twice if memory is
@@ -280,61 +384,88 @@ fn spaced(alloc: Global, len: usize) -> Result<Vec<u8>, AllocError> {
     Ok(bytes)
 }
 
+// The blocks below are fronts of a number of this kind.
+
+static COUNTED: [Play; 6] = [
+    (1000, b"n", Act::Set(0, TWO, "stored")),
+    (1000, b"n", Act::Small(Ask::Incr(1), Want::Number(8))),
+    (1000, b"n", Act::Small(Ask::Get, Want::Hit(2, b"8"))),
+    (1000, b"a", Act::Set(0, HALF, "stored")),
+    (1000, b"b", Act::Set(0, HALF, "stored")),
+    (1000, b"c", Act::Set(0, HALF, "no chunk")),
+];
+
 #[test]
 fn a_long_number_gives_its_pages_back_where_it_is_counted(rt: HostRuntime) -> Result<(), Fail> {
-    let number = spaced(rt.alloc(), 2000000)?;
-    let large = filled_block(rt.alloc(), 600000)?;
-    let rows: [Row<'_>; 6] = [
-        set(1000, b"n", 0, number.as_slice(), "stored"),
-        (1000, b"n", Ask::Incr(1), Want::Number(8)),
-        (1000, b"n", Ask::Get, Want::Hit(2, b"8")),
-        set(1000, b"a", 0, large.as_slice(), "stored"),
-        set(1000, b"b", 0, large.as_slice(), "stored"),
-        set(1000, b"c", 0, large.as_slice(), "no chunk"),
-    ];
-    answers(&rt, rt.alloc(), 3, 8388608, &rows)
+    let number = spaced(rt.alloc(), TWO)?;
+    plays_out(&rt, rt.alloc(), 3, 8388608, number.as_slice(), &COUNTED)
 }
+
+static NOT_COUNTED: [Play; 3] = [
+    (1000, b"n", Act::Set(0, TWO, "stored")),
+    (1000, b"n", Act::Small(Ask::Incr(1), NO_CHUNK)),
+    (1000, b"n", Act::Hit(1, TWO)),
+];
 
 #[test]
 fn a_long_number_asks_room_where_it_is_counted(rt: HostRuntime) -> Result<(), Fail> {
-    let number = spaced(rt.alloc(), 2000000)?;
-    let rows: [Row<'_>; 3] = [
-        set(1000, b"n", 0, number.as_slice(), "stored"),
-        (1000, b"n", Ask::Incr(1), Want::Told("no chunk")),
-        (1000, b"n", Ask::Get, Want::Hit(1, number.as_slice())),
-    ];
-    answers(&rt, rt.alloc(), 2, 8388608, &rows)
+    let number = spaced(rt.alloc(), TWO)?;
+    plays_out(&rt, rt.alloc(), 2, 8388608, number.as_slice(), &NOT_COUNTED)
 }
 
-/// Returns a store of one page with an item `a` of this block, and a greatest charge of 700000.
-fn full_store(alloc: Global, block: &[u8]) -> Result<PlainStore, StepFault> {
-    let mut store = PlainStore::new(alloc, 1, 700000)?;
+/// Sets `a` to a block.
+fn set_a(store: &mut PlainStore, alloc: Global, block: &[u8]) -> Result<(), StepFault> {
     let step = step_of(b"a", Ask::Store(Verb::Set, 0, block));
-    let _ = ask_step(&mut store, alloc, &step, Moment::from_seconds_at_most(1000))?;
-    Ok(store)
+    let _ = ask_step(store, alloc, &step, Moment::from_seconds_at_most(1000))?;
+    Ok(())
 }
+
+/// Takes a step once, and returns the name of its reply.
+fn told_at_once(store: &mut PlainStore, alloc: Global, key: &[u8], ask: Ask<'_>) -> &'static str {
+    if key.len() > 250 {
+        return "too long a key";
+    }
+    let step = step_of(key, ask);
+    told_of(&store.step(alloc, &step, Moment::from_seconds_at_most(1000)))
+}
+
+/// Storage commands that a full store refuses, by the lengths of their blocks, and its replies.
+static REFUSED: [(&[u8], Verb, usize, &str); 4] = [
+    (b"a", Verb::Append, HALF, "too large"),
+    (b"a", Verb::Prepend, HALF, "too large"),
+    (b"a", Verb::Append, 1, "no chunk"),
+    (b"b", Verb::Set, 1, "no chunk"),
+];
 
 /// Checks what it is told of writes that it can't make, each of which is tried once.
-fn writes_are_refused(rt: &impl Abort, alloc: Global, store: &mut PlainStore, large: &[u8]) {
-    let asks: [(&[u8], Ask<'_>, &'static str); 4] = [
-        (b"a", Ask::Store(Verb::Append, 0, large), "too large"),
-        (b"a", Ask::Store(Verb::Prepend, 0, large), "too large"),
-        (b"a", Ask::Store(Verb::Append, 0, b"x"), "no chunk"),
-        (b"b", Ask::Store(Verb::Set, 0, b"x"), "no chunk"),
-    ];
-    for (key, ask, want) in asks {
-        assert!(rt; key.len() <= 250);
-        let step = step_of(key, ask);
-        let now = Moment::from_seconds_at_most(1000);
-        let told = told_of(&store.step(alloc, &step, now));
-        assert!(rt; told == want, "{told} for {want}");
+fn writes_are_refused(rt: &impl Abort, alloc: Global, store: &mut PlainStore, bytes: &[u8]) {
+    for (key, verb, len, want) in &REFUSED {
+        let told = told_at_once(store, alloc, key, Ask::Store(*verb, 0, part(bytes, *len)));
+        are_bytes(rt, told.as_bytes(), want.as_bytes());
     }
+}
+
+/// The same for a store of one page that has an item `a` of all bytes, and a greatest charge of
+/// 700000.
+fn full_store_refuses(rt: &impl Abort, alloc: Global, bytes: &[u8]) -> Result<(), Fail> {
+    let mut store = PlainStore::new(alloc, 1, 700000)?;
+    full_one_refuses(rt, alloc, &mut store, bytes)
+}
+
+/// The same for that store while it is empty.
+fn full_one_refuses(
+    rt: &impl Abort,
+    alloc: Global,
+    store: &mut PlainStore,
+    bytes: &[u8],
+) -> Result<(), Fail> {
+    set_a(store, alloc, bytes)?;
+    writes_are_refused(rt, alloc, store, bytes);
+    Ok(())
 }
 
 #[test]
 fn what_is_not_written_takes_no_memory(rt: HostRuntime) -> Result<(), Fail> {
-    let large = filled_block(rt.alloc(), 600000)?;
-    let mut store = full_store(rt.alloc(), large.as_slice())?;
-    writes_are_refused(&rt, rt.alloc(), &mut store, large.as_slice());
-    Ok(())
+    let bytes = filled_block(rt.alloc(), HALF)?;
+    full_store_refuses(&rt, rt.alloc(), bytes.as_slice())
 }
