@@ -5,10 +5,9 @@ use Rattle.std.proofs.lemmas.Bool.{cases_lt}
 use Rattle.std.proofs.lemmas.List.{length-take-le}
 use Rattle.std.proofs.lemmas.List.Edits.{length-swap}
 use Rattle.mc_guests.specs.Budgets.{AreSums}
-use Rattle.mc_guests.specs.Guests.{has_ended, is_to_sleep}
+use Rattle.mc_guests.specs.Guests.{has_ended, is_to_sleep, is_stray}
 use Rattle.mc_guests.specs.Books.{RowState, BooksState, HasNumber, SleepsAt, Wakes, WakesOne, WakesNone, woken, put_behind, let_gone, LetsGo}
-use Rattle.mc_guests.specs.Books.{is_over, is_asleep, IsFateOf, Settles, SettlesFrom, none, and_one, swapped, cut}
-use Rattle.mc_guests.specs.Books.{MayWake, WakesSome, none_woke, one_woke}
+use Rattle.mc_guests.specs.Books.{is_over, is_asleep, is_to_queue, LinesUp, IsFateOf, Settles, SettlesFrom, none, and_one, swapped, cut}
 use Rattle.mc_guests.proofs.BudgetLemmas.{counts_swapped}
 use Rattle.mc_guests.specs.declared.guests.Fate.{Fate}
 use Rattle.mc_guests.specs.declared.guests.WorkEnd.{WorkEnd}
@@ -47,37 +46,62 @@ module _ (at : ℕ) (fate : Fate) (old new : BooksState) (before after : WorkEnd
     guest = is.guest;
     stands = is.stands;
     goes = λ _. goes;
-    sleeps = λ on _. no_true (has_ended is.guest.guest.last) on (sym is.over ∙ over);
+    lines_up = λ on _. no_true (has_ended is.guest.guest.last) on (sym is.over ∙ over);
+    sleeps = λ on _ _. no_true (has_ended is.guest.guest.last) on (sym is.over ∙ over);
     stays = λ on _. no_true (has_ended is.guest.guest.last) on (sym is.over ∙ over);
     counts = is.counts;
   }
 
   module _ (on : is_over fate ≡ false) where
-    -- one that is to sleep falls asleep
-    pub settles_asleep : is_asleep fate ≡ true → new ≡ put_behind at old → Settles at old new before after
-    settles_asleep asleep behind = record {
+    ended_not : {A : Type 0} → IsTrue (has_ended is.guest.guest.last) → A
+    ended_not ended = no_true (has_ended is.guest.guest.last) (sym is.over ∙ on) ended
+
+    -- one that waits and is left out of the queue is put into it
+    pub settles_queued : is_to_queue fate ≡ true → is_asleep fate ≡ true → LinesUp at old new → Settles at old new before after
+    settles_queued queue asleep lines = record {
       guest = is.guest;
       stands = is.stands;
-      goes = λ ended. no_true (has_ended is.guest.guest.last) (sym is.over ∙ on) ended;
-      sleeps = λ _ _. behind;
+      goes = λ ended. ended_not ended;
+      lines_up = λ _ _. lines;
+      sleeps = λ _ out _. no_true (is_stray is.guest) out (sym (is.queue on) ∙ queue);
       stays = λ _ awake. no_true (is_to_sleep is.guest) awake (sym (is.asleep on) ∙ asleep);
       counts = is.counts;
     }
 
-    -- one that is not stays awake
-    pub settles_awake : is_asleep fate ≡ false → new ≡ old → Settles at old new before after
-    settles_awake awake same = record {
-      guest = is.guest;
-      stands = is.stands;
-      goes = λ ended. no_true (has_ended is.guest.guest.last) (sym is.over ∙ on) ended;
-      sleeps = λ _ asleep. no_true (is_to_sleep is.guest) (sym (is.asleep on) ∙ awake) asleep;
-      stays = λ _ _. same;
-      counts = is.counts;
-    }
+    module _ (out : is_to_queue fate ≡ false) where
+      -- one that is to sleep falls asleep
+      pub settles_asleep : is_asleep fate ≡ true → new ≡ put_behind at old → Settles at old new before after
+      settles_asleep asleep behind = record {
+        guest = is.guest;
+        stands = is.stands;
+        goes = λ ended. ended_not ended;
+        lines_up = λ _ stray. no_true (is_stray is.guest) (sym (is.queue on) ∙ out) stray;
+        sleeps = λ _ _ _. behind;
+        stays = λ _ awake. no_true (is_to_sleep is.guest) awake (sym (is.asleep on) ∙ asleep);
+        counts = is.counts;
+      }
+
+      -- one that is not stays awake
+      pub settles_awake : is_asleep fate ≡ false → new ≡ old → Settles at old new before after
+      settles_awake awake same = record {
+        guest = is.guest;
+        stands = is.stands;
+        goes = λ ended. ended_not ended;
+        lines_up = λ _ stray. no_true (is_stray is.guest) (sym (is.queue on) ∙ out) stray;
+        sleeps = λ _ _ asleep. no_true (is_to_sleep is.guest) (sym (is.asleep on) ∙ awake) asleep;
+        stays = λ _ _. same;
+        counts = is.counts;
+      }
+
+-- one that lines up falls asleep
+lined_awake : (at : ℕ) (old new : BooksState) → LinesUp at old new → new.awake ≡ old.awake - 1
+lined_awake at old new (inl queued) = ap (λ (b : BooksState). b.awake) queued.2
+lined_awake at old new (inr stray) = ap (λ (b : BooksState). b.awake) stray
 
 -- those before a place stay awake when the one at it is settled
 pub awake_before : (at : ℕ) (old new : BooksState) (before after : WorkEnd) → at < old.awake → Settles at old new before after → at ≤ new.awake
-awake_before at old new before after within settles = awake_by (has_ended settles.guest.guest.last) settles.goes settles.sleeps settles.stays
+awake_before at old new before after within settles =
+    awake_by (has_ended settles.guest.guest.last) settles.goes settles.lines_up settles.sleeps settles.stays
   where
     one_less : new.awake ≡ old.awake - 1 → at ≤ new.awake
     one_less e = omega arith
@@ -86,10 +110,16 @@ awake_before at old new before after within settles = awake_by (has_ended settle
     awake_on true behind same = one_less (ap (λ (b : BooksState). b.awake) (behind refl))
     awake_on false behind same = (let e : new.awake ≡ old.awake = ap (λ (b : BooksState). b.awake) (same refl) in omega arith)
 
-    awake_by : (ended : Bool) → (IsTrue ended → LetsGo at old new) → (IsFalse ended → IsTrue (is_to_sleep settles.guest) → new ≡ put_behind at old)
+    awake_out : (stray : Bool) → (IsTrue stray → LinesUp at old new) → (IsFalse stray → IsTrue (is_to_sleep settles.guest) → new ≡ put_behind at old)
+        → (IsFalse (is_to_sleep settles.guest) → new ≡ old) → at ≤ new.awake
+    awake_out true lines sleeps stays = one_less (lined_awake at old new (lines refl))
+    awake_out false lines sleeps stays = awake_on (is_to_sleep settles.guest) (sleeps refl) stays
+
+    awake_by : (ended : Bool) → (IsTrue ended → LetsGo at old new) → (IsFalse ended → IsTrue (is_stray settles.guest) → LinesUp at old new)
+        → (IsFalse ended → IsFalse (is_stray settles.guest) → IsTrue (is_to_sleep settles.guest) → new ≡ put_behind at old)
         → (IsFalse ended → IsFalse (is_to_sleep settles.guest) → new ≡ old) → at ≤ new.awake
-    awake_by true goes sleeps stays = one_less (ap (λ (b : BooksState). b.awake) (goes refl))
-    awake_by false goes sleeps stays = awake_on (is_to_sleep settles.guest) (sleeps refl) (stays refl)
+    awake_by true goes lines sleeps stays = one_less (ap (λ (b : BooksState). b.awake) (goes refl).books)
+    awake_by false goes lines sleeps stays = awake_out (is_stray settles.guest) (lines refl) (sleeps refl) (stays refl)
 
 long_swapped : (one other : ℕ) (row later : RowState) → later ≡ swapped one other row → length later.guests ≡ length row.guests
 long_swapped one other row later is = ap (λ (r : RowState). length r.guests) is ∙ length-swap row.guests one other
@@ -101,50 +131,39 @@ counts_row_swapped one other held waiting large row later is first second counts
     subst (λ (r : RowState). AreSums held waiting large r.guests) (sym is) (counts_swapped row.guests one other held waiting large first second counts)
 
 -- The guest at a place changes places with the last that is awake, that one with the last of all, and the last goes.
-module _ (at awake end count share : ℕ) (may_try later : Bool) (row second third fourth : RowState) (old : BooksState)
-    (is : record { row = row; awake = awake; may_try = may_try; share = share } ≡ old)
-    (within : at < old.awake) (all : awake ≤ length row.guests) (swaps : second ≡ swapped at (awake - 1) row)
-    (at_end : end ≡ length second.guests) (is_last : count ≡ end - 1) (swaps_end : third ≡ swapped (awake - 1) count second) where
-  some_awake : at < awake
-  some_awake = subst (λ (n : ℕ). at < n) (sym (ap (λ (b : BooksState). b.awake) is)) within
-
+module _ (at awake end count : ℕ) (row second third fourth : RowState) (within : at < awake) (all : awake ≤ length row.guests)
+    (swaps : second ≡ swapped at (awake - 1) row) (at_end : end ≡ length second.guests) (is_last : count ≡ end - 1)
+    (swaps_end : third ≡ swapped (awake - 1) count second) where
   all_long : length third.guests ≡ length row.guests
   all_long = long_swapped (awake - 1) count second third swaps_end ∙ long_swapped at (awake - 1) row second swaps
 
   pub some_stand : 0 < length third.guests
-  some_stand = let e = all_long in let w = some_awake in omega arith
+  some_stand = let e = all_long in omega arith
 
   pub counts_moved : (held waiting large : ℕ) → AreSums held waiting large row.guests → AreSums held waiting large third.guests
   counts_moved held waiting large counts =
-      let w = some_awake in
       let long : length second.guests ≡ length row.guests = long_swapped at (awake - 1) row second swaps in
-      counts_row_swapped (awake - 1) count held waiting large second third swaps_end (omega (arith, w, all, long)) (omega (arith, w, all, long, at_end, is_last))
-      (counts_row_swapped at (awake - 1) held waiting large row second swaps (omega (arith, w, all)) (omega (arith, w, all)) counts)
+      counts_row_swapped (awake - 1) count held waiting large second third swaps_end (omega (arith, within, all, long)) (omega (arith, within, all, long, at_end, is_last))
+      (counts_row_swapped at (awake - 1) held waiting large row second swaps (omega (arith, within, all)) (omega (arith, within, all)) counts)
 
   module _ (cuts : fourth ≡ cut (length third.guests - 1) third) where
     pub awake_stand : awake - 1 ≤ length fourth.guests
     awake_stand =
         let e = all_long in
-        let w = some_awake in
         let c : length fourth.guests ≡ length third.guests - 1 = ap (λ (r : RowState). length r.guests) cuts ∙ length-take-le (length third.guests - 1) third.guests (omega arith) in
         omega arith
 
-    here : record (let_gone at (record { row = row; awake = awake; may_try = may_try; share = share })) { may_try = later } ≡ record { row = fourth; awake = awake - 1; may_try = later; share = share }
-    here =
+    pub row_gone : cut (length row.guests - 1) (swapped (awake - 1) (length row.guests - 1) (swapped at (awake - 1) row)) ≡ fourth
+    row_gone =
         let last : length row.guests - 1 ≡ count = (let e = long_swapped at (awake - 1) row second swaps in omega arith) in
         let gone : length row.guests - 1 ≡ length third.guests - 1 = (let e = all_long in omega arith) in
         let a : swapped (awake - 1) (length row.guests - 1) (swapped at (awake - 1) row) ≡ third =
         ap (λ (n : ℕ). swapped (awake - 1) n (swapped at (awake - 1) row)) last ∙ ap (swapped (awake - 1) count) (sym swaps) ∙ sym swaps_end in
-        ap (λ (r : RowState). record { row = r; awake = awake - 1; may_try = later; share = share })
-        (ap (λ (n : ℕ). cut n (swapped (awake - 1) (length row.guests - 1) (swapped at (awake - 1) row))) gone ∙ ap (cut (length third.guests - 1)) a ∙ sym cuts)
-
-    pub goes_from : LetsGo at old (record { row = fourth; awake = awake - 1; may_try = later; share = share })
-    goes_from = subst (λ (b : BooksState). record { row = fourth; awake = awake - 1; may_try = later; share = share } ≡ record (let_gone at b) { may_try = later }) is (sym here)
+        ap (λ (n : ℕ). cut n (swapped (awake - 1) (length row.guests - 1) (swapped at (awake - 1) row))) gone ∙ ap (cut (length third.guests - 1)) a ∙ sym cuts
 
 -- nobody was settled yet
-pub settles_nobody : (row : RowState) (awake share : ℕ) (may_try : Bool) (books : BooksState) (count : WorkEnd) → record { row = row; awake = awake; may_try = may_try; share = share } ≡ books
-    → SettlesFrom awake books books count count × (awake ≤ books.awake)
-settles_nobody row awake share may_try books count is = subst (λ (b : BooksState). SettlesFrom awake b b count count × (awake ≤ b.awake)) is (none, omega arith)
+pub settles_nobody : (awake : ℕ) (books : BooksState) (count : WorkEnd) → books.awake ≡ awake → SettlesFrom awake books books count count × (awake ≤ books.awake)
+settles_nobody awake books count is = subst (λ (n : ℕ). SettlesFrom n books books count count × (n ≤ books.awake)) is (none, omega arith)
 
 -- one more was settled
 pub settles_more : (at : ℕ) (old mid new : BooksState) (before between after : WorkEnd) → 0 < at → SettlesFrom at old mid before between × (at ≤ mid.awake)
@@ -152,12 +171,3 @@ pub settles_more : (at : ℕ) (old mid new : BooksState) (before between after :
 settles_more at old mid new before between after some front one =
     let e : at - 1 + 1 ≡ at = omega arith in
     (and_one (subst (λ (n : ℕ). SettlesFrom n old mid before between) (sym e) front.0) one, awake_before (at - 1) mid new between after (omega arith) one)
-
--- some woke, and then others
-pub wakes_join : (old mid new : BooksState) → WakesSome old mid → WakesSome mid new → WakesSome old new
-wakes_join old mid _ first none_woke = first
-wakes_join old mid new first (one_woke later last) = one_woke (wakes_join old mid _ first later) last
-
--- one that slept woke
-pub wakes_one : (at : ℕ) (old new : BooksState) → SleepsAt at old → new ≡ woken at old → MayWake old new
-wakes_one at old new sleeps is = inr (at, sleeps, is)

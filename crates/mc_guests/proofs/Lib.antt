@@ -6,6 +6,12 @@ pub mod GatheringLemmas
 pub mod RoundLemmas
 pub mod PlaceLemmas
 pub mod BookLemmas
+pub mod JudgeLemmas
+pub mod RetryLemmas
+pub mod QueueLemmas
+pub mod SwapLemmas
+pub mod FollowLemmas
+pub mod FairLemmas
 pub mod DoorLemmas
 pub mod TurnLemmas
 pub mod BudgetLemmas

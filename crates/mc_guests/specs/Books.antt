@@ -1,6 +1,9 @@
 -- The books that a worker has of its guests.
-use Rattle.std.specs.Prelude.{◌≡◌, ◌⊎◌, ◌≤◌, ◌<◌, ◌+◌, ◌-◌, ◌^◌, ◌==◌, ◌&&◌, not, ℕ, List, [], ◌∷◌, ◌++◌, length, take, drop, min, swap, slice_get, Option, Some, None, Bool, true, false, IsTrue, IsFalse}
-use Rattle.mc_guests.specs.Guests.{GuestState, RowGuest, newcomer, has_ended, is_to_sleep}
+use Rattle.std.specs.Prelude.{◌≡◌, ◌⊎◌, ◌≤◌, ◌<◌, ◌+◌, ◌-◌, ◌^◌, ◌==◌, ◌&&◌, not, ℕ, zero, suc, List, [], ◌∷◌, ◌++◌, length, take, drop, min, swap, slice_get, Option, Some, None, Bool, true, false, IsTrue, IsFalse}
+use Rattle.mc_guests.specs.Budgets.{rest_of, may_try}
+use Rattle.mc_guests.specs.Guests.{GuestState, RowGuest, newcomer, has_ended, is_to_sleep, is_stray, in_line}
+use Rattle.mc_guests.specs.declared.budget.Budget.{Budget}
+use Rattle.mc_guests.specs.declared.weighed.Line.TheVariants.{Queued}
 use Rattle.mc_guests.specs.declared.guest.Visit.{Visit}
 use Rattle.mc_guests.specs.declared.guest.Visit.TheVariants.{Wrote, Turned, Read, Later, Served, Broken, Refused}
 use Rattle.mc_guests.specs.declared.guests.WorkEnd.{WorkEnd}
@@ -43,25 +46,53 @@ joined guest number row = record {
   numbers = row.numbers ++ number ∷ [];
 }
 
+-- one of a list is changed
+abbrev pub changed : {A : Type 0} → (A → A) → (at : ℕ) → List A → List A
+changed change at [] = []
+changed change zero (x ∷ xs) = change x ∷ xs
+changed change (suc at) (x ∷ xs) = x ∷ changed change at xs
+
+-- one of the guests is changed
+abbrev pub with_guest : (RowGuest → RowGuest) → (at : ℕ) → RowState → RowState
+with_guest change at row = record row { guests = changed change at row.guests }
+
 -- the guest at a place
 abbrev pub StandsAt : ℕ → RowState → RowGuest → Type 0
 StandsAt at row guest = slice_get row.guests at ≡ Some guest
 
--- Guests in a row, of which so many are awake: the first ones. Whether one that is kept waiting may be tried again, as
--- memory came back. And the share: the bytes that they may hold together.
+-- Guests in a row, of which so many are awake: the first ones. What they hold together, with its limit. The queue of
+-- those that wait, oldest first, by the numbers of their links; whether the turn is the newest's, and not the oldest's;
+-- and whether some that wait were left out of it, as memory was refused.
 pub record BooksState : Type 0 where
   pub row : RowState
   pub awake : ℕ
-  pub may_try : Bool
-  pub share : ℕ
+  pub budget : Budget
+  pub queue : List ℕ
+  pub is_last : Bool
+  pub has_strays : Bool
 
--- no guests, with this share
-abbrev pub no_books : (share : ℕ) → BooksState
-no_books share = record { row = nobody; awake = 0; may_try = false; share = share }
+-- no guests, with what a budget has beside those that it counts
+abbrev pub no_books : Budget → BooksState
+no_books budget = record {
+  row = nobody;
+  awake = 0;
+  budget = rest_of budget;
+  queue = [];
+  is_last = false;
+  has_strays = false;
+}
 
 -- nobody is awake, and none that is kept waiting may be tried again
 abbrev pub quiet : BooksState → Bool
-quiet books = books.awake == 0 && not books.may_try
+quiet books = books.awake == 0 && not (may_try books.budget)
+
+-- the time is set, in ticks
+abbrev pub at_ticks : (ticks : ℕ) → BooksState → BooksState
+at_ticks ticks books = record books { budget = record books.budget { ticks = ticks } }
+
+-- the judgement of slow guests was taken in this tick
+abbrev pub took_judging : BooksState → BooksState
+took_judging books = record books { budget = record books.budget { judged = books.budget.ticks } }
 
 -- the guest at a place wakes: it stands behind those that were awake
 abbrev pub woken : ℕ → BooksState → BooksState
@@ -77,6 +108,19 @@ put_behind at books = record books {
   awake = books.awake - 1;
 }
 
+-- the guest at a place is put into the queue, as the newest
+abbrev pub queued_up : (at number : ℕ) → BooksState → BooksState
+queued_up at number books = record books {
+  row = with_guest (in_line Queued) at books.row;
+  queue = books.queue ++ number ∷ [];
+}
+
+-- The guest at a place, which waits, falls asleep. It is in the queue then, as the newest; if memory was refused it is
+-- left out, and there are strays.
+abbrev pub LinesUp : (at : ℕ) (old new : BooksState) → Type 0
+LinesUp at old new = ((number : ℕ) × HasNumber old.row at number × (new ≡ put_behind at (queued_up at number old)))
+    ⊎ (new ≡ put_behind at (record old { has_strays = true }))
+
 -- The guest at a place is gone, of those that are awake. The last of these stands at its place then, and
 -- the last of all at that one's.
 abbrev pub let_gone : ℕ → BooksState → BooksState
@@ -86,9 +130,11 @@ let_gone at books = record books {
   awake = books.awake - 1;
 }
 
--- the same, if one that is kept waiting may be tried again from now on
-abbrev pub LetsGo : ℕ → (old new : BooksState) → Type 0
-LetsGo at old new = new ≡ record (let_gone at old) { may_try = new.may_try }
+-- the guest at a place goes: it isn't counted any more, and memory came back
+pub record LetsGo (at : ℕ) (old new : BooksState) : Type 0 where
+  pub books : new ≡ record (let_gone at old) { budget = new.budget }
+  pub rest : rest_of new.budget ≡ rest_of old.budget
+  pub eased : IsTrue new.budget.is_eased
 
 -- a guest came, and is awake
 abbrev pub let_in : GuestState → ℕ → BooksState → BooksState
@@ -141,22 +187,32 @@ is_asleep Waits = true
 is_asleep Sleeps = true
 is_asleep Ended = false
 
+-- whether a guest is to be put into the queue
+abbrev pub is_to_queue : Fate → Bool
+is_to_queue GoesOn = false
+is_to_queue Waits = true
+is_to_queue Sleeps = false
+is_to_queue Ended = false
+
 -- what becomes of the guest at a place: it is to go if it has ended, which is counted, and else to sleep if it waits for
--- room or its link gave or took nothing
+-- room or its link gave or took nothing; if it waits and is left out of the queue it is put into it
 pub record IsFateOf (at : ℕ) (row : RowState) (fate : Fate) (before after : WorkEnd) : Type 0 where
   pub guest : RowGuest
   pub stands : StandsAt at row guest
   pub over : is_over fate ≡ has_ended guest.guest.last
   pub asleep : IsFalse (is_over fate) → is_asleep fate ≡ is_to_sleep guest
+  pub queue : IsFalse (is_over fate) → is_to_queue fate ≡ is_stray guest
   pub counts : after ≡ counted guest.guest.last before
 
--- The guest at a place was settled: if it has ended it is gone, and counted; else it sleeps if it is to sleep, and
--- stays awake if not.
+-- The guest at a place was settled: if it has ended it is gone, and counted. If it waits and is left out of the queue it
+-- is put into it, and sleeps. Else it sleeps if it is to sleep, and stays awake if not.
 pub record Settles (at : ℕ) (old new : BooksState) (before after : WorkEnd) : Type 0 where
   pub guest : RowGuest
   pub stands : StandsAt at old.row guest
   pub goes : IsTrue (has_ended guest.guest.last) → LetsGo at old new
-  pub sleeps : IsFalse (has_ended guest.guest.last) → IsTrue (is_to_sleep guest) → new ≡ put_behind at old
+  pub lines_up : IsFalse (has_ended guest.guest.last) → IsTrue (is_stray guest) → LinesUp at old new
+  pub sleeps : IsFalse (has_ended guest.guest.last) → IsFalse (is_stray guest) → IsTrue (is_to_sleep guest)
+      → new ≡ put_behind at old
   pub stays : IsFalse (has_ended guest.guest.last) → IsFalse (is_to_sleep guest) → new ≡ old
   pub counts : after ≡ counted guest.guest.last before
 
@@ -167,24 +223,9 @@ pub data SettlesFrom : (at : ℕ) (old new : BooksState) (before after : WorkEnd
       → SettlesFrom (at + 1) old mid before between → Settles at mid new between after
       → SettlesFrom at old new before after
 
--- one that slept may have been woken
-abbrev pub MayWake : (old new : BooksState) → Type 0
-MayWake old new = (new ≡ old) ⊎ ((at : ℕ) × SleepsAt at old × (new ≡ woken at old))
-
--- some that slept may have been woken, one after another
-pub data WakesSome : (old new : BooksState) → Type 0 where
-  none_woke : {books : BooksState} → WakesSome books books
-  one_woke : {old mid new : BooksState} → WakesSome old mid → MayWake mid new → WakesSome old new
-
--- whether one may be tried again is seen anew, and then some that slept may have been woken
-pub record LetsOn (old new : BooksState) : Type 0 where
-  pub tried : BooksState
-  pub sees : tried ≡ record old { may_try = tried.may_try }
-  pub wakes : WakesSome tried new
-
--- a round leaves those that sleep, all numbers, who is awake, and the share
+-- a round leaves those that sleep, all numbers, who is awake, the share, and the queue
 pub record KeepsBooks (old new : BooksState) : Type 0 where
-  pub share : new.share ≡ old.share
+  pub share : new.budget.share ≡ old.budget.share
   pub asleep : drop old.awake new.row.guests ≡ drop old.awake old.row.guests
   pub numbers : new.row.numbers ≡ old.row.numbers
-  pub awake : new.awake ≡ old.awake
+  pub same : new ≡ record old { row = new.row; budget = new.budget }

@@ -36,6 +36,10 @@ abbrev pub has_left : ℕ → Budget → Bool
 has_left wanted budget = nat_le wanted (budget.share - plus budget.held budget.promised)
     || (budget.large == 0 && budget.promised == 0)
 
+-- this many bytes more are promised
+abbrev pub promised_more : ℕ → Budget → Budget
+promised_more more budget = record budget { promised = plus budget.promised more }
+
 -- whether the budget may soon be used up: somebody waits, or much is held
 abbrev pub is_tight : Budget → Bool
 is_tight budget = nat_lt 0 budget.waiting || nat_lt budget.tight budget.held

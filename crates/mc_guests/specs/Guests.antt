@@ -1,10 +1,14 @@
 -- What contracts see of a guest.
 use mathlib.Core.Logic.{inl, inr}
-use Rattle.std.specs.Prelude.{◌≡◌, ◌⊎◌, ◌||◌, ℕ, Bool, true, false, List, [], length, Option, Some, None, IsTrue}
+use Rattle.std.specs.Prelude.{◌≡◌, ◌⊎◌, ◌||◌, ◌&&◌, ◌-◌, ℕ, Bool, true, false, List, [], length, Option, Some, None, IsTrue}
 use Rattle.mc_session.specs.Turns.{SessionState, NoTurnDue, TurnIsDue, opened}
 use Rattle.mc_guests.specs.Links.{LinkState, IsRoom, grown}
+use Rattle.mc_guests.specs.Paces.{begun}
 use Rattle.mc_guests.specs.declared.guest.Visit.{Visit}
 use Rattle.mc_guests.specs.declared.guest.Visit.TheVariants.{Wrote, Turned, Read, Later, Served, Broken, Refused}
+use Rattle.mc_guests.specs.declared.pace.Pace.{Pace}
+use Rattle.mc_guests.specs.declared.weighed.Line.{Line}
+use Rattle.mc_guests.specs.declared.weighed.Line.TheVariants.{Out, Queued, Next}
 
 -- its session, its link, and the answer of its last visit
 pub record GuestState : Type 0 where
@@ -60,15 +64,57 @@ IsDemand session (inr is_waiting) bytes = IsRoom bytes
 abbrev pub told : GuestState → Option (List ℕ)
 told guest = grown guest.link.taken guest.session.out
 
--- a guest of a worker: whether it waits for room, and the bytes for which it is counted
+-- A guest of a worker: whether it waits for room, and the bytes for which it is counted. Where it stands in the queue of
+-- those that wait, the bytes that it wanted when it began to wait, and whether it waits with output that its client
+-- doesn't read. And the pace of its link.
 pub record RowGuest : Type 0 where
   pub guest : GuestState
   pub waits : Bool
   pub counted : ℕ
+  pub line : Line
+  pub wanted : ℕ
+  pub is_unread : Bool
+  pub pace : Pace
 
 -- a guest that just came
 abbrev pub newcomer : GuestState → RowGuest
-newcomer guest = record { guest = guest; waits = false; counted = 0 }
+newcomer guest = record {
+  guest = guest;
+  waits = false;
+  counted = 0;
+  line = Out;
+  wanted = 0;
+  is_unread = false;
+  pace = begun 0;
+}
+
+-- whether a guest that waits is in the queue
+abbrev pub is_in_queue : Line → Bool
+is_in_queue Out = false
+is_in_queue Queued = true
+is_in_queue Next = false
+
+-- whether a guest that waits is left out: it isn't in the queue, and isn't tried again
+abbrev pub is_left_out : Line → Bool
+is_left_out Out = true
+is_left_out Queued = false
+is_left_out Next = false
+
+-- whether a guest waits in the queue
+abbrev pub is_queued : RowGuest → Bool
+is_queued guest = guest.waits && is_in_queue guest.line
+
+-- whether a guest waits, and is left out of the queue
+abbrev pub is_stray : RowGuest → Bool
+is_stray guest = guest.waits && is_left_out guest.line
+
+-- the bytes that a guest waits for, beyond those that are counted
+abbrev pub missing : RowGuest → ℕ
+missing guest = guest.wanted - guest.counted
+
+-- the guest stands there in the queue
+abbrev pub in_line : Line → RowGuest → RowGuest
+in_line line guest = record guest { line = line }
 
 -- whether its link gave or took nothing at the last visit
 abbrev pub is_later : Option Visit → Bool

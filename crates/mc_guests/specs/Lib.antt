@@ -1,9 +1,13 @@
 pub mod Links
 pub mod Gathered
+pub mod Paces
 pub mod Guests
 pub mod Visits
 pub mod Budgets
 pub mod Books
+pub mod Judging
+pub mod Retries
+pub mod Fairness
 pub mod Telling
 pub mod Outcomes
 pub mod Asks

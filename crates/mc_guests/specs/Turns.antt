@@ -2,7 +2,8 @@
 use Rattle.std.specs.Prelude.{◌≡◌, ◌⊎◌, ℕ, List, [], ◌∷◌, ◌++◌, take, IsTrue, IsFalse}
 use Rattle.mc_protocol.specs.declared.step.Steps.{Ghosts as Relations}
 use Rattle.mc_guests.specs.Asks.{AsksAndVisits, IsKeptWaiting}
-use Rattle.mc_guests.specs.Books.{BooksState, LetsOn, KeepsBooks}
+use Rattle.mc_guests.specs.Books.{BooksState, KeepsBooks}
+use Rattle.mc_guests.specs.Retries.{LetsOn, IsWhole}
 use Rattle.mc_guests.specs.Budgets.{uncounted, IsHeldBack, Recounts, CountsAll}
 use Rattle.mc_guests.specs.Guests.{RowGuest}
 use Rattle.mc_guests.specs.declared.budget.Budget.{Budget}
@@ -33,17 +34,15 @@ module _ {S : Type 0} (relations : Relations S) (now : ℕ) where
         → HaveTurns olds news before between budget mid → HasTurn old new between after mid later
         → HaveTurns (olds ++ old ∷ []) (news ++ new ∷ []) before after budget later
 
-  -- Those that are awake have their turns, by a budget of the guests' share that counts all guests. Who sleeps, all
-  -- numbers, and who is awake stay.
+  -- Those that are awake have their turns, by a budget of the guests' share that counts all guests, each of whom has a
+  -- number. Who sleeps, all numbers, who is awake, and the queue stay.
   pub record VisitsAwake (old new : BooksState) (before after : S) : Type 0 where
-    pub budget : Budget
-    pub later : Budget
-    pub share : budget.share ≡ old.share
-    pub counts : CountsAll budget old.row.guests
-    pub turns : HaveTurns (take old.awake old.row.guests) (take old.awake new.row.guests) before after budget later
+    pub whole : IsWhole old.row
+    pub counts : CountsAll old.budget old.row.guests
+    pub turns : HaveTurns (take old.awake old.row.guests) (take old.awake new.row.guests) before after old.budget new.budget
     pub keeps : KeepsBooks old new
 
-  -- some that are kept waiting may have been woken, and then all that were awake had their turns
+  -- if a retry is due those that wait are tried again, and then all that are awake have their turns
   pub record VisitsAll (old new : BooksState) (before after : S) : Type 0 where
     pub between : BooksState
     pub wakes : LetsOn old between

@@ -2,7 +2,8 @@
 
 ghost use Rattle.std.specs.Prelude.{◌≡◌, ◌-◌, min, IsTrue, IsFalse};
 ghost use Rattle.mc_guests.specs.Asks.{most};
-ghost use Rattle.mc_guests.specs.Budgets.{unused, fits, has_left, is_tight, is_kept_for_one};
+ghost use Rattle.mc_guests.specs.Budgets.{unused, fits, has_left, promised_more, is_tight};
+ghost use Rattle.mc_guests.specs.Budgets.{is_kept_for_one};
 ghost use Rattle.mc_guests.specs.Budgets.{may_try, is_retry_due, retried, to_judge};
 ghost use Rattle.mc_guests.specs.Budgets.{is_large, one_if, rest_of, uncounted, counted_too};
 
@@ -83,6 +84,13 @@ impl Budget {
     {
         let taken = self.held.saturating_add(self.promised);
         more <= self.share.saturating_sub(taken) || (self.large == 0 && self.promised == 0)
+    }
+
+    /// Promises `more` bytes.
+    pub(crate) fn promise(&mut self, more: usize)
+        ensures { self.new ≡ promised_more more self.old }
+    {
+        self.promised = self.promised.saturating_add(more);
     }
 
     /// Returns whether the budget may soon be used up.

@@ -2,7 +2,8 @@
 //!
 //! Output is gathered up to 64 KiB and sent before the next read, so a batch costs one receive and
 //! one send. A piece of 32 KiB or more is sent from where it lies, in one call with what was
-//! gathered. A connection with unsent output isn't read.
+//! gathered, and one of 1 KiB or more if no request is at hand. A connection with unsent output
+//! isn't read.
 ghost use Rattle.mc_bytes.specs.Queues.{first_piece};
 ghost use Rattle.std.specs.Prelude.{◌≡◌, ◌≤◌, ◌↔◌, ◌-◌, ◌^◌, ◌++◌, [], length, Ok, IsTrue, IsFalse, true, false};
 ghost use Rattle.mc_guests.specs.Links.{Gives, IsWrite};
@@ -23,7 +24,12 @@ const GATHERED: usize = 65_536;
 const HANDED_ON: usize = 32_768;
 
 /// The most bytes of such a text in one write, so that others needn't wait for long.
-const LONGEST: usize = 131_072;
+const LONGEST: usize = 524_288;
+
+/// A text of at least this many bytes is written at once too if no request is at hand.
+///
+/// It costs the calls of the system that it would cost later, and isn't copied.
+const SENT_SOON: usize = 1024;
 
 /// A link over another, which gathers output.
 ///
@@ -38,6 +44,8 @@ pub struct Gathering<L: Link + Drop> {
     was_read: bool,
     /// The length of that call's piece or bytes.
     requested: usize,
+    /// Whether the next write needn't wait for others.
+    is_soon: bool,
 }
 
 impl<L: Link + Drop> Model for Gathering<L> {
@@ -66,6 +74,7 @@ impl<L: Link + Drop> Gathering<L> {
             gathered: Queue::new(alloc),
             was_read: false,
             requested: 0,
+            is_soon: false,
         }
     }
 
@@ -122,9 +131,16 @@ impl<L: Link + Drop> Gathering<L> {
             self.new ≡ record self.old { gathered = self.old.gathered ++ bytes.now } }
         ensures no { IsFalse result → self.new ≡ self.old }
     {
-        bytes.len() < HANDED_ON
+        bytes.len() < self.least_sent()
             && self.gathered.len() <= GATHERED - bytes.len()
             && self.gathered.push(bytes).is_ok()
+    }
+
+    /// Returns the length from which on a text isn't gathered.
+    fn least_sent(&self) -> usize
+        ensures { result ≤ 65536 }
+    {
+        if self.is_soon { SENT_SOON } else { HANDED_ON }
     }
 
     /// Writes the gathered bytes and then these to the link below once.
@@ -192,6 +208,7 @@ impl<L: Link + Drop> Link for Gathering<L> {
     {
         self.was_read = true;
         self.requested = piece.len();
+        self.is_soon = false;
         if self.link.faults() == u64::MAX {
             return Ok(Got::Later);
         }
@@ -240,6 +257,10 @@ impl<L: Link + Drop> Link for Gathering<L> {
             }
             Err(LinkFault) => Err(LinkFault),
         }
+    }
+
+    fn send_soon(&mut self) {
+        self.is_soon = true;
     }
 
     fn refused(&mut self) {

@@ -14,12 +14,15 @@ ghost use Rattle.mc_guests.specs.Outcomes.{too_large};
 use crate::link::{Link, LinkFault, Took};
 use crate::measure::Naming;
 use crate::tap::{LONGEST_PIECE, Tap, Tapped};
-use mc_bytes::FIRST_PIECE;
+use mc_bytes::{FIRST_PIECE, Spares};
 use mc_protocol::Steps;
 use mc_session::{Session, Turn};
 use mc_time::Moment;
 use std::alloc::{AllocError, Global};
 use std::marker::Model;
+
+/// The least output of which its link learns whether a request is at hand.
+const LONG: usize = 1024;
 
 /// What a visit did.
 #[derive(Clone, Copy, Debug, PartialEq, Eq)]
@@ -67,13 +70,21 @@ impl<L: Link + Drop> Guest<L> {
     pub fn new(alloc: Global, link: L, greatest: u64) -> Result<Guest<L>, AllocError>
         ensures { IfOk result (λ guest. guest ≡ welcomed greatest (L.shown link)) }
     {
-        Ok(Guest {
-            session: Session::new(alloc, greatest),
+        Ok(Guest::with_spares(alloc, link, greatest, None))
+    }
+
+    /// Makes a guest as `new` does, whose session takes the memory of large blocks and texts from
+    /// these spares.
+    pub fn with_spares(alloc: Global, link: L, greatest: u64, spares: Option<&Spares>) -> Guest<L>
+        ensures { result ≡ welcomed greatest (L.shown link) }
+    {
+        Guest {
+            session: Session::with_spares(alloc, greatest, spares),
             tap: Tap { link },
             longest: FIRST_PIECE,
             moved: 0,
             last: None,
-        })
+        }
     }
 
     /// Returns the answer of its last visit, and `None` before the first.
@@ -96,6 +107,7 @@ impl<L: Link + Drop> Guest<L> {
         let answer = if self.session.out().is_empty() {
             self.turn_or_read(alloc, store, now)
         } else {
+            self.hasten();
             self.write_out()
         };
         self.tell_link(answer);
@@ -121,6 +133,24 @@ impl<L: Link + Drop> Guest<L> {
             result ≤ resting }
     {
         self.session.rest()
+    }
+
+    /// Returns whether it reads long pieces, and has no unread bytes, no output, and none that its
+    /// link still has.
+    pub(crate) fn is_between_requests(&self) -> bool
+        ensures unread { IsTrue result → length self.now.session.unread.bytes ≡ 0 }
+        ensures out { IsTrue result → length self.now.session.out ≡ 0 }
+    {
+        self.longest > FIRST_PIECE && self.session.is_empty() && self.unsent_bytes() == 0
+    }
+
+    /// Notes at its link that no request is at hand, if so and its output is long.
+    fn hasten(&mut self)
+        ensures { self.new ≡ self.old }
+    {
+        if self.session.out().len() >= LONG && self.session.is_idle() {
+            self.tap.link.send_soon();
+        }
     }
 
     /// Returns whether its output was written, and a request came whole or it is closed.

@@ -3,12 +3,19 @@
 //! A guest that answered `Later` sleeps; a round visits only awake guests. `Links::ready` names the
 //! link that wakes it, at most 1024 names between two rounds. A skipped visit would have changed
 //! nothing.
-ghost use Rattle.std.specs.Prelude.{◌≡◌, ◌↔◌, ◌<◌, ◌≤◌, length, IsTrue, IsFalse};
+ghost use Rattle.std.specs.Prelude.{◌≡◌, ◌↔◌, ◌<◌, ◌≤◌, ◌&&◌, not, length, slice_get, false, Some, None, IfSome, IsTrue, IsFalse};
 ghost use Rattle.mc_guests.specs.Asks.{MakesRound};
-ghost use Rattle.mc_guests.specs.Guests.{welcomed, has_ended, is_later, is_to_sleep};
+ghost use Rattle.mc_guests.specs.Budgets.{is_retry_due, to_judge};
+ghost use Rattle.mc_guests.specs.Guests.{welcomed, has_ended, is_later, is_to_sleep, is_left_out};
 ghost use Rattle.mc_guests.specs.Books.{no_books, quiet, woken, put_behind, let_in, counted};
-ghost use Rattle.mc_guests.specs.Books.{SleepsAt, StandsAt, IsFateOf, is_over, is_asleep};
-ghost use Rattle.mc_guests.specs.Books.{Wakes, WakesSome, MayWake, LetsOn, LetsGo, Settles, SettlesFrom};
+ghost use Rattle.mc_guests.specs.Books.{SleepsAt, StandsAt, IsFateOf, is_over, is_asleep, is_to_queue};
+ghost use Rattle.mc_guests.specs.Books.{Wakes, LinesUp, LetsGo, Settles, SettlesFrom};
+ghost use Rattle.mc_guests.specs.Books.{at_ticks, took_judging};
+ghost use Rattle.mc_guests.specs.Judging.{Judges};
+ghost use Rattle.mc_guests.specs.Retries.{LetsOn, LetsOnAll, begun_anew, GoInTurn, GoBeside, TakesTurn, EndsTurns};
+ghost use Rattle.mc_guests.specs.Retries.{LooksAtFirst, IsQueuedAt, NoneWaits, PromisesRoom, KeepsRoom};
+ghost use Rattle.mc_guests.specs.Retries.{tried_again, lined, in_turn, struck_out, turn_passed};
+ghost use Rattle.mc_guests.specs.Retries.{stray_tried, all_strays_tried, first_dropped, first_behind};
 ghost use Rattle.mc_guests.specs.Turns.{VisitsAll, VisitsAwake};
 
 use crate::budget::Budget;
@@ -18,6 +25,7 @@ use crate::reports::Reports;
 use crate::row::Row;
 use crate::tally::Tally;
 use crate::weighed::{Judged, Line};
+use mc_bytes::Spares;
 use mc_protocol::Steps;
 use mc_time::Moment;
 use std::alloc::Global;
@@ -39,7 +47,7 @@ pub struct WorkEnd {
 ///
 /// A guest whose last answer was `Later` sleeps, and so does one that waits for room. A sleeping
 /// guest wakes when its link is named. Contracts see all guests, the numbers of their
-/// links, how many are awake, and the share. The budget counts each guest once.
+/// links, how many are awake, the budget, and the queue. The budget counts each guest once.
 #[derive(Drop)]
 pub struct Guests<L: Link + Drop> {
     row: Row<L>,
@@ -53,24 +61,31 @@ pub struct Guests<L: Link + Drop> {
     has_strays: bool,
     /// The bytes held and the number of waiting guests, as they were last reported.
     reported: (usize, usize),
+    /// The large buffers of all guests between two requests, if there was memory for them.
+    spares: Option<Spares>,
 }
 
 impl<L: Link + Drop> Model for Guests<L> {
     ghost use Rattle.std.specs.Prelude.{◌≤◌, length};
     ghost use Rattle.mc_guests.specs.Books.{BooksState};
-    ghost use Rattle.mc_guests.specs.Budgets.{may_try, CountsAll};
+    ghost use Rattle.mc_guests.specs.Budgets.{CountsAll};
 
     ghost Value = { BooksState };
 
     ghost view = { λ g. record {
       row = g.row;
       awake = g.awake;
-      may_try = may_try g.budget;
-      share = g.budget.share;
+      budget = g.budget;
+      queue = g.queue.items;
+      is_last = g.is_last;
+      has_strays = g.has_strays;
     } };
 
     ghost invariant = { λ g. (g.awake ≤ length g.row.guests) × CountsAll g.budget g.row.guests };
 }
+
+/// The ticks after which spares that nobody took are freed.
+const UNUSED: u64 = 4;
 
 /// The most waiting guests that one retry looks at.
 const LOOKS: usize = 256;
@@ -86,9 +101,11 @@ enum Fate {
 }
 
 impl<L: Link + Drop> Guests<L> {
-    /// Makes an empty collection of guests with the share of this budget. It takes no memory.
+    /// Makes an empty collection of guests with the share of this budget.
+    ///
+    /// If it is refused memory for spares, guests request large buffers anew each time.
     pub fn new(alloc: Global, budget: Budget) -> Guests<L>
-        ensures { result ≡ no_books budget.share }
+        ensures { result ≡ no_books budget }
     {
         Guests {
             row: Row::new(alloc),
@@ -98,6 +115,7 @@ impl<L: Link + Drop> Guests<L> {
             is_last: false,
             has_strays: false,
             reported: (0, 0),
+            spares: Spares::new(alloc).ok(),
         }
     }
 
@@ -124,9 +142,7 @@ impl<L: Link + Drop> Guests<L> {
             self.new ≡ let_in (welcomed greatest (L.shown link)) number self.old }
         ensures refused { IsFalse result → self.new ≡ self.old }
     {
-        let Ok(guest) = Guest::new(alloc, link, greatest) else {
-            return false;
-        };
+        let guest = Guest::with_spares(alloc, link, greatest, self.spares.as_ref());
         let place = self.row.len();
         if self.row.push(guest, number) {
             self.wake_at(place);
@@ -155,10 +171,38 @@ impl<L: Link + Drop> Guests<L> {
     }
 
     /// Sets the time, in ticks of 0.25 s.
+    ///
+    /// In a new tick, quiet guests free the memory that they keep, and spares are freed that, with
+    /// what guests hold, are more than the share. Every fourth tick frees spares that nobody took.
     pub fn tick(&mut self, ticks: u64)
+        ensures { self.new ≡ at_ticks ticks self.old }
+    {
+        let before = self.budget.ticks;
+        if ticks != before {
+            self.budget.ticks = ticks;
+            self.rest_quiet();
+            self.bound_spares(ticks / UNUSED != before / UNUSED);
+        }
+    }
+
+    /// Frees spares that, with what guests hold, are more than the share, and unused ones if wanted.
+    fn bound_spares(&self, are_unused_freed: bool) {
+        let Some(spares) = &self.spares else {
+            return;
+        };
+        spares.keep_within(self.budget.share.saturating_sub(self.budget.held));
+        if are_unused_freed {
+            spares.free_unused();
+        }
+    }
+
+    /// Frees the memory that quiet guests keep.
+    #[inline(never)]
+    fn rest_quiet(&mut self)
         ensures { self.new ≡ self.old }
     {
-        self.budget.ticks = ticks;
+        let Guests { row, budget, .. } = self;
+        row.rest_quiet(budget);
     }
 
     /// Wakes waiting guests that find room, if memory came back or a tick has passed.
@@ -170,9 +214,9 @@ impl<L: Link + Drop> Guests<L> {
         }
     }
 
-    /// Wakes waiting guests that find room.
+    /// Wakes waiting guests that find room: first in turn, then all others, and then strays.
     fn let_on_all(&mut self)
-        ensures { WakesSome self.old self.new }
+        ensures { LetsOnAll self.old self.new }
     {
         self.let_on_in_turn();
         self.let_on_others();
@@ -181,14 +225,16 @@ impl<L: Link + Drop> Guests<L> {
 
     /// Returns whether a retry of the waiting guests is due, and records it.
     fn tries_again(&mut self) -> bool
-        ensures { self.new ≡ record self.old { may_try = self.new.may_try } }
+        ensures due { result ≡ is_retry_due self.old.budget }
+        ensures begins { IsTrue result → self.new ≡ begun_anew self.old }
+        ensures waits { IsFalse result → self.new ≡ self.old }
     {
         self.budget.tries_again()
     }
 
     /// Wakes the oldest and the newest waiting guest in turn, as long as they find room.
     fn let_on_in_turn(&mut self)
-        ensures { WakesSome self.old self.new }
+        ensures { GoInTurn self.old self.new }
     {
         for _ in 0..LOOKS {
             if !self.lets_next_on() {
@@ -200,17 +246,15 @@ impl<L: Link + Drop> Guests<L> {
     /// Wakes the waiting guest whose turn it is, if it finds room. Returns whether it did, or waits
     /// no more. An oldest guest that waited for 2 s without room makes others wait.
     fn lets_next_on(&mut self) -> bool
-        ensures { MayWake self.old self.new }
+        ensures goes { IsTrue result → TakesTurn self.old self.new }
+        ensures ends { IsFalse result → EndsTurns self.old self.new }
     {
         let Some(number) = self.whose_turn() else {
             return false;
         };
-        let place = match self.row.place_of(number) {
-            Some(place) if self.is_queued(place) => place,
-            _ => {
-                self.strike_out();
-                return true;
-            }
+        let Some(place) = self.waiting_place(number) else {
+            self.strike_out();
+            return true;
         };
         if !self.finds_room(place) {
             self.keep_room(place);
@@ -224,7 +268,7 @@ impl<L: Link + Drop> Guests<L> {
 
     /// Wakes all other waiting guests that find room, unless they wait for the oldest.
     fn let_on_others(&mut self)
-        ensures { WakesSome self.old self.new }
+        ensures { GoBeside self.old self.new }
     {
         if self.budget.is_kept {
             return;
@@ -236,23 +280,49 @@ impl<L: Link + Drop> Guests<L> {
 
     /// Wakes the first guest of the queue if it finds room. Else moves it to the end.
     fn look_at_first(&mut self)
-        ensures { MayWake self.old self.new }
+        ensures { LooksAtFirst self.old self.new }
     {
-        let Some(number) = self.queue.pop_front() else {
+        let Some(number) = self.first() else {
             return;
         };
-        let place = match self.row.place_of(number) {
-            Some(place) if self.is_queued(place) => place,
-            _ => return,
+        let Some(place) = self.waiting_place(number) else {
+            self.drop_first();
+            return;
         };
-        if self.finds_room(place) || self.queue.push_back(number).is_err() {
+        if self.finds_room(place) {
+            self.drop_first();
             self.try_again(place);
+        } else {
+            self.put_first_behind(number);
         }
+    }
+
+    /// Returns the first number of the queue.
+    fn first(&self) -> Option<u64>
+        ensures { result ≡ slice_get self.now.queue 0 }
+    {
+        self.queue.front().copied()
+    }
+
+    /// Drops the first number of the queue.
+    fn drop_first(&mut self)
+        ensures { self.new ≡ first_dropped self.old }
+    {
+        self.queue.pop_front();
+    }
+
+    /// Moves the first number of the queue to its end. It takes no memory.
+    fn put_first_behind(&mut self, number: u64)
+        requires { slice_get self.old.queue 0 ≡ Some number }
+        ensures { self.new ≡ first_behind number self.old }
+    {
+        self.queue.pop_front();
+        let _ = self.queue.push_back(number);
     }
 
     /// Wakes the waiting guests that aren't in the queue.
     fn let_on_strays(&mut self)
-        ensures { WakesSome self.old self.new }
+        ensures { self.new ≡ all_strays_tried self.old }
     {
         if !self.has_strays {
             return;
@@ -265,46 +335,41 @@ impl<L: Link + Drop> Guests<L> {
 
     /// Wakes the guest at a place if it waits and isn't in the queue.
     fn let_on_stray(&mut self, at: usize)
-        ensures { MayWake self.old self.new }
+        requires { at < length self.old.row.guests }
+        ensures { self.new ≡ stray_tried at self.old }
     {
-        if at < self.row.len() && self.row.at(at).is_stray() {
+        if self.row.at(at).is_stray() {
             self.try_again(at);
         }
     }
 
-    /// Wakes a waiting guest.
-    #[tactic(auto, using(crate::proofs::BookLemmas::wakes_one))]
+    /// Tries a waiting guest again, and wakes it if it sleeps.
+    ///
+    /// If an event woke it before, it is out of the queue, so its turn comes now.
     fn try_again(&mut self, at: usize)
-        ensures { MayWake self.old self.new }
+        requires { at < length self.old.row.guests }
+        ensures { self.new ≡ tried_again at self.old }
     {
-        if self.awake <= at && at < self.row.len() {
-            self.wake_waiting(at);
-        } else {
-            // an event woke it before: it is out of the queue, so its turn comes now
-            self.row.set_line(at, Line::Next);
-        }
+        self.set_line(at, Line::Next);
+        self.wake_at(at);
     }
 
-    /// Wakes a waiting guest that sleeps.
-    fn wake_waiting(&mut self, at: usize)
-        requires { SleepsAt at self.old }
-        ensures { self.new ≡ woken at self.old }
+    /// Notes a guest's place in the queue of waiting guests.
+    fn set_line(&mut self, at: usize, line: Line)
+        requires { at < length self.old.row.guests }
+        ensures { self.new ≡ lined at line self.old }
     {
-        let place = self.awake;
-        self.wake_at(at);
-        self.row.set_line(place, Line::Next);
+        self.row.set_line(at, line);
     }
 
     /// Returns whether a waiting guest finds room, and promises the room to it.
     fn finds_room(&mut self, at: usize) -> bool
-        ensures { self.new ≡ self.old }
+        requires { at < length self.old.row.guests }
+        ensures { PromisesRoom at result self.old self.new }
     {
-        if at >= self.row.len() {
-            return true;
-        }
         let missing = self.row.at(at).missing();
         if self.budget.has_left(missing) {
-            self.budget.promised = self.budget.promised.saturating_add(missing);
+            self.budget.promise(missing);
             return true;
         }
         false
@@ -312,25 +377,24 @@ impl<L: Link + Drop> Guests<L> {
 
     /// Makes others wait for this guest, if it is the oldest one's turn and it waited for 2 s.
     fn keep_room(&mut self, at: usize)
-        ensures { self.new ≡ self.old }
+        requires { at < length self.old.row.guests }
+        ensures { KeepsRoom at self.old self.new }
     {
-        self.budget.is_kept = !self.is_last && self.waits_long(at);
-    }
-
-    /// Returns whether the guest at a place waits in the queue for at least 2 s.
-    fn waits_long(&self, at: usize) -> bool {
-        at < self.row.len() && self.row.at(at).waits_long(self.budget.ticks)
+        let is_long = self.row.at(at).waits_long(self.budget.ticks);
+        self.budget.is_kept = is_kept_for(self.is_last, is_long);
     }
 
     /// Passes the turn between the oldest and the newest if the guest in turn went on.
     fn pass_turn(&mut self)
-        ensures { self.new ≡ self.old }
+        ensures { self.new ≡ turn_passed self.old }
     {
         self.is_last = !self.is_last;
     }
 
     /// Returns the number of the guest whose turn it is in the queue.
-    fn whose_turn(&self) -> Option<u64> {
+    fn whose_turn(&self) -> Option<u64>
+        ensures { result ≡ in_turn self.now }
+    {
         if self.is_last {
             self.queue.back().copied()
         } else {
@@ -340,7 +404,7 @@ impl<L: Link + Drop> Guests<L> {
 
     /// Removes the guest whose turn it is from the queue.
     fn strike_out(&mut self)
-        ensures { self.new ≡ self.old }
+        ensures { self.new ≡ struck_out self.old }
     {
         if self.is_last {
             self.queue.pop_back();
@@ -349,9 +413,17 @@ impl<L: Link + Drop> Guests<L> {
         }
     }
 
-    /// Returns whether the guest at a place is in the queue.
-    fn is_queued(&self, at: usize) -> bool {
-        at < self.row.len() && self.row.at(at).is_queued()
+    /// Returns the place of the guest that waits in the queue by this number.
+    fn waiting_place(&self, number: u64) -> Option<usize>
+        ensures some { IfSome result (λ at. IsQueuedAt number at self.now.row) }
+        ensures none { result ≡ None → NoneWaits number self.now.row }
+    {
+        let place = self.row.place_of(number)?;
+        if self.row.at(place).is_queued() {
+            Some(place)
+        } else {
+            None
+        }
     }
 
     /// Returns the number of waiting guests.
@@ -372,7 +444,8 @@ impl<L: Link + Drop> Guests<L> {
 
     /// Returns how many slow guests to judge now: once a tick, as many as wait, at most 16.
     pub fn takes_turn_to_judge(&mut self) -> usize
-        ensures { self.new ≡ self.old }
+        ensures judges { result ≡ to_judge self.old.budget }
+        ensures notes { self.new ≡ took_judging self.old }
     {
         self.budget.takes_turn_to_judge()
     }
@@ -380,7 +453,8 @@ impl<L: Link + Drop> Guests<L> {
     /// Judges the slowest of the guests that hold more than 16 KiB, if it is slow: it moved
     /// nothing for 5 s, or less than 64 KiB/s for at least 5 s. All guests are looked at.
     pub fn judge_slowest(&mut self) -> Option<Judged>
-        ensures { self.new ≡ self.old }
+        ensures judges { Judges self.old.budget.ticks result self.old.row self.new.row }
+        ensures rest { self.new ≡ record self.old { row = self.new.row } }
     {
         self.row.judge_slowest(self.budget.ticks)
     }
@@ -427,11 +501,11 @@ impl<L: Link + Drop> Guests<L> {
     /// Puts a waiting guest into the queue, and to sleep. If memory is refused it is a stray.
     fn line_up(&mut self, at: usize)
         requires { at < self.old.awake }
-        ensures { self.new ≡ put_behind at self.old }
+        ensures { LinesUp at self.old self.new }
     {
         let number = self.row.number_of(at);
         if self.queue.push_back(number).is_ok() {
-            self.row.set_line(at, Line::Queued);
+            self.set_line(at, Line::Queued);
         } else {
             self.has_strays = true;
         }
@@ -486,10 +560,19 @@ impl<L: Link + Drop> Guests<L> {
     }
 }
 
+/// Returns whether others wait for a guest that finds no room: it is the oldest one's turn, and it
+/// waited long.
+fn is_kept_for(is_last: bool, is_long: bool) -> bool
+    ensures { result ≡ (not is_last && is_long) }
+{
+    !is_last && is_long
+}
+
 /// Returns what a guest does next after its last answer. An end is counted.
 fn fate_of(last: Option<Visit>, end: &mut WorkEnd) -> Fate
     ensures over { is_over result ≡ has_ended last }
     ensures asleep { is_asleep result ≡ is_later last }
+    ensures queue { is_to_queue result ≡ false }
     ensures counts { end.new ≡ counted last end.old }
 {
     match last {
@@ -516,6 +599,7 @@ fn fate_of(last: Option<Visit>, end: &mut WorkEnd) -> Fate
 fn fate_in_line(line: Line, fate: Fate) -> Fate
     ensures over { is_over result ≡ is_over fate }
     ensures asleep { IsFalse (is_over fate) → IsTrue (is_asleep result) }
+    ensures queue { IsFalse (is_over fate) → is_to_queue result ≡ is_left_out line }
 {
     match (fate, line) {
         (Fate::Ended, _) => Fate::Ended,

@@ -1,8 +1,13 @@
 //! Laws of visits, each the contract of a function that does nothing.
 
-ghost use Rattle.std.specs.Prelude.{◌≡◌, ℕ, List, [], ◌++◌, Some, slice_get};
+ghost use Rattle.std.specs.Prelude.{◌≡◌, ◌≤◌, ℕ, List, [], ◌++◌, length, Some, slice_get, IsTrue, IsFalse};
+ghost use Rattle.mc_guests.specs.Books.{BooksState, HasNumber, StandsAt};
+ghost use Rattle.mc_guests.specs.Budgets.{is_retry_due};
+ghost use Rattle.mc_guests.specs.Fairness.{IsFair, NoneFindsRoom, StandsBy};
+ghost use Rattle.mc_guests.specs.Retries.{begun_anew, looks};
+ghost use Rattle.mc_guests.specs.Turns.{VisitsAll};
 ghost use Rattle.mc_guests.specs.Links.{LinkState, grown};
-ghost use Rattle.mc_guests.specs.Guests.{GuestState, welcomed, told};
+ghost use Rattle.mc_guests.specs.Guests.{GuestState, RowGuest, welcomed, told};
 ghost use Rattle.mc_guests.specs.Visits.{Visited, GoesRound};
 ghost use Rattle.mc_guests.specs.Telling.{TakenTurn, Visits, texts, turns_of};
 ghost use Rattle.mc_guests.specs.Telling.{bytes_given, bytes_taken, AnswerFirst, AnswerAll};
@@ -81,4 +86,28 @@ pub fn rounds_are_visits<S: Steps>()
     ensures rounds { (turns later : List (TakenTurn S.Steps)) (first mid last : GuestState) →
         Visits S.Steps turns first mid → Visits S.Steps later mid last →
         Visits S.Steps (turns ++ later) first last }
+{}
+
+/// States who goes on and who waits on after a retry of the waiting guests.
+///
+/// A retry wakes a guest of the queue only if it finds room beside what was promised to others
+/// before, and a sleeping one that was left out of the queue. Other guests stay as they are. A
+/// number leaves the queue only if no guest waits by it then. What is promised fits into the share
+/// beside what is held, or goes to one guest while none holds much.
+///
+/// Each guest that was looked at and still waits finds no room. All were, if the queue has up to
+/// 256 numbers, unless others wait for the oldest: then that guest waited for 2 s and finds no
+/// room.
+pub fn retries_are_fair<S: Steps>()
+    ensures fair { (now : ℕ) (old new : BooksState) (before after : S)
+        (visits : VisitsAll S.Steps now old new before after) →
+        IsTrue (is_retry_due old.budget) → IsFair (begun_anew old) visits.between }
+    ensures all { (now : ℕ) (old new : BooksState) (before after : S)
+        (visits : VisitsAll S.Steps now old new before after) →
+        IsTrue (is_retry_due old.budget) → length old.queue ≤ looks →
+        IsFalse visits.between.budget.is_kept → NoneFindsRoom visits.between }
+    ensures others { (now at number : ℕ) (guest : RowGuest) (old new : BooksState)
+        (before after : S) (visits : VisitsAll S.Steps now old new before after) →
+        HasNumber old.row at number → StandsAt at old.row guest → IsFalse guest.waits →
+        StandsBy number guest visits.between.row }
 {}

@@ -49,7 +49,10 @@ pub use door::Door;
 pub use gathering::Gathering;
 pub use guest::{Guest, Visit};
 pub use guests::{Guests, WorkEnd};
-pub use laws::{links_are_answered_what_they_gave, links_take_texts_of_turns, rounds_are_visits};
+pub use laws::{
+    links_are_answered_what_they_gave, links_take_texts_of_turns, retries_are_fair,
+    rounds_are_visits,
+};
 pub use link::{Got, Link, LinkFault, Took};
 pub use links::{Links, Next};
 pub use measure::length_at;

@@ -69,6 +69,12 @@ pub trait Link {
         Ok(())
     }
 
+    /// Notes that the next write needn't wait for others, as no request is at hand. Does nothing by
+    /// default.
+    fn send_soon(&mut self)
+        ensures { shown self.new ≡ shown self.old }
+    {}
+
     /// Records that its guest ends because memory was refused. Does nothing by default.
     fn refused(&mut self)
         ensures { shown self.new ≡ shown self.old }

@@ -1,4 +1,7 @@
 //! How fast a guest's link moves bytes.
+ghost use Rattle.std.specs.Prelude.{◌≡◌};
+ghost use Rattle.mc_guests.specs.Paces.{begun, moves, asked_again, age, rate, is_slow, is_silent};
+ghost use Rattle.mc_guests.specs.Paces.{lags, is_recent, was_asked};
 
 /// Ticks for which a link may move nothing, and after which its rate is judged. A tick is 0.25 s.
 const PATIENCE: u64 = 20;
@@ -25,7 +28,9 @@ pub struct Pace {
 
 impl Pace {
     /// Returns the pace of a link that begins now.
-    pub fn new(ticks: u64) -> Pace {
+    pub fn new(ticks: u64) -> Pace
+        ensures { result ≡ begun ticks }
+    {
         Pace {
             since: ticks,
             moved: 0,
@@ -35,47 +40,76 @@ impl Pace {
     }
 
     /// Adds moved bytes.
-    pub fn moves(&mut self, bytes: usize, ticks: u64) {
+    pub fn moves(&mut self, bytes: usize, ticks: u64)
+        ensures { self.new ≡ moves bytes ticks self.old }
+    {
         self.moved = self.moved.saturating_add(bytes as u64);
         self.heard = ticks;
     }
 
     /// Returns the ticks since it began.
-    pub fn age(&self, ticks: u64) -> u64 {
+    pub fn age(&self, ticks: u64) -> u64
+        ensures { result ≡ age ticks self.now }
+    {
         ticks.saturating_sub(self.since)
     }
 
     /// Returns the average rate, in bytes a tick.
-    pub fn rate(&self, ticks: u64) -> u64 {
+    #[tactic(auto, unfolding(crate::specs::Paces::rate))]
+    pub fn rate(&self, ticks: u64) -> u64
+        ensures { result ≡ rate ticks self.now }
+    {
         self.moved / self.age(ticks).max(1)
     }
 
     /// Returns whether the link moved nothing for 5 s, or less than 64 KiB/s for at least 5 s. A
     /// link that was just asked again isn't slow for 0.5 s.
-    pub fn is_slow(&self, ticks: u64) -> bool {
-        let is_quiet = ticks.saturating_sub(self.heard) >= PATIENCE;
-        let lags = self.age(ticks) >= PATIENCE && self.rate(ticks) < LEAST;
-        (is_quiet || lags) && !self.is_being_asked(ticks)
+    pub fn is_slow(&self, ticks: u64) -> bool
+        ensures { result ≡ is_slow ticks self.now }
+    {
+        (self.is_silent(ticks) || self.lags(ticks)) && !self.is_recent(ASKED, ticks)
     }
 
-    /// Returns whether the link was asked again in the last 0.5 s.
-    fn is_being_asked(&self, ticks: u64) -> bool {
+    /// Returns whether the link moved nothing for this many ticks.
+    pub fn was_quiet(&self, ticks: u64, least: u64) -> bool {
+        ticks.saturating_sub(self.heard) >= least
+    }
+
+    /// Returns whether the link moved nothing for 5 s.
+    fn is_silent(&self, ticks: u64) -> bool
+        ensures { result ≡ is_silent ticks self.now }
+    {
+        ticks.saturating_sub(self.heard) >= PATIENCE
+    }
+
+    /// Returns whether the link moved less than 64 KiB/s for at least 5 s.
+    fn lags(&self, ticks: u64) -> bool
+        ensures { result ≡ lags ticks self.now }
+    {
+        self.age(ticks) >= PATIENCE && self.rate(ticks) < LEAST
+    }
+
+    /// Returns whether the link was asked again less than `within` ticks ago.
+    fn is_recent(&self, within: u64, ticks: u64) -> bool
+        ensures { result ≡ is_recent within ticks self.now.asked }
+    {
         match self.asked {
-            Some(asked) => ticks.saturating_sub(asked) < ASKED,
+            Some(asked) => ticks.saturating_sub(asked) < within,
             None => false,
         }
     }
 
     /// Returns whether the link was asked again in the last 2 s.
-    pub fn was_asked(&self, ticks: u64) -> bool {
-        match self.asked {
-            Some(asked) => ticks.saturating_sub(asked) < LONG_ASKED,
-            None => false,
-        }
+    pub fn was_asked(&self, ticks: u64) -> bool
+        ensures { result ≡ was_asked ticks self.now }
+    {
+        self.is_recent(LONG_ASKED, ticks)
     }
 
     /// Records that the link is asked again.
-    pub fn ask(&mut self, ticks: u64) {
+    pub fn ask(&mut self, ticks: u64)
+        ensures { self.new ≡ asked_again ticks self.old }
+    {
         self.asked = Some(ticks);
     }
 }

@@ -2,12 +2,15 @@
 //!
 //! Contracts show guests as lists (`BooksState`): guests in a row, the number of each one's link,
 //! and how many are awake, the first ones. So a contract names which guest wakes, sleeps and ends.
-ghost use Rattle.std.specs.Prelude.{◌≡◌, ◌<◌, ◌≤◌, ◌-◌, ◌++◌, ◌∷◌, ℕ, [], take, drop, length, Some, IfSome, IsTrue, IsFalse, false};
+ghost use Rattle.std.specs.Prelude.{◌≡◌, ◌<◌, ◌≤◌, ◌-◌, ◌+◌, ◌++◌, ◌∷◌, ℕ, [], take, drop, length, Some, IfSome, IsTrue, IsFalse, false};
 ghost use Rattle.mc_guests.specs.Asks.{MakesRound};
-ghost use Rattle.mc_guests.specs.Budgets.{CountsAll, RecountsAll};
+ghost use Rattle.mc_guests.specs.Budgets.{CountsAll, RecountsAll, rest_of};
 ghost use Rattle.mc_guests.specs.Turns.{HaveTurns};
+ghost use Rattle.mc_guests.specs.Retries.{IsWhole};
 ghost use Rattle.mc_guests.specs.Books.{nobody, swapped, cut, joined, HasNumber, StandsAt};
-ghost use Rattle.mc_guests.specs.Guests.{newcomer};
+ghost use Rattle.mc_guests.specs.Books.{with_guest};
+ghost use Rattle.mc_guests.specs.Guests.{newcomer, in_line};
+ghost use Rattle.mc_guests.specs.Judging.{FindsSlowest, Judges, JudgesAt, undercuts};
 
 use crate::budget::Budget;
 use crate::guest::Guest;
@@ -29,7 +32,12 @@ pub struct Row<L: Link + Drop> {
     guests: Vec<Seat<L>>,
     /// The number of each one's link.
     numbers: Numbers,
+    /// The place of the guest that rests next if it is quiet.
+    next: usize,
 }
+
+/// The most guests that are looked at in one tick, to see whether they are quiet.
+const LOOKS: usize = 1024;
 
 impl<L: Link + Drop> Model for Row<L> {
     ghost use Rattle.std.specs.Prelude.{◌≡◌, length};
@@ -51,6 +59,7 @@ impl<L: Link + Drop> Row<L> {
             alloc,
             guests: Vec::new(alloc),
             numbers: Numbers::new(alloc),
+            next: 0,
         }
     }
 
@@ -84,7 +93,8 @@ impl<L: Link + Drop> Row<L> {
         ensures cut { self.new ≡ cut (length self.old.guests - 1) self.old }
         ensures counts { CountsAll budget.old self.old.guests →
             CountsAll budget.new self.new.guests }
-        ensures share { budget.new.share ≡ budget.old.share }
+        ensures rest { rest_of budget.new ≡ rest_of budget.old }
+        ensures eased { IsTrue budget.new.is_eased }
     {
         let Some(mut guest) = self.guests.pop() else {
             return;
@@ -103,11 +113,10 @@ impl<L: Link + Drop> Row<L> {
 
     /// Notes a guest's place in the queue of waiting guests.
     pub fn set_line(&mut self, at: usize, line: Line)
-        ensures { self.new ≡ self.old }
+        requires { at < length self.old.guests }
+        ensures { self.new ≡ with_guest (in_line line) at self.old }
     {
-        if let Some(guest) = self.guests.get_mut(at) {
-            guest.set_line(line);
-        }
+        self.guests[at].set_line(line);
     }
 
     /// Returns the number of a guest's link.
@@ -118,30 +127,69 @@ impl<L: Link + Drop> Row<L> {
         self.numbers.at(at)
     }
 
-    /// Judges the slowest guest that holds much, if one is slow.
-    pub fn judge_slowest(&mut self, ticks: u64) -> Option<Judged>
+    /// Frees the memory that quiet guests keep. It looks at up to 1024 of them, in turn.
+    pub fn rest_quiet(&mut self, budget: &Budget)
         ensures { self.new ≡ self.old }
     {
-        let (at, number) = self.slowest(ticks)?;
-        match self.guests.get_mut(at) {
-            Some(guest) => Some(guest.judge(number, ticks)),
+        for _ in 0..self.guests.len().min(LOOKS) {
+            self.rest_next(budget);
+        }
+    }
+
+    /// Frees the memory that the next guest in turn keeps, if it is quiet.
+    fn rest_next(&mut self, budget: &Budget)
+        ensures { self.new ≡ self.old }
+    {
+        if self.next >= self.guests.len() {
+            self.next = 0;
+        }
+        if let Some(guest) = self.guests.get_mut(self.next) {
+            guest.rest_if_quiet(budget);
+        }
+        self.next = self.next.wrapping_add(1);
+    }
+
+    /// Judges the slowest guest that holds much, if one is slow. Of equal ones it is the first.
+    pub fn judge_slowest(&mut self, ticks: u64) -> Option<Judged>
+        ensures { Judges ticks result self.old self.new }
+    {
+        match self.slowest(ticks) {
+            Some((at, _)) => Some(self.judge_at(at, ticks)),
             None => None,
         }
     }
 
-    /// Returns the place of the slowest guest that holds much, and the number of its link.
-    fn slowest(&self, ticks: u64) -> Option<(usize, u64)> {
-        let mut least = u64::MAX;
+    /// Judges the slow guest at a place.
+    fn judge_at(&mut self, at: usize, ticks: u64) -> Judged
+        requires { at < length self.old.guests }
+        ensures { JudgesAt ticks at result self.old self.new }
+    {
+        let number = self.numbers.at(at);
+        self.guests[at].judge(number, ticks)
+    }
+
+    /// Returns the place and the rate of the slowest guest that holds much, if one is slow.
+    fn slowest(&self, ticks: u64) -> Option<(usize, u64)>
+        ensures { FindsSlowest ticks (length self.now.guests) result self.now.guests }
+    {
         let mut found = None;
         for at in 0..self.guests.len() {
-            if let Some(rate) = self.guests[at].guest().slowness(ticks)
-                && rate < least
-            {
-                least = rate;
-                found = Some((at, self.numbers.at(at)));
-            }
+            found = self.slower(found, at, ticks);
         }
         found
+    }
+
+    /// Returns the slowest guest up to a place, if `found` is the slowest before it.
+    fn slower(&self, found: Option<(usize, u64)>, at: usize, ticks: u64) -> Option<(usize, u64)>
+        requires stands { at < length self.now.guests }
+        requires found { FindsSlowest ticks at found self.now.guests }
+        ensures { FindsSlowest ticks (at + 1) result self.now.guests }
+    {
+        let guest = self.at(at);
+        match guest.slowness(ticks) {
+            Some(rate) if undercuts(rate, found) => Some((at, rate)),
+            _ => found,
+        }
     }
 
     /// Returns the place of the guest whose link has this number.
@@ -163,6 +211,7 @@ impl<L: Link + Drop> Row<L> {
         budget: &mut Budget,
     )
         requires { count ≤ length self.old.guests }
+        ensures whole { IsWhole self.old }
         ensures round { MakesRound S.Steps now store.old store.new }
         ensures turns { HaveTurns S.Steps now (take count self.old.guests)
             (take count self.new.guests) store.old store.new budget.old budget.new }
@@ -188,6 +237,16 @@ impl<L: Link + Drop> Row<L> {
         }
         self.guests.as_mut_slice().swap(one, other);
         self.numbers.swap(one, other);
+    }
+}
+
+/// Returns whether a rate is below that of the slowest guest before, if there is one.
+fn undercuts(rate: u64, found: Option<(usize, u64)>) -> bool
+    ensures { result ≡ undercuts rate found }
+{
+    match found {
+        Some((_, lowest)) => rate < lowest,
+        None => true,
     }
 }
 

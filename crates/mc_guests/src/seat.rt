@@ -4,7 +4,8 @@
 ghost use Rattle.std.specs.Prelude.{◌≡◌, true, is_none, IfSome, None};
 ghost use Rattle.mc_guests.specs.Asks.{AsksAndVisits, IsKeptWaiting};
 ghost use Rattle.mc_guests.specs.Budgets.{uncounted, IsHeldBack, Recounts};
-ghost use Rattle.mc_guests.specs.Guests.{newcomer};
+ghost use Rattle.mc_guests.specs.Guests.{newcomer, in_line};
+ghost use Rattle.mc_guests.specs.Judging.{verdict, judged};
 
 use crate::budget::Budget;
 use crate::guest::{Guest, Visit};
@@ -54,14 +55,22 @@ impl<L: Link + Drop> Seat<L> {
 
     /// Notes its place in the queue.
     pub fn set_line(&mut self, line: Line)
-        ensures { self.new ≡ self.old }
+        ensures { self.new ≡ in_line line self.old }
     {
         self.inner.set_line(line);
     }
 
+    /// Frees the memory that it keeps, if it moved nothing for 1 s or memory is tight.
+    pub fn rest_if_quiet(&mut self, budget: &Budget)
+        ensures { self.new ≡ self.old }
+    {
+        self.inner.rest_if_quiet(budget);
+    }
+
     /// Judges a slow guest, whose link has this number.
     pub fn judge(&mut self, number: u64, ticks: u64) -> Judged
-        ensures { self.new ≡ self.old }
+        ensures says { result ≡ verdict ticks number self.old }
+        ensures notes { self.new ≡ judged ticks self.old }
     {
         self.inner.judge(number, ticks)
     }

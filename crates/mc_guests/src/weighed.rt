@@ -11,7 +11,10 @@ ghost use Rattle.mc_protocol.specs.Commands.{longest_key};
 ghost use Rattle.mc_guests.specs.Asks.{AsksAndVisits, IsKeptWaiting, StaysOrLosesLink};
 ghost use Rattle.mc_guests.specs.Asks.{little, MayAsk, NamesKey};
 ghost use Rattle.mc_guests.specs.Budgets.{uncounted, counted_too, IsHeldBack, Recounts};
-ghost use Rattle.mc_guests.specs.Guests.{newcomer, has_ended};
+ghost use Rattle.mc_guests.specs.Guests.{newcomer, has_ended, is_in_queue, is_left_out};
+ghost use Rattle.mc_guests.specs.Guests.{is_queued, is_stray, missing, in_line};
+ghost use Rattle.mc_guests.specs.Judging.{is_held_up, is_hoarding, slowness, verdict, judged};
+ghost use Rattle.mc_guests.specs.Retries.{waits_long};
 ghost use Rattle.mc_guests.specs.Visits.{Visited};
 
 use crate::budget::{Budget, LITTLE};
@@ -28,6 +31,12 @@ use std::marker::Model;
 /// The bytes that an idle guest reserves. They aren't counted: idle guests keep nobody waiting.
 const IDLE: usize = 6144;
 
+/// The bytes that a guest without input and output may keep while it isn't quiet.
+const KEPT: usize = 65_536;
+
+/// The ticks without a moved byte after which a guest is quiet.
+const QUIET: u64 = 4;
+
 /// The bytes that a guest reserves before it asks for the whole room of a large block.
 const BEGUN: usize = LITTLE;
 
@@ -37,8 +46,9 @@ const PARTS: usize = 16;
 /// The ticks after which others wait for a waiting guest.
 const LONG: u64 = 8;
 
-/// A guest, and the memory that it holds. Contracts see the guest, whether it waits for room, and
-/// the bytes for which it is counted.
+/// A guest, and the memory that it holds. Contracts see the guest, whether it waits for room, the
+/// bytes for which it is counted, its place in the queue, what it wanted when it began to wait, and
+/// its link's pace.
 #[derive(Drop)]
 pub struct Weighed<L: Link + Drop> {
     guest: Guest<L>,
@@ -57,6 +67,8 @@ pub struct Weighed<L: Link + Drop> {
     wanted: usize,
     /// The pace of its link since it holds more than a little, or waits.
     pace: Pace,
+    /// Whether it keeps memory that isn't counted: it has neither input nor output.
+    keeps: bool,
 }
 
 /// The place of a waiting guest in the queue.
@@ -84,7 +96,15 @@ impl<L: Link + Drop> Model for Weighed<L> {
 
     ghost Value = { RowGuest };
 
-    ghost view = { λ w. record { guest = w.guest; waits = w.waits; counted = w.counted } };
+    ghost view = { λ w. record {
+      guest = w.guest;
+      waits = w.waits;
+      counted = w.counted;
+      line = w.line;
+      wanted = w.wanted;
+      is_unread = w.is_unread;
+      pace = w.pace;
+    } };
 }
 
 impl<L: Link + Drop> Weighed<L> {
@@ -102,6 +122,7 @@ impl<L: Link + Drop> Weighed<L> {
             is_unread: false,
             wanted: 0,
             pace: Pace::new(0),
+            keeps: false,
         }
     }
 
@@ -120,51 +141,78 @@ impl<L: Link + Drop> Weighed<L> {
     }
 
     /// Returns its place in the queue, if it waits for room.
-    pub fn line(&self) -> Line {
+    pub fn line(&self) -> Line
+        ensures { result ≡ self.now.line }
+    {
         self.line
     }
 
     /// Notes its place in the queue.
     pub fn set_line(&mut self, line: Line)
-        ensures { self.new ≡ self.old }
+        ensures { self.new ≡ in_line line self.old }
     {
         self.line = line;
     }
 
     /// Returns the bytes that it waits for, beyond those that are counted.
-    pub fn missing(&self) -> usize {
+    pub fn missing(&self) -> usize
+        ensures { result ≡ missing self.now }
+    {
         self.wanted.saturating_sub(self.counted)
     }
 
     /// Returns whether it waits in the queue for at least 2 s.
-    pub fn waits_long(&self, ticks: u64) -> bool {
+    pub fn waits_long(&self, ticks: u64) -> bool
+        ensures { result ≡ waits_long ticks self.now }
+    {
         self.is_queued() && self.pace.age(ticks) >= LONG
     }
 
     /// Returns whether it waits in the queue.
-    pub fn is_queued(&self) -> bool {
-        self.waits && self.line == Line::Queued
+    pub fn is_queued(&self) -> bool
+        ensures { result ≡ is_queued self.now }
+    {
+        self.waits && self.line.is_in_queue()
     }
 
     /// Returns whether it waits and isn't in the queue.
-    pub fn is_stray(&self) -> bool {
-        self.waits && self.line == Line::Out
+    pub fn is_stray(&self) -> bool
+        ensures { result ≡ is_stray self.now }
+    {
+        self.waits && self.line.is_left_out()
     }
 
     /// Returns its rate if it is slow, holds more than a little, and doesn't wait or waits with
     /// output that its client doesn't read.
-    pub fn slowness(&self, ticks: u64) -> Option<u64> {
-        let is_held_up = self.waits && !self.is_unread;
-        if !is_held_up && self.counted > LITTLE && self.pace.is_slow(ticks) {
+    #[tactic(auto, unfolding(crate::specs::Judging::slowness))]
+    pub fn slowness(&self, ticks: u64) -> Option<u64>
+        ensures { result ≡ slowness ticks self.now }
+    {
+        if self.is_hoarding(ticks) {
             Some(self.pace.rate(ticks))
         } else {
             None
         }
     }
 
+    /// Returns whether it is slow, holds more than a little, and isn't held up by others.
+    fn is_hoarding(&self, ticks: u64) -> bool
+        ensures { result ≡ is_hoarding ticks self.now }
+    {
+        !self.is_held_up() && self.counted > LITTLE && self.pace.is_slow(ticks)
+    }
+
+    /// Returns whether it waits for room, and its client reads all of its output.
+    fn is_held_up(&self) -> bool
+        ensures { result ≡ is_held_up self.now }
+    {
+        self.waits && !self.is_unread
+    }
+
     /// Judges a slow guest, whose link has this number.
     pub fn judge(&mut self, number: u64, ticks: u64) -> Judged
-        ensures { self.new ≡ self.old }
+        ensures says { result ≡ verdict ticks number self.old }
+        ensures notes { self.new ≡ judged ticks self.old }
     {
         if self.pace.was_asked(ticks) {
             self.pace = Pace::new(ticks);
@@ -401,17 +449,20 @@ impl<L: Link + Drop> Weighed<L> {
         ensures waits { self.new.waits ≡ self.old.waits }
         ensures counts { Recounts self.old self.new budget.old budget.new }
     {
-        let bytes = self.bytes_after(answer, budget.ticks);
+        let bytes = self.bytes_after(answer, budget);
         self.recount(bytes, budget);
     }
 
     /// Returns the bytes that it is to be counted for after a visit with this answer, and notes
     /// what the visit moved.
-    fn bytes_after(&mut self, answer: Visit, ticks: u64) -> usize
-        ensures { self.new ≡ self.old }
+    fn bytes_after(&mut self, answer: Visit, budget: &Budget) -> usize
+        ensures { self.new ≡ record self.old { pace = self.new.pace } }
     {
-        if !self.notes(answer, ticks) {
+        if !self.notes(answer, budget) {
             return self.counted;
+        }
+        if self.keeps {
+            return 0;
         }
         let reserved = self.guest.capacity().saturating_sub(IDLE);
         if self.has_leave {
@@ -422,9 +473,11 @@ impl<L: Link + Drop> Weighed<L> {
     }
 
     /// Notes what a visit with this answer moved, and returns whether it is to be counted anew.
-    fn notes(&mut self, answer: Visit, ticks: u64) -> bool
-        ensures { self.new ≡ self.old }
+    fn notes(&mut self, answer: Visit, budget: &Budget) -> bool
+        ensures { self.new ≡ record self.old { pace = self.new.pace } }
     {
+        let ticks = budget.ticks;
+        self.keeps = false;
         match answer {
             Visit::Wrote => {
                 self.pace.moves(self.guest.moved_bytes(), ticks);
@@ -442,10 +495,33 @@ impl<L: Link + Drop> Weighed<L> {
                 true
             }
             Visit::Later => {
-                let _ = self.guest.rest();
+                self.keep_or_rest(budget);
                 true
             }
             Visit::Served | Visit::Broken | Visit::Refused => true,
+        }
+    }
+
+    /// Keeps its memory for its next request, if it has neither input nor output, holds at most
+    /// `KEPT`, and memory isn't tight. Otherwise it frees what it doesn't use.
+    fn keep_or_rest(&mut self, budget: &Budget)
+        ensures { self.new ≡ self.old }
+    {
+        self.keeps = self.guest.is_between_requests()
+            && self.guest.capacity() <= KEPT
+            && !budget.is_tight();
+        if !self.keeps {
+            let _ = self.guest.rest();
+        }
+    }
+
+    /// Frees the memory that it keeps, if it moved nothing for 1 s or memory is tight.
+    pub fn rest_if_quiet(&mut self, budget: &Budget)
+        ensures { self.new ≡ self.old }
+    {
+        if self.keeps && (self.pace.was_quiet(budget.ticks, QUIET) || budget.is_tight()) {
+            self.keeps = false;
+            let _ = self.guest.rest();
         }
     }
 
@@ -465,6 +541,28 @@ impl<L: Link + Drop> Weighed<L> {
             self.pace = Pace::new(budget.ticks);
         }
         budget.is_eased |= self.counted < was;
+    }
+}
+
+impl Line {
+    /// Returns whether a guest that waits there is in the queue.
+    fn is_in_queue(self) -> bool
+        ensures { result ≡ is_in_queue self }
+    {
+        match self {
+            Line::Queued => true,
+            Line::Out | Line::Next => false,
+        }
+    }
+
+    /// Returns whether a guest that waits there is left out of the queue.
+    fn is_left_out(self) -> bool
+        ensures { result ≡ is_left_out self }
+    {
+        match self {
+            Line::Out => true,
+            Line::Queued | Line::Next => false,
+        }
     }
 }
 

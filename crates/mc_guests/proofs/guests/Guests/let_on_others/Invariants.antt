@@ -1,5 +1,5 @@
-use Rattle.mc_guests.specs.Books.{WakesSome}
+use Rattle.mc_guests.specs.Retries.{LooksAt}
 use Rattle.mc_guests.proofs.guests.Guests.let_on_others.Given as goal
 
 abbrev pub invariant-loop : goal.invariant-loop
-invariant-loop g l = WakesSome l.fn.self l.self
+invariant-loop g l = LooksAt l.counter l.fn.self l.self

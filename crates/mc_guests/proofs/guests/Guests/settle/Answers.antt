@@ -1,10 +1,10 @@
-use Rattle.std.proofs.Common.{arith}
-use Rattle.mc_guests.specs.Budgets.{may_try}
+use Rattle.std.proofs.Common.{ap, sym, arith}
+use Rattle.mc_guests.specs.Books.{BooksState}
 use Rattle.mc_guests.proofs.BookLemmas.{settles_nobody, settles_more}
 use Rattle.mc_guests.proofs.guests.Guests.settle.Goals as goal
 
 pub loop-at-init : goal.loop-at-init
-loop-at-init g c = settles_nobody c.self.inside.row c.self.inside.awake c.self.inside.budget.share (may_try c.self.inside.budget) c.args.self.now c.args.end.now c.self.view_is
+loop-at-init g c = settles_nobody c.self.inside.awake c.args.self.now c.args.end.now (sym (ap (λ (b : BooksState). b.awake) c.self.view_is))
 
 pub loop-at-preserved : goal.loop-at-preserved
 loop-at-preserved g c =

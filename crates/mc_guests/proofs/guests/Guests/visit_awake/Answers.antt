@@ -1,6 +1,5 @@
 use Rattle.std.proofs.Common.{refl, subst}
 use Rattle.mc_guests.specs.Books.{BooksState}
-use Rattle.mc_guests.specs.Budgets.{may_try}
 use Rattle.mc_guests.specs.Turns.{VisitsAwake}
 use Rattle.mc_guests.proofs.guests.Guests.visit_awake.Goals as goal
 
@@ -9,14 +8,14 @@ returns-clause-visits g c =
     let later : BooksState = record {
       row = c.visit_front.new.self;
       awake = c.self.inside.awake;
-      may_try = may_try c.visit_front.new.budget;
-      share = c.visit_front.new.budget.share;
+      budget = c.visit_front.new.budget;
+      queue = c.self.inside.queue.items;
+      is_last = c.self.inside.is_last;
+      has_strays = c.self.inside.has_strays;
     } in
     subst (λ (b : BooksState). VisitsAwake g.S.Steps c.args.now b later c.args.store.now c.visit_front.new.store) c.self.view_is (record {
-      budget = c.self.inside.budget;
-      later = c.visit_front.new.budget;
-      share = refl;
+      whole = c.visit_front.ensures.whole;
       counts = c.self.invariant.1;
       turns = c.visit_front.ensures.turns;
-      keeps = record { share = c.visit_front.ensures.share; asleep = c.visit_front.ensures.rest; numbers = c.visit_front.ensures.numbers; awake = refl };
+      keeps = record { share = c.visit_front.ensures.share; asleep = c.visit_front.ensures.rest; numbers = c.visit_front.ensures.numbers; same = refl };
     })

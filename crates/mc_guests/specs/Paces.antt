@@ -1,0 +1,44 @@
+-- How fast a guest's link moves bytes. Times are ticks.
+use Rattle.std.specs.Prelude.{ℕ, ◌+◌, ◌-◌, ◌/◌, ◌^◌, ◌&&◌, ◌||◌, not, nat_lt, nat_le, min, max, Bool, false, Option, Some, None}
+use Rattle.mc_guests.specs.declared.pace.Pace.{Pace}
+
+-- a pace that begins now
+abbrev pub begun : (ticks : ℕ) → Pace
+begun ticks = record { since = ticks; moved = 0; heard = ticks; asked = None }
+
+-- the link moved so many bytes more
+abbrev pub moves : (bytes ticks : ℕ) → Pace → Pace
+moves bytes ticks pace = record pace { moved = min (pace.moved + bytes) (2 ^ 64 - 1); heard = ticks }
+
+-- the link is asked again
+abbrev pub asked_again : (ticks : ℕ) → Pace → Pace
+asked_again ticks pace = record pace { asked = Some ticks }
+
+-- the ticks since it began
+abbrev pub age : (ticks : ℕ) → Pace → ℕ
+age ticks pace = ticks - pace.since
+
+-- the average of bytes in a tick since it began
+unfoldable pub rate : (ticks : ℕ) → Pace → ℕ
+rate ticks pace = pace.moved / max (age ticks pace) 1
+
+-- whether a link that was asked then was asked less than so many ticks ago
+abbrev pub is_recent : (within ticks : ℕ) → Option ℕ → Bool
+is_recent within ticks None = false
+is_recent within ticks (Some asked) = nat_lt (ticks - asked) within
+
+-- whether the link was asked again in the last 2 s
+abbrev pub was_asked : (ticks : ℕ) → Pace → Bool
+was_asked ticks pace = is_recent 8 ticks pace.asked
+
+-- whether the link moved nothing for 5 s
+abbrev pub is_silent : (ticks : ℕ) → Pace → Bool
+is_silent ticks pace = nat_le 20 (ticks - pace.heard)
+
+-- whether the link moved less than 64 KiB/s for at least 5 s
+abbrev pub lags : (ticks : ℕ) → Pace → Bool
+lags ticks pace = nat_le 20 (age ticks pace) && nat_lt (rate ticks pace) 16384
+
+-- whether the link is slow: it is silent or lags, and wasn't asked again in the last 0.5 s
+abbrev pub is_slow : (ticks : ℕ) → Pace → Bool
+is_slow ticks pace = (is_silent ticks pace || lags ticks pace) && not (is_recent 2 ticks pace.asked)
