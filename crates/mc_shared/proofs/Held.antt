@@ -1,18 +1,22 @@
 -- A seat that holds one bay, or two.
 use Rattle.std.proofs.Common.{◌≡◌, ℕ, zero, suc, List, [], ◌∷◌, ◌++◌, None, Result, Ok, Err, replicate, refl, sym, ap, ◌∙◌, subst, ◌<◌, ◌-◌, ◌%◌, ◌^◌, arith}
-use Rattle.mc_shared.proofs.Words.{rest, Content, content_of, place, OfShelf, OfDesk, Past, Lives, call, SeatView, Mine, Fitted, HasTaken, HoldsThis, holding, without}
-use Rattle.mc_shared.proofs.Words.{decided_by, entry_of, loaded, newcomer, met, next_name, Agrees, Decides, Counts, MayAdd, MayCount, Bay, Desk, holds_one, holds_two}
+use Rattle.mc_shared.proofs.Words.{rest, Content, place, OfShelf, OfDesk, Past, Lives, call, SeatView, Mine, Fitted, HasTaken, HoldsThis, holding, without}
+use Rattle.mc_shared.proofs.Words.{decided_by, entry_of, loaded, newcomer, met, next_name, Agrees, Decides, Counts, MayAdd, MayCount, Desk, holds_one, holds_two}
 use Rattle.mc_shared.proofs.Words.{CanCome, Refuses, KeyStep, key_of, StepFault, NoMemory, NumbersSpent, Plain, Outcome, Spent, MayFail, plain, ShelfContent, DeskState}
 use Rattle.mc_shared.proofs.Words.{CanStandAt, StandsAt, Reply, Beginning, Operation, Stepped, start_of, shelf_in, AreKeyCountsAt, AreCountsBy, len, SharedState, CallerState}
-use Rattle.mc_shared.proofs.Words.{HoldsShelf, HoldsBoth, caller_of, Sitter, IsTableOf, IsAnswered, MayDecide, StoreState, TableId}
+use Rattle.mc_shared.proofs.Words.{HoldsShelf, HoldsBoth, IsAsked, Sitter, IsTableOf, IsAnswered, MayDecide, Rests, StoreState, TableId}
 use Rattle.mc_shared.specs.Steps.{HoldsLast}
 use Rattle.mc_shared.proofs.NamedKept.{lives_start, lives_both}
 use Rattle.mc_shared.specs.Store.{resting}
 use Rattle.mc_shelf.specs.Plans.{IsSpent, MayWantMemory}
-use Rattle.mc_shared.proofs.NumberSteps.{may_add}
+use Rattle.mc_shared.proofs.NumberSteps.{may_add, counts_settled}
 use Rattle.mc_shared.proofs.NumberSweeps.{may_count_one, shelf_counted}
-use Rattle.mc_shared.proofs.Decisions.{can_stand, comes_after, refuses}
-use Rattle.mc_shared.specs.Seats.{SameSeat, IsSeatOf, IsAlive}
+use Rattle.mc_shared.proofs.Decisions.{can_stand, comes_after, refuses, settles, goes_alone}
+use Rattle.mc_shared.specs.Seats.{SameSeat, IsSeatOf, IsAlive, IsFree}
+use Rattle.mc_shared.specs.Holds.{caller_at}
+use Rattle.mc_shared.specs.declared.ask.Ask.{Ask}
+use Rattle.mc_protocol.specs.Laws.{IsOnKey}
+use Rattle.mc_shared.proofs.Words.{IsShelfOf, PlanIsSettled, goes_without_desk}
 
 pub top_of : {S : Type 0} → (xs : List (ℕ × S)) (x : ℕ × S) (ys : List (ℕ × S)) → xs ≡ x ∷ ys → xs ≡ x ∷ rest xs
 top_of xs x ys e = e ∙ ap (λ zs. x ∷ rest zs) (sym e)
@@ -34,10 +38,7 @@ lives_on table began old new m alive same is past = record {
   lives = subst Lives (sym (ap (λ (n : Mine). n.0.past) is ∙ past)) alive.lives;
 }
 
--- a seat that holds nothing, and whose caller lives: one that was just made, and one that took in another's past
-abbrev pub Rests : Mine → Type 0
-Rests m = (m.1 ≡ []) × (m.0.bays ≡ []) × Lives m.0.past × (m.0.surplus ≡ [])
-
+-- a seat rests that was just made, and one that took in another's past
 pub new_rests : (me : Mine) (v : SeatView) → me ≡ (newcomer v, []) → Rests me
 new_rests me v is = subst Rests (sym is) (refl, refl, lives_start (next_name v.past) v.past, refl)
 
@@ -75,18 +76,47 @@ module _ {K : Type 0} (hash_of : K → List ℕ → ℕ) (table : TableId) (bega
         counts = subst (λ (m : Mine). Counts (start_of hash_of began) m.0 what (decided_by m what still surplus).0) (sym h.held) counts;
       }
 
+  -- a seat that rests holds nothing
+  pub now_free : (seat : Sitter) (q : Past) → seat.table_id ≡ shared.table → Lives q → seat.me ≡ resting q → IsFree shared.table shared.began seat
+  now_free seat q own lives rests =
+      let past : seat.me.0.past ≡ q = ap (λ (m : Mine). m.0.past) rests in
+      subst (λ (s : SharedState K). IsFree s.table s.began seat) is record {
+        alive = record {
+          seated = record { own = own ∙ sym (ap (λ (s : SharedState K). s.table) is); fit = fit };
+          lives = subst Lives (sym past) lives;
+        };
+        free = rests ∙ ap resting (sym past);
+      }
+
+  -- and a step that its shelf decides alone
+  pub at_settled : (seat : Sitter) (ask : Ask) (old new : ShelfContent) (reply : Reply) → HoldsShelf hash_of shared seat ask.at old → IsAsked hash_of shared ask → IsOnKey ask.step.now
+      → PlanIsSettled ask.step.now ask.moment ask.hash old reply new
+      → MayDecide table began seat ask.at (start_of hash_of began) (OfShelf new) (Stepped ask.step.now ask.moment reply) [] []
+  at_settled seat ask old new reply holds asked on_key taken =
+      let start = start_of hash_of began in
+      let step = ask.step.now in
+      let here = subst (λ (s : SharedState K). IsAsked hash_of s ask) (sym is) asked in
+      let settled : PlanIsSettled step ask.moment (start.hash_of (key_of step)) old reply new =
+      subst (λ (h : ℕ). PlanIsSettled step ask.moment h old reply new) here.hashed taken in
+      let what = Stepped step ask.moment reply in
+      let held = holds_one seat.me.0.past ask.at (OfShelf old) in
+      let alone = λ (m : Plain) (part : IsShelfOf start.hash_of start.shelves m ask.at old). goes_without_desk step on_key here.own part settled in
+      at_shelf seat ask.at old (OfShelf new) what [] [] holds (settles start ask.at old new step ask.moment reply alone)
+      (counts_settled start ask.at fit.divides (key_of step) here.own old new settled.others.items settled.stands held.0 (decided_by held what [] []).0 what refl refl
+      (λ m fits. let desk = (alone m fits.0.1).some_desk in (fits.0.1, (desk.0, goes_alone start ask.at old new step ask.moment reply alone m fits.0.1 desk.0 desk.1))))
+
   -- and with the desk, when it was taken, holds both
-  pub takes_desk : (old new : Sitter) (at n : ℕ) (f : ShelfContent) (d : DeskState) (x : Bay) → n ≡ began.settings.shelves → x ≡ Desk d → SameSeat old new
-      → HasTaken (start_of hash_of began) old.me n x new.me → HoldsShelf hash_of shared old at f → HoldsBoth hash_of shared new at f d
-  takes_desk old new at n f d x count desk same taken holds =
+  pub takes_desk : (old new : Sitter) (at n : ℕ) (f : ShelfContent) (d : DeskState) → n ≡ began.settings.shelves → SameSeat old new
+      → HasTaken (start_of hash_of began) old.me n (Desk d) new.me → HoldsShelf hash_of shared old at f → HoldsBoth hash_of shared new at f d
+  takes_desk old new at n f d count same taken holds =
       let h = subst (λ (s : SharedState K). HoldsShelf hash_of s old at f) (sym is) holds in
       let past : new.me.0.past ≡ old.me.0.past = ap (λ (m : Mine). m.0.past) taken.1 in
       subst (λ (s : SharedState K). HoldsBoth hash_of s new at f d) is record {
         own = same.0 ∙ h.own;
         lives = subst Lives (sym past) h.lives;
         inside = h.inside;
-        held = taken.1 ∙ ap (λ (m : Mine). (holding m.0 n (content_of x), (place n, None) ∷ m.1)) h.held
-            ∙ (λ i. holds_two (sym past i) (count i) (content_of (desk i)) at (OfShelf f));
+        held = taken.1 ∙ ap (λ (m : Mine). (holding m.0 n (OfDesk d), (place n, None) ∷ m.1)) h.held
+            ∙ (λ i. holds_two (sym past i) (count i) (OfDesk d) at (OfShelf f));
         fits = subst (λ (m : Mine). Fitted (start_of hash_of began) m.0) (sym taken.1) taken.2;
       }
 
@@ -188,6 +218,17 @@ came_out start old new step now reply told may table past is agrees =
       fault = tt;
     }
 
+-- a seat that didn't change holds what it held
+pub stays_held : {K : Type 0} (hash_of : K → List ℕ → ℕ) (shared : SharedState K) (old new : Sitter) (at : ℕ) (f : ShelfContent) → SameSeat old new → new.me ≡ old.me
+    → HoldsShelf hash_of shared old at f → HoldsShelf hash_of shared new at f
+stays_held hash_of shared old new at f same is h = record {
+  own = same.0 ∙ h.own;
+  lives = subst (λ (m : Mine). Lives m.0.past) (sym is) h.lives;
+  inside = h.inside;
+  held = is ∙ h.held ∙ ap (λ (m : Mine). holds_one m.0.past at (OfShelf f)) (sym is);
+  fits = subst (λ (m : Mine). Fitted (start_of hash_of shared.began) m.0) (sym is) h.fits;
+}
+
 -- what is held stands for a state
 pub both_stand : {K : Type 0} (hash_of : K → List ℕ → ℕ) (shared : SharedState K) (seat : Sitter) (at : ℕ) (f : ShelfContent) (d : DeskState) (key : List ℕ)
     → shelf_in (start_of hash_of shared.began) key ≡ at → HoldsBoth hash_of shared seat at f d → CanStandAt key f d
@@ -207,12 +248,12 @@ pub refused_both : {A : Type 0} {K : Type 0} (hash_of : K → List ℕ → ℕ) 
     → shelf_in (start_of hash_of shared.began) (key_of step) ≡ at → HoldsBoth hash_of shared seat at f d
     → new.table ≡ seat.table_id → new.past ≡ seat.me.0.past → result ≡ Err fault
     → (result ≡ Err NumbersSpent → IsSpent step now f d) → (result ≡ Err NoMemory → MayWantMemory step now f d)
-    → IsAnswered (start_of hash_of shared.began) (caller_of shared seat.me.0.past) step now Refuses (Err fault) new
+    → IsAnswered (start_of hash_of shared.began) (caller_at seat) step now Refuses (Err fault) new
 refused_both hash_of shared seat new at f d step now result fault own holds table past is spent wants =
     let start = start_of hash_of shared.began in
     let agrees : Agrees start seat.me.0.past = record { log = holds.fits.log; legal = holds.fits.legal; keeps = holds.fits.keeps } in
     record {
-      same = (table ∙ holds.own, subst (Agrees start) (sym past) agrees);
+      same = (table, subst (Agrees start) (sym past) agrees);
       ok = tt;
       err = past;
       fault = refuses start seat.me.0.past step now result fault is

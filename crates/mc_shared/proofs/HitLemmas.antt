@@ -8,9 +8,23 @@ use Rattle.mc_item.specs.Items.{front_of, pieces}
 use Rattle.mc_protocol.specs.Plain.{item_need}
 use Rattle.mc_shelf.specs.Lent.{HitState}
 use Rattle.mc_shelf.specs.States.{stored}
-use Rattle.mc_shelf.specs.Hits.{found_of}
+use Rattle.mc_shelf.specs.Hits.{found_of, is_read}
+use Rattle.mc_protocol.specs.Laws.{IsOnKey}
+use Rattle.mc_protocol.specs.declared.step.KeyStep.{KeyStep}
+use Rattle.mc_protocol.specs.declared.step.KeyStep.TheVariants.{Read, ReadTouch, Store, Cas, Touch, Delete, Count, Flush}
 use Rattle.mc_shelf.specs.declared.hit.Found.{Found}
 use Rattle.mc_shelf.specs.declared.hit.Found.TheVariants.{Nothing, Dead, Standing}
+
+-- a step that reads an item is on a key
+pub read_on_key : (step : KeyStep) → is_read step ≡ true → IsOnKey step
+read_on_key (Read key) is = tt
+read_on_key (ReadTouch key exptime) is = tt
+read_on_key (Store verb key flags exptime block) is = tt
+read_on_key (Cas key flags exptime block unique) is = tt
+read_on_key (Touch key exptime) is = tt
+read_on_key (Delete key) is = tt
+read_on_key (Count key up by) is = tt
+read_on_key (Flush delay) is = cc
 
 -- the item that was found standing, if one was
 item_found : Found → Option Item

@@ -171,8 +171,8 @@ none_above n c (x ∷ xs) below l = none_above (n + 1) c xs ((n, OfShelf x.conte
     ∙ (let no : holds_bay c (n, OfShelf x.content) ≡ 0 = elsewhere n c (OfShelf x.content) (λ e. omega (arith, l, e)) in
     let both : holds_bay c (n, OfShelf x.content) + total (holds_bay c) below ≡ total (holds_bay c) below = omega (arith, no) in both)
 
-pub not_held : (m : Mine) (p : Past) (xs : List ShelfState) (c : ℕ) → m ≡ holds_all p xs → length xs ≤ c → 1 ≤ total (holds_bay c) m.0.bays → ⊥
-not_held m p xs c is l has = let none : total (holds_bay c) m.0.bays ≡ 0 = ap (λ (z : Mine). total (holds_bay c) z.0.bays) is ∙ none_above 0 c xs [] (omega (arith, l)) in omega (arith, none, has)
+pub none_taken : (m : Mine) (p : Past) (xs : List ShelfState) (c : ℕ) → m ≡ holds_all p xs → length xs ≤ c → total (holds_bay c) m.0.bays ≡ 0
+none_taken m p xs c is l = ap (λ (z : Mine). total (holds_bay c) z.0.bays) is ∙ none_above 0 c xs [] (omega (arith, l))
 
 pub gathered : (began : Beginning) (p : Past) (xs : List ShelfState) (d : DeskState) (v : SeatView) → v.bays ≡ (began.shelves, OfDesk d) ∷ stacked xs
     → v.past ≡ p → length xs ≡ began.shelves → 0 < began.shelves → Fitted began v → Gathered began p xs d

@@ -27,22 +27,21 @@ module _ (start : Beginning) (old new : CallerState) (step : KeyStep) (now : ℕ
   called_answered reply table called = record { same = (table, called.1); ok = called; err = tt; fault = tt }
 
   -- what is answered to a caller whose past stayed is answered to it as it was before
-  pub answered_from : (mid : CallerState) (asked : KeyStep) (moment : ℕ) (taken : Result Reply StepFault) → mid.table ≡ old.table → mid.past ≡ old.past
-      → (asked ≡ step) × (moment ≡ now) → IsAnswered start mid asked moment Refuses taken new → IsAnswered start old step now Refuses taken new
-  answered_from mid asked moment taken table past parts =
-      subst (λ (t : CallerState × KeyStep × ℕ). IsAnswered start t.0 t.1 t.2 Refuses taken new) (λ i. (record { table = table i; past = past i }, parts.0 i, parts.1 i))
+  pub answered_from : (mid : CallerState) (taken : Result Reply StepFault) → mid.table ≡ old.table → mid.past ≡ old.past
+      → IsAnswered start mid step now Refuses taken new → IsAnswered start old step now Refuses taken new
+  answered_from mid taken table past =
+      subst (λ (c : CallerState). IsAnswered start c step now Refuses taken new) (λ i. record { table = table i; past = past i })
 
   -- and so it may fail
-  pub fails_from : (mid : CallerState) (asked : KeyStep) (moment : ℕ) → mid.past ≡ old.past → (asked ≡ step) × (moment ≡ now)
-      → MayFailAfter start mid.past asked moment → MayFailAfter start old.past step now
-  fails_from mid asked moment past parts = subst (λ (t : Past × KeyStep × ℕ). MayFailAfter start t.0 t.1 t.2) (λ i. (past i, parts.0 i, parts.1 i))
+  pub fails_from : (mid : CallerState) → mid.past ≡ old.past → MayFailAfter start mid.past step now → MayFailAfter start old.past step now
+  fails_from mid past = subst (λ (p : Past). MayFailAfter start p step now) past
 
   -- and so a read came out
-  pub came_from : {A : Type 0} (told : A → Reply → A → Type 0) (before after : A) (mid : CallerState) (asked : KeyStep) (moment : ℕ) (sought so : Sought)
-      → mid.past ≡ old.past → (asked ≡ step) × (moment ≡ now) → sought ≡ so
-      → CameOfRead told start mid.past asked moment before sought new.past after → CameOfRead told start old.past step now before so new.past after
-  came_from told before after mid asked moment sought so past parts same =
-      subst (λ (t : Past × KeyStep × ℕ × Sought). CameOfRead told start t.0 t.1 t.2 before t.3 new.past after) (λ i. (past i, parts.0 i, parts.1 i, same i))
+  pub came_from : {A : Type 0} (told : A → Reply → A → Type 0) (before after : A) (mid : CallerState) (sought so : Sought)
+      → mid.past ≡ old.past → sought ≡ so
+      → CameOfRead told start mid.past step now before sought new.past after → CameOfRead told start old.past step now before so new.past after
+  came_from told before after mid sought so past same =
+      subst (λ (t : Past × Sought). CameOfRead told start t.0 step now before t.1 new.past after) (λ i. (past i, same i))
 
   -- what takes the reply was told nothing before
   pub told_from : {A : Type 0} (told : A → Reply → A → Type 0) (before mid after : A) (result : Result (Unit {0}) Unanswered) → mid ≡ before

@@ -29,9 +29,9 @@ pub use Rattle.mc_shared.specs.Shown.{SharedState, CallerState}
 pub use lib.ListN.{get_elem?}
 pub use Rattle.mc_protocol.specs.declared.step.KeyStep.TheVariants.{Read, Flush, ReadTouch, Cas, Delete}
 pub use Rattle.mc_shared.specs.Store.{holds_one, with_call, IsShown, Refuses, CanCome, MayFailAfter, holds_two, shelf_slot, spaced}
-pub use Rattle.mc_shared.specs.Seats.{MayDecide, Sitter, IsTableOf, IsAnswered}
+pub use Rattle.mc_shared.specs.Seats.{MayDecide, Sitter, IsTableOf, IsAnswered, Rests}
 pub use Rattle.mc_shelf.specs.Stores.{StoreState, IsSetUp}
-pub use Rattle.mc_shared.specs.Holds.{HoldsShelf, IsAsked, HoldsBoth, caller_of, ShelfHold}
+pub use Rattle.mc_shared.specs.Holds.{HoldsShelf, IsAsked, HoldsBoth, caller_at}
 pub use Rattle.mc_shared.specs.declared.bay.Bay.{Bay}
 pub use Rattle.mc_shared.specs.declared.bay.Bay.TheVariants.{Desk, Shelf}
 pub use Rattle.mc_shared.specs.Spread.{spread, keys_in}

@@ -1,19 +1,16 @@
--- What is held for a caller: a shelf, or a shelf and the desk.
-use Rattle.std.specs.Prelude.{◌≡◌, ℕ, ◌<◌, ◌≤◌, ◌⊎◌, List, length, true, refl}
-use Rattle.std.specs.Coded.{Coded, code_by, coded×, coded_ℕ}
+-- What a seat holds: a shelf, or a shelf and the desk.
+use Rattle.std.specs.Prelude.{◌≡◌, ℕ, ◌<◌, ◌≤◌, ◌⊎◌, List, length, true}
 use Rattle.mc_protocol.specs.declared.step.KeyStep.{KeyStep}
 use Rattle.mc_protocol.specs.Commands.{key_of}
-use Rattle.mc_protocol.specs.Laws.{IsOnKey}
-use Rattle.mc_shelf.specs.States.{ShelfState, ShelfContent, DeskState, coded_shelf, coded_desk}
+use Rattle.mc_shelf.specs.States.{ShelfState, ShelfContent, DeskState}
 use Rattle.mc_shelf.specs.Plans.{writes, next_of}
 use Rattle.mc_shared.specs.Bays.{OfShelf, OfDesk}
 use Rattle.mc_shared.specs.History.{Beginning, Purged, start_of, shelf_in}
 use Rattle.mc_shared.specs.Past.{Past, Lives, Whole, call}
-use Rattle.mc_shared.specs.View.{past_code}
 use Rattle.mc_shared.specs.Steps.{Fitted, Agrees, entry_of}
 use Rattle.mc_shared.specs.Store.{IsPlanned, Refuses, holds_one, holds_two}
 use Rattle.mc_shared.specs.Seats.{Sitter}
-use Rattle.mc_shared.specs.Shown.{SharedState, CallerState, coded_shared}
+use Rattle.mc_shared.specs.Shown.{SharedState, CallerState}
 use Rattle.mc_shared.specs.declared.patience.Busy.{Busy}
 use Rattle.mc_protocol.specs.declared.step.StepFault.TheVariants.{NoMemory as OutOfMemory, NumbersSpent as OutOfNumbers}
 use Rattle.mc_shared.specs.declared.fault.TryFault.{TryFault}
@@ -24,21 +21,6 @@ use Rattle.mc_shared.specs.declared.ask.Looked.TheVariants.{Planned, AskAgainAtD
 use Rattle.mc_shared.specs.declared.ask.Untaken.{Untaken}
 use Rattle.mc_shared.specs.declared.ask.Untaken.TheVariants.{Met, Refused}
 
--- a held shelf: the store, the caller's past, the shelf's number, and its content
-pub record ShelfHold (K : Type 0) : Type 0 where
-  pub shared : SharedState K
-  pub past : Past
-  pub at : ℕ
-  pub shelf : ShelfState
-
-abbrev pub coded_shelf_hold : {K : Type 0} → Coded K → Coded (ShelfHold K)
-coded_shelf_hold {K} hasher =
-    code_by (SharedState K × (Past × (ℕ × ShelfState)))
-    (coded× (coded_shared hasher) (coded× past_code (coded× coded_ℕ coded_shelf)))
-    (λ h. (h.shared, (h.past, (h.at, h.shelf))))
-    (λ p. record { shared = p.0; past = p.1.0; at = p.1.1.0; shelf = p.1.1.1 })
-    (λ _. refl)
-
 -- the seat is the store's, its caller is alive, and it holds only this shelf, which fits a history
 pub record HoldsShelf {K : Type 0} (hash_of : K → List ℕ → ℕ) (shared : SharedState K) (seat : Sitter)
     (at : ℕ) (shelf : ShelfContent) : Type 0 where
@@ -47,29 +29,6 @@ pub record HoldsShelf {K : Type 0} (hash_of : K → List ℕ → ℕ) (shared : 
   pub inside : at < shared.began.settings.shelves
   pub held : seat.me ≡ holds_one seat.me.0.past at (OfShelf shelf)
   pub fits : Fitted (start_of hash_of shared.began) seat.me.0
-
--- the same with the desk
-pub record BothHold (K : Type 0) : Type 0 where
-  pub shared : SharedState K
-  pub past : Past
-  pub at : ℕ
-  pub shelf : ShelfState
-  pub desk : DeskState
-
-abbrev pub coded_both_hold : {K : Type 0} → Coded K → Coded (BothHold K)
-coded_both_hold {K} hasher =
-    code_by (SharedState K × (Past × (ℕ × (ShelfState × DeskState))))
-    (coded× (coded_shared hasher) (coded× past_code (coded× coded_ℕ (coded× coded_shelf coded_desk))))
-    (λ h. (h.shared, (h.past, (h.at, (h.shelf, h.desk)))))
-    (λ p. record { shared = p.0; past = p.1.0; at = p.1.1.0; shelf = p.1.1.1.0; desk = p.1.1.1.1 })
-    (λ _. refl)
-
-abbrev pub with_desk : {K : Type 0} → ShelfHold K → DeskState → BothHold K
-with_desk hold desk =
-    record { shared = hold.shared; past = hold.past; at = hold.at; shelf = hold.shelf; desk = desk }
-
-abbrev pub without_desk : {K : Type 0} → BothHold K → ShelfHold K
-without_desk hold = record { shared = hold.shared; past = hold.past; at = hold.at; shelf = hold.shelf }
 
 -- the seat is the store's, its caller is alive, and it holds this shelf and the desk, which fit a
 -- history
@@ -82,14 +41,13 @@ pub record HoldsBoth {K : Type 0} (hash_of : K → List ℕ → ℕ) (shared : S
       ≡ holds_two seat.me.0.past shared.began.settings.shelves (OfDesk desk) at (OfShelf shelf)
   pub fits : Fitted (start_of hash_of shared.began) seat.me.0
 
--- the caller that a hold returns
-abbrev pub caller_of : {K : Type 0} → SharedState K → Past → CallerState
-caller_of shared past = record { table = shared.table; past = past }
+-- the caller with this seat
+abbrev pub caller_at : Sitter → CallerState
+caller_at seat = record { table = seat.table_id; past = seat.me.0.past }
 
--- a step on a key, with the key's hash and its shelf in this store
+-- a step, with its key's hash and its shelf in this store
 pub record IsAsked {K : Type 0} (hash_of : K → List ℕ → ℕ) (shared : SharedState K) (ask : Ask)
     : Type 0 where
-  pub on_key : IsOnKey ask.step.now
   pub short : length (key_of ask.step.now) ≤ 250
   pub hashed : ask.hash ≡ hash_of shared.began.hasher (key_of ask.step.now)
   pub own : shelf_in (start_of hash_of shared.began) (key_of ask.step.now) ≡ ask.at
@@ -108,10 +66,9 @@ pub record IsBusyTo (p : Past) (bay : ℕ) (busy : Busy) : Type 0 where
 
 -- the past has the purge as one more call, and a legal history keeps it
 pub record HasPurged {K : Type 0} (hash_of : K → List ℕ → ℕ) (shared : SharedState K) (old : Past)
-    (at now : ℕ) (new : CallerState) : Type 0 where
-  pub table : new.table ≡ shared.table
-  pub past : new.past ≡ call old (entry_of old (Purged at now))
-  pub agrees : Agrees (start_of hash_of shared.began) new.past
+    (at now : ℕ) (new : Past) : Type 0 where
+  pub past : new ≡ call old (entry_of old (Purged at now))
+  pub agrees : Agrees (start_of hash_of shared.began) new
 
 -- Why a step wasn't taken: another caller held the key's shelf or the desk, or it was refused.
 abbrev pub Unmet : {B : Type 0} → (Past → ℕ → B → Type 0) → Beginning → Past → KeyStep → ℕ → Untaken B

@@ -1,17 +1,20 @@
 -- A seat of the table before and after calls, and the result of a step.
-use Rattle.std.specs.Prelude.{◌≡◌, ℕ, ◌+◌, ◌*◌, ◌/◌, ◌≤◌, List, length, Result, IfOk, IfErr, OnErr}
+use Rattle.std.specs.Prelude.{◌≡◌, ℕ, ◌+◌, ◌*◌, ◌/◌, ◌<◌, ◌≤◌, List, [], length, Result, IfOk, IfErr, OnErr}
+use Rattle.std.specs.declared.snapshot.Snapshot.{Snapshot}
+use Rattle.atomic_table.specs.declared.owned.Table.{Table}
 use Rattle.atomic_table.specs.declared.shared.Seat.{Seat}
 use Rattle.atomic_table.specs.Seated.{TableId}
 use Rattle.mc_protocol.specs.declared.step.KeyStep.{KeyStep}
 use Rattle.mc_protocol.specs.declared.reply.Reply.{Reply}
 use Rattle.mc_protocol.specs.Commands.{key_of}
 use Rattle.mc_shelf.specs.Stores.{StoreState}
+use Rattle.mc_shelf.specs.Numbers.{number_of}
 use Rattle.mc_shared.specs.Bays.{Content, place}
-use Rattle.mc_shared.specs.History.{Beginning, Operation}
+use Rattle.mc_shared.specs.History.{Beginning, Operation, start_of}
 use Rattle.mc_shared.specs.Past.{Past, Lives}
 use Rattle.mc_shared.specs.View.{SeatView}
 use Rattle.mc_shared.specs.Presence.{words_with}
-use Rattle.mc_shared.specs.Steps.{Slot, HoldsLast, Decides, Counts, decided_by, Agrees}
+use Rattle.mc_shared.specs.Steps.{Slot, Mine, HoldsLast, Decides, Counts, decided_by, Agrees}
 use Rattle.mc_shared.specs.Store.{resting, HasCalled}
 use Rattle.mc_shared.specs.Shown.{SharedState, CallerState}
 
@@ -21,6 +24,10 @@ Sitter = Seat Slot SeatView
 -- it is the same seat of the same table
 abbrev pub SameSeat : (old new : Sitter) → Type 0
 SameSeat old new = (new.table_id ≡ old.table_id) × (new.id ≡ old.id)
+
+-- a caller between calls: it is alive, holds nothing, and no word counts too many
+abbrev pub Rests : Mine → Type 0
+Rests m = (m.1 ≡ []) × (m.0.bays ≡ []) × Lives m.0.past × (m.0.surplus ≡ [])
 
 -- A table for a store. The desk is behind the shelves, and then come the words of all numbers; each
 -- shelf has equally many numbers.
@@ -58,6 +65,49 @@ pub record MayDecide {K : Type 0} (table : TableId) (began : StoreState K) (seat
     pub held : HoldsLast seat.me b
     pub right : Decides start seat.me.0.bays b y what still
     pub counts : Counts start seat.me.0 what (decided_by seat.me what still surplus).0
+
+-- the table of a store, as contracts see it
+abbrev pub BoardOf : (K P A : Type 0) → Type 0
+BoardOf K P A = Table Slot SeatView (Snapshot (StoreState K)) P A
+
+-- what its store began with
+abbrev pub start_at : {K P A : Type 0} → (K → List ℕ → ℕ) → BoardOf K P A → Beginning
+start_at hash_of board = start_of hash_of board.shared.key.value
+
+-- the number of a key
+abbrev pub number_at : {K P A : Type 0} → (K → List ℕ → ℕ) → BoardOf K P A → (key : List ℕ) → ℕ
+number_at hash_of board key = number_of (hash_of board.shared.key.value.hasher) key
+
+module _ {K P A : Type 0} (board : BoardOf K P A) where
+  -- the number of its store's shelves, which is the desk's bay
+  abbrev pub shelves_at : ℕ
+  shelves_at = board.shared.key.value.settings.shelves
+
+  -- it is a table for its store
+  abbrev pub IsBoard : Type 0
+  IsBoard = IsTableOf board.shared.table_id board.shared.key.value
+
+  -- one of its words
+  abbrev pub IsWord : (word : ℕ) → Type 0
+  IsWord word = word < board.shared.table_id.words
+
+  -- one of its seats
+  abbrev pub SitsAt : Sitter → Type 0
+  SitsAt seat = IsSeatOf board.shared.table_id board.shared.key.value seat
+
+  -- one whose caller is alive
+  abbrev pub LivesAt : Sitter → Type 0
+  LivesAt seat = IsAlive board.shared.table_id board.shared.key.value seat
+
+  -- one that holds nothing
+  abbrev pub RestsAt : Sitter → Type 0
+  RestsAt seat = IsFree board.shared.table_id board.shared.key.value seat
+
+  -- one that may give this bay back with this content and this decision
+  abbrev pub MayDecideAt : Sitter → (b : ℕ) → Beginning → Content → Operation → List (ℕ × Content)
+      → (surplus : List ℕ) → Type 0
+  MayDecideAt seat b start y what still surplus =
+      MayDecide board.shared.table_id board.shared.key.value seat b start y what still surplus
 
 -- A step that a caller may take on a store: the caller is the store's own, and the key has at most
 -- 250 bytes.

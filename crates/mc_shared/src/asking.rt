@@ -151,8 +151,13 @@ impl<'a, R: Wait, K: KeyHash + Drop, G: Gate> Steps for Asking<'a, R, K, G> {
     ghost holds_itself = { λ _. refl };
 
     fn step(&mut self, alloc: Global, step: &KeyStep<'_>, now: Moment) -> Result<Reply, StepFault> {
+        let patience = Waiting {
+            rt: self.rt,
+            gate: self.gate,
+        };
+        let ask = self.shared.ask(step, now);
         self.shared
-            .step_unless_absent(self.rt, alloc, &mut self.caller, step, now, self.gate)
+            .answer_or_miss(&patience, alloc, &mut self.caller, &ask)
     }
 
     fn step_telling<A: Answer>(
@@ -166,7 +171,8 @@ impl<'a, R: Wait, K: KeyHash + Drop, G: Gate> Steps for Asking<'a, R, K, G> {
             rt: self.rt,
             gate: self.gate,
         };
+        let ask = self.shared.ask(step, now);
         self.shared
-            .step_telling(&patience, alloc, &mut self.caller, step, now, answer)
+            .step_telling(&patience, alloc, &mut self.caller, &ask, answer)
     }
 }

@@ -3,13 +3,14 @@ ghost use Rattle.std.specs.Prelude.{◌≡◌, ◌<◌, ◌≤◌, [], ℕ, vec_
 ghost use Rattle.mc_shared.specs.Shown.{SharedState, CallerState};
 ghost use Rattle.mc_shared.specs.History.{start_of};
 ghost use Rattle.mc_shared.specs.Past.{Whole};
-ghost use Rattle.mc_shared.specs.Seats.{SameSeat, IsFree};
+ghost use Rattle.mc_shared.specs.Seats.{SameSeat, RestsAt, shelves_at, start_at};
 ghost use Rattle.mc_shared.specs.Stacks.{holds_all};
 ghost use Rattle.mc_shared.specs.Close.{Gathered, IsAfter};
 
-use crate::hold::{desk_from, shelf_from};
+use crate::boxed::Boxed;
+use crate::hold::{desk_at, take_all};
+use crate::patience::{Busy, Once};
 use crate::rule::{Board, Seat};
-use crate::steps::take;
 use crate::store::{Caller, Shared};
 use mc_hop::KeyHash;
 use mc_shelf::{Desk, Shelf, Store, StoreParts};
@@ -24,58 +25,42 @@ pub enum CloseFault<K: KeyHash + Drop> {
     Held { bay: usize, word: u64 },
 }
 
-/// Takes all shelves, in rising order, or returns the bay that was held and its word.
-fn take_all<K: KeyHash + Drop>(
-    board: &Board<K>,
-    seat: &mut Seat,
-    held: Vec<Shelf>,
-    count: usize,
-) -> Result<Vec<Shelf>, (usize, u64)>
-    requires seat { IsFree board.now.shared.table_id board.now.shared.key.value seat.old }
-    requires count { count ≡ board.now.shared.key.value.settings.shelves }
-    requires room { (held.items ≡ []) × (count ≤ vec_capacity held) }
-    ensures seat { SameSeat seat.old seat.new }
-    ensures ok { IfOk result (λ v. (vec_len v ≡ count) ×
-        (seat.new.me ≡ holds_all seat.old.me.0.past v.items)) }
-    ensures err { IfErr result (λ e. (e.1 ≡ 1) × (Whole seat.old.me.0.past → ⊥)
-        × (e.0 ≤ count)) }
-{
-    let mut held = held;
-    while held.len() < count {
-        let at = held.len();
-        match take(board, seat, at) {
-            Ok(bay) => held.push_reserved(Box::into_inner(shelf_from(bay, at, count))),
-            Err(word) => return Err((at, word)),
-        }
-    }
-    Ok(held)
-}
-
 /// Takes all shelves and the desk, or returns the bay that was held and its word.
 fn gather<K: KeyHash + Drop>(
     board: &Board<K>,
     seat: &mut Seat,
-    held: Vec<Shelf>,
+    room: Vec<Boxed<Shelf>>,
     count: usize,
-) -> Result<(Vec<Shelf>, Desk), (usize, u64)>
-    requires seat { IsFree board.now.shared.table_id board.now.shared.key.value seat.old }
-    requires count { count ≡ board.now.shared.key.value.settings.shelves }
-    requires some_shelf { 0 < board.now.shared.key.value.settings.shelves }
-    requires room { (held.items ≡ []) × (count ≤ vec_capacity held) }
+) -> Result<(Vec<Boxed<Shelf>>, Desk), Busy>
+    requires seat { RestsAt board.now seat.old }
+    requires count { count ≡ shelves_at board.now }
+    requires some_shelf { 0 < shelves_at board.now }
+    requires room { (room.items ≡ []) × (count ≤ vec_capacity room) }
     ensures ok { IfOk result (λ r. (vec_len r.0 ≡ count)
-        × Gathered (start_of K.hash_of board.now.shared.key.value) seat.old.me.0.past r.0.items
-        r.1) }
-    ensures err { IfErr result (λ e. (e.1 ≡ 1) × (Whole seat.old.me.0.past → ⊥)
-        × (e.0 ≤ count)) }
+        × Gathered (start_at K.hash_of board.now) seat.old.me.0.past r.0.items r.1) }
+    ensures err { IfErr result (λ busy. (busy.word ≡ 1) × (Whole seat.old.me.0.past → ⊥)
+        × (busy.bay ≤ count)) }
 {
-    let held = match take_all(board, seat, held, count) {
+    let held = match take_all(&Once, board, seat, room, count) {
         Ok(held) => held,
-        Err(fault) => return Err(fault),
+        Err(busy) => return Err(busy),
     };
-    match take(board, seat, count) {
-        Ok(bay) => Ok((held, Box::into_inner(desk_from(bay, count)))),
-        Err(word) => Err((count, word)),
+    match desk_at(&Once, board, seat, count) {
+        Ok(desk) => Ok((held, Box::into_inner(desk))),
+        Err(busy) => Err(busy),
     }
+}
+
+/// Takes shelves out of their boxes, in order.
+fn unboxed(boxes: Vec<Boxed<Shelf>>, room: Vec<Shelf>) -> Vec<Shelf>
+    requires { (room.items ≡ []) × (vec_len boxes ≤ vec_capacity room) }
+    ensures { result.items ≡ boxes.items }
+{
+    let mut shelves = room;
+    for shelf in boxes {
+        shelves.push_reserved(Box::into_inner(shelf.into_box()));
+    }
+    shelves
 }
 
 impl<K: KeyHash + Drop> Shared<K> {
@@ -98,6 +83,9 @@ impl<K: KeyHash + Drop> Shared<K> {
         let Ok(room) = Vec::with_capacity(alloc, count) else {
             return Err(CloseFault::NoMemory(self, caller));
         };
+        let Ok(shelves) = Vec::with_capacity(alloc, count) else {
+            return Err(CloseFault::NoMemory(self, caller));
+        };
         let Shared {
             board,
             settings,
@@ -106,13 +94,13 @@ impl<K: KeyHash + Drop> Shared<K> {
         } = self;
         let Caller { mut seat, .. } = caller;
         match gather(&board, &mut seat, room, count) {
-            Ok((shelves, desk)) => Ok(Store::from_parts(StoreParts {
+            Ok((held, desk)) => Ok(Store::from_parts(StoreParts {
                 settings,
                 hasher,
-                shelves,
+                shelves: unboxed(held, shelves),
                 desk,
             })),
-            Err((bay, word)) => Err(CloseFault::Held { bay, word }),
+            Err(Busy { bay, word }) => Err(CloseFault::Held { bay, word }),
         }
     }
 }

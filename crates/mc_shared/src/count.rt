@@ -4,15 +4,14 @@ ghost use Rattle.std.specs.Prelude.{slice_index};
 ghost use Rattle.mc_protocol.specs.Plain.{Plain, flushed};
 ghost use Rattle.mc_shared.specs.Counted.{AreNone, AreCountsOf, AreAllOf, AreCountsOfAll};
 ghost use Rattle.mc_shared.specs.Counted.{AreKeyCounts, AreKeyCountsAt, AreCountsLeft};
-ghost use Rattle.mc_shared.specs.History.{start_of};
 ghost use Rattle.mc_shared.specs.Presence.{word_of};
-ghost use Rattle.mc_shared.specs.Seats.{SameSeat, IsSeatOf};
+ghost use Rattle.mc_shared.specs.Seats.{SameSeat, SitsAt, shelves_at, start_at};
 ghost use Rattle.mc_shared.specs.Spread.{spread};
 ghost use Rattle.mc_shared.specs.Steps.{loaded, MayCount};
 
 use crate::boxed::Boxed;
 use crate::rule::{Board, Seat};
-use crate::steps::{NUMBERS, count, lower_all, word_at};
+use crate::steps::{NUMBERS, count, lower_all, word_in};
 use mc_hop::KeyHash;
 use mc_shelf::Shelf;
 
@@ -78,18 +77,18 @@ pub(crate) fn count_words<K: KeyHash + Drop>(
     seat: &mut Seat,
     shelves: usize,
 ) -> [u64; NUMBERS]
-    requires seat { IsSeatOf board.now.shared.table_id board.now.shared.key.value seat.old }
-    requires shelves { shelves ≡ board.now.shared.key.value.settings.shelves }
+    requires seat { SitsAt board.now seat.old }
+    requires shelves { shelves ≡ shelves_at board.now }
     requires may { (number : ℕ) → number < 4096 → MayCount
-        (start_of K.hash_of board.now.shared.key.value) seat.old.me.0 number }
+        (start_at K.hash_of board.now) seat.old.me.0 number }
     ensures seat { SameSeat seat.old seat.new }
     ensures same { seat.new.me ≡ seat.old.me }
-    ensures keys { AreKeyCounts (start_of K.hash_of board.now.shared.key.value) seat.old.me.0
+    ensures keys { AreKeyCounts (start_at K.hash_of board.now) seat.old.me.0
         result }
 {
     let mut counts = no_counts();
     for number in 0..NUMBERS {
-        let word = word_at(board, shelves, number);
+        let word = word_in(shelves, number);
         counts[number] = count(board, seat, word, number);
     }
     counts
@@ -102,20 +101,20 @@ pub(crate) fn count_words_at<K: KeyHash + Drop>(
     shelves: usize,
     at: usize,
 ) -> [u64; NUMBERS]
-    requires seat { IsSeatOf board.now.shared.table_id board.now.shared.key.value seat.old }
-    requires shelves { shelves ≡ board.now.shared.key.value.settings.shelves }
+    requires seat { SitsAt board.now seat.old }
+    requires shelves { shelves ≡ shelves_at board.now }
     requires inside { at < shelves }
     requires may { (number : ℕ) → number < 4096 → number % shelves ≡ at → MayCount
-        (start_of K.hash_of board.now.shared.key.value) seat.old.me.0 number }
+        (start_at K.hash_of board.now) seat.old.me.0 number }
     ensures seat { SameSeat seat.old seat.new }
     ensures same { seat.new.me ≡ seat.old.me }
-    ensures keys { AreKeyCountsAt (start_of K.hash_of board.now.shared.key.value) seat.old.me.0 at
+    ensures keys { AreKeyCountsAt (start_at K.hash_of board.now) seat.old.me.0 at
         result }
 {
     let mut counts = no_counts();
     for row in 0..NUMBERS / shelves {
         let number = row * shelves + at;
-        let word = word_at(board, shelves, number);
+        let word = word_in(shelves, number);
         counts[number] = count(board, seat, word, number);
     }
     counts
@@ -131,8 +130,8 @@ fn lower_number<K: KeyHash + Drop>(
     number: usize,
     count: u64,
 )
-    requires seat { IsSeatOf board.now.shared.table_id board.now.shared.key.value seat.old }
-    requires shelves { shelves ≡ board.now.shared.key.value.settings.shelves }
+    requires seat { SitsAt board.now seat.old }
+    requires shelves { shelves ≡ shelves_at board.now }
     requires number { number < 4096 }
     requires named { (more : List ℕ)
         × (seat.old.me.0.surplus ≡ replicate count (word_of shelves number) ++ more) }
@@ -142,7 +141,7 @@ fn lower_number<K: KeyHash + Drop>(
         → seat.new.me ≡ loaded seat.old.me more }
 {
     if count > 0 {
-        let word = word_at(board, shelves, number);
+        let word = word_in(shelves, number);
         lower_all(board, seat, word, count as usize);
     }
 }
@@ -157,8 +156,8 @@ pub(crate) fn lower_words<K: KeyHash + Drop>(
     before: &[u64],
     after: &[u64],
 )
-    requires seat { IsSeatOf board.now.shared.table_id board.now.shared.key.value seat.old }
-    requires shelves { shelves ≡ board.now.shared.key.value.settings.shelves }
+    requires seat { SitsAt board.now seat.old }
+    requires shelves { shelves ≡ shelves_at board.now }
     requires many { (length before.now ≡ 4096) × (length after.now ≡ 4096) }
     requires named { seat.old.me.0.surplus ≡ spread shelves
         (λ n. slice_index before.now n - slice_index after.now n) 0 4096 }

@@ -14,17 +14,15 @@ ghost use Rattle.mc_shared.specs.Emptied.{AreEmptied};
 ghost use Rattle.mc_shared.specs.History.{start_of};
 ghost use Rattle.mc_shared.specs.Steps.{Agrees};
 ghost use Rattle.mc_shared.specs.Store.{resting, with_call, HasCalled};
-ghost use Rattle.mc_shared.specs.Seats.{SameSeat, IsSeatOf, IsFree};
-ghost use Rattle.mc_shared.specs.Stacks.{holds_all};
+ghost use Rattle.mc_shared.specs.Seats.{SameSeat, RestsAt, shelves_at, start_at};
 
 use crate::bay::Bay;
 use crate::boxed::Boxed;
 use crate::count::{count_left, count_words, lower_words};
 use crate::decision::Decision;
-use crate::hold::{desk_from, shelf_from};
-use crate::patience::take_waiting;
+use crate::hold::{give_all, wait_for_all, wait_for_desk_at};
 use crate::rule::{Board, Seat};
-use crate::steps::{decide, give, reload};
+use crate::steps::{decide, reload};
 use crate::store::{Caller, Shared};
 use mc_hop::KeyHash;
 use mc_protocol::Reply;
@@ -32,44 +30,6 @@ use mc_shelf::{Desk, Shelf};
 use mc_time::Moment;
 use std::alloc::{AllocError, Global};
 use std::sync::Wait;
-
-/// Takes all shelves, in rising order, and waits for each.
-fn hold_all<K: KeyHash + Drop, R: Wait>(
-    rt: &R,
-    board: &Board<K>,
-    seat: &mut Seat,
-    room: Vec<Boxed<Shelf>>,
-    count: usize,
-) -> Vec<Boxed<Shelf>>
-    requires seat { IsFree board.now.shared.table_id board.now.shared.key.value seat.old }
-    requires count { count ≡ board.now.shared.key.value.settings.shelves }
-    requires room { (room.items ≡ []) × (count ≤ vec_capacity room) }
-    ensures seat { SameSeat seat.old seat.new }
-    ensures held { (vec_len result ≡ count)
-        × (seat.new.me ≡ holds_all seat.old.me.0.past result.items) }
-{
-    let mut held = room;
-    while held.len() < count {
-        let at = held.len();
-        let shelf = shelf_from(take_waiting(rt, board, seat, at), at, count);
-        held.push_reserved(Boxed::of(shelf));
-    }
-    held
-}
-
-/// Gives all shelves back, the last one first.
-fn give_all<K: KeyHash + Drop>(board: &Board<K>, seat: &mut Seat, mut held: Vec<Boxed<Shelf>>)
-    requires seat { IsSeatOf board.now.shared.table_id board.now.shared.key.value seat.old }
-    requires count { vec_len held ≤ board.now.shared.key.value.settings.shelves }
-    requires held { seat.old.me ≡ holds_all seat.old.me.0.past held.items }
-    ensures { SameSeat seat.old seat.new
-        × (seat.new.me ≡ resting seat.old.me.0.past) }
-{
-    while let Some(shelf) = held.pop() {
-        let at = held.len();
-        give(board, seat, at, Bay::Shelf(shelf));
-    }
-}
 
 /// Flushes a state by its parts, as `flush_parts` does, with each shelf in a box.
 fn flush_boxes(shelves: &mut [Boxed<Shelf>], desk: &mut Desk, delay: u64, now: Moment)
@@ -222,8 +182,8 @@ fn flush_by<K: KeyHash + Drop, R: Wait>(
     delay: u64,
     now: Moment,
 )
-    requires seat { IsFree board.now.shared.table_id board.now.shared.key.value seat.old }
-    requires count { room.count ≡ board.now.shared.key.value.settings.shelves }
+    requires seat { RestsAt board.now seat.old }
+    requires count { room.count ≡ shelves_at board.now }
     requires some { 0 < room.count }
     requires room { (room.held.items ≡ []) × (room.count ≤ vec_capacity room.held) }
     requires fresh { IfSome room.fresh (λ fresh.
@@ -233,12 +193,12 @@ fn flush_by<K: KeyHash + Drop, R: Wait>(
     ensures seat { SameSeat seat.old seat.new }
     ensures done { (seat.new.me ≡ resting
         (with_call seat.old.me.0.past (Step.Flush delay) now Told.Flushed))
-        × Agrees (start_of K.hash_of board.now.shared.key.value) seat.new.me.0.past }
+        × Agrees (start_at K.hash_of board.now) seat.new.me.0.past }
 {
     let Room { held, count, fresh } = room;
-    let mut held = hold_all(rt, board, seat, held, count);
+    let mut held = wait_for_all(rt, board, seat, held, count);
     let before = count_words(board, seat, count);
-    let mut desk = desk_from(take_waiting(rt, board, seat, count), count);
+    let mut desk = wait_for_desk_at(rt, board, seat, count);
     flush_held(&mut held, &mut *desk, fresh, delay, now);
     let decision = Decision::Flushed {
         delay,
@@ -282,7 +242,6 @@ impl<K: KeyHash + Drop> Shared<K> {
         ensures err { OnErr result (caller.new.past ≡ caller.old.past) }
         ensures agrees { Agrees (start_of K.hash_of self.now.began) caller.new.past }
     {
-        // Not inlined: its arrays of counts would enlarge the stack frame of every caller.
         match self.room(alloc, delay) {
             Ok(room) => {
                 flush_by(rt, &self.board, &mut caller.seat, room, delay, now);

@@ -1,118 +1,168 @@
-//! Bays that are held for a caller: a shelf, or a shelf and the desk.
+//! Bays that are held for a caller: a shelf, a shelf and the desk, or all shelves.
 //!
-//! A hold owns its caller's seat until it returns the caller, and can't be dropped.
-//! `core::mem::replace_with` takes the caller out of its place and puts it back. A guard over a
-//! lent seat would have to prove at its end what the seat became.
-ghost use Rattle.std.specs.Prelude.{◌≡◌, ◌<◌, ℕ, IfOk, IfErr};
+//! Each call here borrows the caller's seat. Contracts state in one record what the seat holds:
+//! `HoldsShelf`, `HoldsBoth`, or `holds_all`. No other file takes a bay.
+ghost use Rattle.std.specs.Prelude.{◌≡◌, ◌<◌, ◌≤◌, ℕ, [], vec_len, vec_capacity};
+ghost use Rattle.std.specs.Prelude.{IfOk, IfErr, OnErr};
 ghost use Rattle.mc_shared.specs.History.{start_of};
-ghost use Rattle.mc_shared.specs.Steps.{Agrees, BelongsAt};
+ghost use Rattle.mc_shared.specs.Steps.{Agrees, HasTaken};
 ghost use Rattle.mc_shelf.specs.States.{ShelfContent};
-ghost use Rattle.mc_shared.specs.Holds.{HoldsBoth, HoldsShelf, caller_of, without_desk};
+ghost use Rattle.mc_shared.specs.Rule.{times};
+ghost use Rattle.mc_shared.specs.Store.{resting};
+ghost use Rattle.mc_shared.specs.Seats.{SameSeat, IsFree, LivesAt, Rests, RestsAt, SitsAt};
+ghost use Rattle.mc_shared.specs.Seats.{shelves_at, start_at};
+ghost use Rattle.mc_shared.specs.Holds.{HoldsBoth, HoldsShelf};
+ghost use Rattle.mc_shared.specs.Stacks.{holds_all};
 ghost use Rattle.mc_shared.specs.declared.bay.Bay.{Bay as Held};
 
 use crate::bay::Bay;
 use crate::boxed::Boxed;
-use crate::patience::{NoGate, Patience, Waiting, take_waiting};
-use crate::rule::Seat;
+use crate::patience::{NoGate, Patience, Waiting};
+use crate::rule::{Board, Seat};
 use crate::steps::give;
-use crate::store::{Caller, Shared};
+use crate::store::Shared;
 use mc_hop::KeyHash;
 use mc_shelf::{Desk, Shelf};
-use std::marker::Model;
 use std::sync::Wait;
 
-/// A held shelf. Model: the store, the caller's past, the shelf's number and its content.
-pub(crate) struct AtShelf<'a, K: KeyHash + Drop> {
-    pub(crate) shared: &'a Shared<K>,
-    pub(crate) seat: Seat,
-    pub(crate) grows: Option<u32>,
-    pub(crate) at: u32,
-    pub(crate) shelf: Box<Shelf>,
+/// Takes a shelf out of its bay, or returns an error if another caller holds it.
+fn shelf_at<B: Drop, P: Patience<B>, K: KeyHash + Drop>(
+    patience: &P,
+    board: &Board<K>,
+    seat: &mut Seat,
+    at: usize,
+) -> Result<Box<Shelf>, B>
+    requires seat { LivesAt board.now seat.old }
+    requires at { at < shelves_at board.now }
+    ensures seat { SameSeat seat.old seat.new }
+    ensures ok { IfOk result (λ shelf. HasTaken (start_at K.hash_of board.now) seat.old.me at
+        (Held.Shelf shelf.value) seat.new.me) }
+    ensures err { IfErr result (λ told. (seat.new.me ≡ seat.old.me)
+        × (times at seat.old.me.0 ≡ 0 → P.busy seat.old.me.0.past at told)
+        × Agrees (start_at K.hash_of board.now) seat.old.me.0.past) }
+{
+    match patience.take(board, seat, at) {
+        Ok(Bay::Shelf(shelf)) => Ok(shelf.into_box()),
+        Ok(Bay::Desk(_)) => unreachable!(),
+        Err(told) => Err(told),
+    }
 }
 
-impl<'a, K: KeyHash + Drop> Model for AtShelf<'a, K> {
-    ghost use Rattle.mc_shared.specs.Holds.{ShelfHold, coded_shelf_hold, HoldsShelf};
-
-    ghost Value = { ShelfHold K };
-
-    ghost coded = { coded_shelf_hold K.code };
-
-    ghost view = { λ h. record {
-      shared = h.shared.now;
-      past = h.seat.me.0.past;
-      at = h.at;
-      shelf = h.shelf.value;
-    } };
-
-    ghost invariant = { λ h. HoldsShelf K.hash_of h.shared.now h.seat h.at h.shelf.value.content };
+/// Takes the desk out of its bay, or returns an error if another caller holds it.
+pub(crate) fn desk_at<B: Drop, P: Patience<B>, K: KeyHash + Drop>(
+    patience: &P,
+    board: &Board<K>,
+    seat: &mut Seat,
+    shelves: usize,
+) -> Result<Box<Desk>, B>
+    requires seat { LivesAt board.now seat.old }
+    requires shelves { shelves ≡ shelves_at board.now }
+    ensures seat { SameSeat seat.old seat.new }
+    ensures ok { IfOk result (λ desk. HasTaken (start_at K.hash_of board.now) seat.old.me shelves
+        (Held.Desk desk.value) seat.new.me) }
+    ensures err { IfErr result (λ told. (seat.new.me ≡ seat.old.me)
+        × (times shelves seat.old.me.0 ≡ 0 → P.busy seat.old.me.0.past shelves told)
+        × Agrees (start_at K.hash_of board.now) seat.old.me.0.past) }
+{
+    match patience.take(board, seat, shelves) {
+        Ok(Bay::Desk(desk)) => Ok(desk.into_box()),
+        Ok(Bay::Shelf(_)) => unreachable!(),
+        Err(told) => Err(told),
+    }
 }
 
-/// A held shelf and the held desk. Its model has the desk's content too.
-pub(crate) struct AtBoth<'a, K: KeyHash + Drop> {
-    pub(crate) shared: &'a Shared<K>,
-    pub(crate) seat: Seat,
-    pub(crate) grows: Option<u32>,
-    pub(crate) at: u32,
-    pub(crate) shelf: Box<Shelf>,
-    pub(crate) desk: Box<Desk>,
-}
-
-impl<'a, K: KeyHash + Drop> Model for AtBoth<'a, K> {
-    ghost use Rattle.mc_shared.specs.Holds.{BothHold, coded_both_hold, HoldsBoth};
-
-    ghost Value = { BothHold K };
-
-    ghost coded = { coded_both_hold K.code };
-
-    ghost view = { λ h. record {
-      shared = h.shared.now;
-      past = h.seat.me.0.past;
-      at = h.at;
-      shelf = h.shelf.value;
-      desk = h.desk.value;
-    } };
-
-    ghost invariant = { λ h. HoldsBoth K.hash_of h.shared.now h.seat h.at h.shelf.value.content
-        h.desk.value };
+/// Takes the desk out of its bay, and waits until it is free.
+pub(crate) fn wait_for_desk_at<R: Wait, K: KeyHash + Drop>(
+    rt: &R,
+    board: &Board<K>,
+    seat: &mut Seat,
+    shelves: usize,
+) -> Box<Desk>
+    requires seat { LivesAt board.now seat.old }
+    requires shelves { shelves ≡ shelves_at board.now }
+    ensures seat { SameSeat seat.old seat.new }
+    ensures taken { HasTaken (start_at K.hash_of board.now) seat.old.me shelves
+        (Held.Desk result.value) seat.new.me }
+{
+    match desk_at(&Waiting { rt, gate: &NoGate }, board, seat, shelves) {
+        Ok(desk) => desk,
+        Err(never) => match never {},
+    }
 }
 
 impl<K: KeyHash + Drop> Shared<K> {
-    /// Takes a shelf for a caller; returns the caller if another caller holds the shelf.
-    pub(crate) fn hold_shelf<B: Drop, P: Patience<B>>(
+    /// Takes a shelf for a seat that holds nothing.
+    ///
+    /// If another caller holds the shelf, the seat holds nothing afterwards too.
+    pub(crate) fn take_shelf<B: Drop, P: Patience<B>>(
         &self,
         patience: &P,
-        caller: Caller,
+        seat: &mut Seat,
         at: u32,
-    ) -> Result<AtShelf<'_, K>, (Caller, B)>
-        requires own { caller.table ≡ self.now.table }
+    ) -> Result<Box<Shelf>, B>
+        requires own { seat.old.table_id ≡ self.now.table }
+        requires free { Rests seat.old.me }
         requires inside { at < self.now.began.settings.shelves }
-        ensures ok { IfOk result (λ hold. (hold.shared ≡ self.now) × (hold.past ≡ caller.past)
-            × (hold.at ≡ at)) }
-        ensures err { IfErr result (λ e. (e.0 ≡ caller) × P.busy caller.past at e.1
-            × Agrees (start_of K.hash_of self.now.began) caller.past) }
+        ensures ok { IfOk result (λ shelf. HoldsShelf K.hash_of self.now seat.new at
+            shelf.value.content) }
+        ensures past { seat.new.me.0.past ≡ seat.old.me.0.past }
+        ensures err { IfErr result (λ told. IsFree self.now.table self.now.began seat.new
+            × P.busy seat.old.me.0.past at told
+            × Agrees (start_of K.hash_of self.now.began) seat.old.me.0.past) }
     {
-        let Caller { mut seat, grows } = caller;
-        match patience.take(&self.board, &mut seat, at as usize) {
-            Ok(bay) => Ok(AtShelf {
-                shared: self,
-                seat,
-                grows,
-                at,
-                shelf: shelf_from(bay, at as usize, self.settings.shelves as usize),
-            }),
-            Err(told) => Err((Caller { seat, grows }, told)),
+        match shelf_at(patience, &self.board, seat, at as usize) {
+            Ok(shelf) => Ok(shelf),
+            Err(told) => Err(told),
         }
     }
 
-    /// Takes a shelf for a caller, and waits until it is free.
-    pub(crate) fn wait_for_shelf<R: Wait>(&self, rt: &R, caller: Caller, at: u32) -> AtShelf<'_, K>
-        requires own { caller.table ≡ self.now.table }
+    /// Takes a shelf for a seat that holds nothing, and waits until it is free.
+    pub(crate) fn wait_for_shelf<R: Wait>(&self, rt: &R, seat: &mut Seat, at: u32) -> Box<Shelf>
+        requires own { seat.old.table_id ≡ self.now.table }
+        requires free { Rests seat.old.me }
         requires inside { at < self.now.began.settings.shelves }
-        ensures { (result.shared ≡ self.now) × (result.past ≡ caller.past) × (result.at ≡ at) }
+        ensures holds { HoldsShelf K.hash_of self.now seat.new at result.value.content }
+        ensures past { seat.new.me.0.past ≡ seat.old.me.0.past }
     {
-        match self.hold_shelf(&Waiting { rt, gate: &NoGate }, caller, at) {
-            Ok(hold) => hold,
-            Err((_, never)) => match never {},
+        match self.take_shelf(&Waiting { rt, gate: &NoGate }, seat, at) {
+            Ok(shelf) => shelf,
+            Err(never) => match never {},
+        }
+    }
+
+    /// Gives a shelf back unchanged.
+    pub(crate) fn give_shelf(&self, seat: &mut Seat, shelf: Box<Shelf>, at: u32)
+        requires { HoldsShelf K.hash_of self.now seat.old at shelf.value.content }
+        ensures free { IsFree self.now.table self.now.began seat.new }
+        ensures past { seat.new.me.0.past ≡ seat.old.me.0.past }
+        ensures agrees { Agrees (start_of K.hash_of self.now.began) seat.new.me.0.past }
+    {
+        let value = Bay::Shelf(Boxed::of(shelf));
+        give(&self.board, seat, at as usize, value);
+    }
+
+    /// Takes the desk for a seat that holds a shelf.
+    ///
+    /// If another caller holds the desk, the seat holds the shelf alone.
+    pub(crate) fn take_desk<B: Drop, P: Patience<B>>(
+        &self,
+        patience: &P,
+        seat: &mut Seat,
+    ) -> Result<Box<Desk>, B>
+        requires { (at : ℕ) × (shelf : ShelfContent)
+            × HoldsShelf K.hash_of self.now seat.old at shelf }
+        ensures past { seat.new.me.0.past ≡ seat.old.me.0.past }
+        ensures ok { IfOk result (λ desk. (at : ℕ) (shelf : ShelfContent) →
+            HoldsShelf K.hash_of self.now seat.old at shelf →
+            HoldsBoth K.hash_of self.now seat.new at shelf desk.value) }
+        ensures err { IfErr result (P.busy seat.old.me.0.past self.now.began.settings.shelves) }
+        ensures stays { OnErr result ((at : ℕ) (shelf : ShelfContent) →
+            HoldsShelf K.hash_of self.now seat.old at shelf →
+            HoldsShelf K.hash_of self.now seat.new at shelf) }
+    {
+        match desk_at(patience, &self.board, seat, self.settings.shelves as usize) {
+            Ok(desk) => Ok(desk),
+            Err(told) => Err(told),
         }
     }
 
@@ -125,132 +175,91 @@ impl<K: KeyHash + Drop> Shared<K> {
             HoldsShelf K.hash_of self.now seat.old at shelf →
             HoldsBoth K.hash_of self.now seat.new at shelf result.value }
     {
-        let desk = self.settings.shelves as usize;
-        desk_from(take_waiting(rt, &self.board, seat, desk), desk)
-    }
-}
-
-impl<'a, K: KeyHash + Drop> AtShelf<'a, K> {
-    /// Gives the shelf back, unchanged except for its growth, and returns the caller.
-    pub(crate) fn give_back(self) -> Caller
-        ensures caller { result ≡ caller_of self.entry.shared self.entry.past }
-        ensures agrees { Agrees (start_of K.hash_of self.entry.shared.began) result.past }
-    {
-        let AtShelf {
-            shared,
-            mut seat,
-            grows,
-            at,
-            shelf,
-        } = self;
-        give(
-            &shared.board,
-            &mut seat,
-            at as usize,
-            Bay::Shelf(Boxed::of(shelf)),
-        );
-        Caller { seat, grows }
-    }
-
-    /// Takes the desk too. If another caller holds the desk, the shelf stays held.
-    pub(crate) fn take_desk<B: Drop, P: Patience<B>>(
-        self,
-        patience: &P,
-    ) -> Result<AtBoth<'a, K>, (AtShelf<'a, K>, B)>
-        ensures ok { IfOk result (λ both. without_desk both ≡ self.entry) }
-        ensures err { IfErr result (λ e. (e.0 ≡ self.entry)
-            × P.busy self.entry.past self.entry.shared.began.settings.shelves e.1) }
-    {
-        let AtShelf {
-            shared,
-            mut seat,
-            grows,
-            at,
-            shelf,
-        } = self;
-        let desk = shared.settings.shelves as usize;
-        match patience.take(&shared.board, &mut seat, desk) {
-            Ok(bay) => Ok(AtBoth {
-                shared,
-                seat,
-                grows,
-                at,
-                shelf,
-                desk: desk_from(bay, desk),
-            }),
-            Err(told) => Err((
-                AtShelf {
-                    shared,
-                    seat,
-                    grows,
-                    at,
-                    shelf,
-                },
-                told,
-            )),
+        match self.take_desk(&Waiting { rt, gate: &NoGate }, seat) {
+            Ok(desk) => desk,
+            Err(never) => match never {},
         }
     }
-}
 
-impl<'a, K: KeyHash + Drop> AtShelf<'a, K> {
-    /// Takes the desk too, and waits until it is free.
-    pub(crate) fn wait_for_desk<R: Wait>(self, rt: &R) -> AtBoth<'a, K>
-        ensures { without_desk result ≡ self.entry }
-    {
-        match self.take_desk(&Waiting { rt, gate: &NoGate }) {
-            Ok(both) => both,
-            Err((_, never)) => match never {},
-        }
-    }
-}
-
-impl<'a, K: KeyHash + Drop> AtBoth<'a, K> {
     /// Gives the desk back unchanged. The shelf stays held.
-    pub(crate) fn give_desk(self) -> AtShelf<'a, K>
-        ensures { result ≡ without_desk self.entry }
+    pub(crate) fn give_desk(&self, seat: &mut Seat, desk: Box<Desk>)
+        requires { (at : ℕ) × (shelf : ShelfContent)
+            × HoldsBoth K.hash_of self.now seat.old at shelf desk.value }
+        ensures past { seat.new.me.0.past ≡ seat.old.me.0.past }
+        ensures holds { (at : ℕ) (shelf : ShelfContent) →
+            HoldsBoth K.hash_of self.now seat.old at shelf desk.value →
+            HoldsShelf K.hash_of self.now seat.new at shelf }
     {
-        let AtBoth {
-            shared,
-            mut seat,
-            grows,
-            at,
-            shelf,
-            desk,
-        } = self;
-        give(
-            &shared.board,
-            &mut seat,
-            shared.settings.shelves as usize,
-            Bay::Desk(Boxed::of(desk)),
-        );
-        AtShelf {
-            shared,
-            seat,
-            grows,
-            at,
-            shelf,
+        let value = Bay::Desk(Boxed::of(desk));
+        give(&self.board, seat, self.settings.shelves as usize, value);
+    }
+}
+
+/// Takes all shelves, in rising order, for a seat that holds nothing.
+///
+/// The error is that of the first shelf that another caller holds.
+pub(crate) fn take_all<B: Drop, P: Patience<B>, K: KeyHash + Drop>(
+    patience: &P,
+    board: &Board<K>,
+    seat: &mut Seat,
+    room: Vec<Boxed<Shelf>>,
+    count: usize,
+) -> Result<Vec<Boxed<Shelf>>, B>
+    requires seat { RestsAt board.now seat.old }
+    requires count { count ≡ shelves_at board.now }
+    requires room { (room.items ≡ []) × (count ≤ vec_capacity room) }
+    ensures seat { SameSeat seat.old seat.new }
+    ensures ok { IfOk result (λ held. (vec_len held ≡ count)
+        × (seat.new.me ≡ holds_all seat.old.me.0.past held.items)) }
+    ensures err { IfErr result (λ told.
+        (at : ℕ) × (at ≤ count) × P.busy seat.old.me.0.past at told) }
+{
+    let mut held = room;
+    while held.len() < count {
+        let at = held.len();
+        match shelf_at(patience, board, seat, at) {
+            Ok(shelf) => held.push_reserved(Boxed::of(shelf)),
+            Err(told) => return Err(told),
         }
     }
+    Ok(held)
 }
 
-/// Returns the shelf of a bay.
-pub(crate) fn shelf_from(bay: Bay, at: usize, shelves: usize) -> Box<Shelf>
-    requires { BelongsAt shelves at bay × (at < shelves) }
-    ensures { bay ≡ Held.Shelf result.value }
+/// Takes all shelves, in rising order, and waits for each.
+pub(crate) fn wait_for_all<R: Wait, K: KeyHash + Drop>(
+    rt: &R,
+    board: &Board<K>,
+    seat: &mut Seat,
+    room: Vec<Boxed<Shelf>>,
+    count: usize,
+) -> Vec<Boxed<Shelf>>
+    requires seat { RestsAt board.now seat.old }
+    requires count { count ≡ shelves_at board.now }
+    requires room { (room.items ≡ []) × (count ≤ vec_capacity room) }
+    ensures seat { SameSeat seat.old seat.new }
+    ensures held { (vec_len result ≡ count)
+        × (seat.new.me ≡ holds_all seat.old.me.0.past result.items) }
 {
-    match bay {
-        Bay::Shelf(shelf) => shelf.into_box(),
-        Bay::Desk(_) => unreachable!(),
+    match take_all(&Waiting { rt, gate: &NoGate }, board, seat, room, count) {
+        Ok(held) => held,
+        Err(never) => match never {},
     }
 }
 
-/// Returns the desk of a bay.
-pub(crate) fn desk_from(bay: Bay, shelves: usize) -> Box<Desk>
-    requires { BelongsAt shelves shelves bay }
-    ensures { bay ≡ Held.Desk result.value }
+/// Gives all shelves back, the last one first.
+pub(crate) fn give_all<K: KeyHash + Drop>(
+    board: &Board<K>,
+    seat: &mut Seat,
+    mut held: Vec<Boxed<Shelf>>,
+)
+    requires seat { SitsAt board.now seat.old }
+    requires count { vec_len held ≤ shelves_at board.now }
+    requires held { seat.old.me ≡ holds_all seat.old.me.0.past held.items }
+    ensures { SameSeat seat.old seat.new
+        × (seat.new.me ≡ resting seat.old.me.0.past) }
 {
-    match bay {
-        Bay::Desk(desk) => desk.into_box(),
-        Bay::Shelf(_) => unreachable!(),
+    while let Some(shelf) = held.pop() {
+        let at = held.len();
+        give(board, seat, at, Bay::Shelf(shelf));
     }
 }

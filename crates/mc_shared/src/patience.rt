@@ -4,9 +4,8 @@
 //! microseconds at a time, and after 64 sleeps 1 ms. Yielding instead gave the processor away for
 //! milliseconds. Nobody wakes a waiter: each step would have to look for one.
 ghost use Rattle.std.specs.Prelude.{◌≡◌, ◌≤◌, None, IfSome};
-ghost use Rattle.mc_shared.specs.History.{start_of};
 ghost use Rattle.mc_shared.specs.Steps.{HasTaken};
-ghost use Rattle.mc_shared.specs.Seats.{SameSeat, IsTableOf, IsAlive};
+ghost use Rattle.mc_shared.specs.Seats.{SameSeat, IsBoard, LivesAt, shelves_at, start_at};
 
 use crate::bay::Bay;
 use crate::rule::{Board, Seat};
@@ -42,11 +41,10 @@ impl Gate for NoGate {
 /// How a bay is taken. `B` is the error if another caller holds it.
 pub(crate) trait Patience<B> {
     ghost use Rattle.std.specs.Prelude.{◌≡◌, ◌≤◌, ℕ, IfOk, IfErr};
-    ghost use Rattle.mc_shared.specs.History.{Beginning, start_of};
     ghost use Rattle.mc_shared.specs.Past.{Past};
     ghost use Rattle.mc_shared.specs.Rule.{times};
     ghost use Rattle.mc_shared.specs.Steps.{HasTaken, Agrees};
-    ghost use Rattle.mc_shared.specs.Seats.{SameSeat, IsAlive};
+    ghost use Rattle.mc_shared.specs.Seats.{SameSeat, LivesAt, shelves_at, start_at};
 
     /// The error of a bay that the caller with this past doesn't hold itself.
     ghost busy: { Past → ℕ → B → Type 0 };
@@ -58,14 +56,14 @@ pub(crate) trait Patience<B> {
         seat: &mut Seat,
         bay: usize,
     ) -> Result<Bay, B>
-        requires seat { IsAlive board.now.shared.table_id board.now.shared.key.value seat.old }
-        requires bay { bay ≤ board.now.shared.key.value.settings.shelves }
+        requires seat { LivesAt board.now seat.old }
+        requires bay { bay ≤ shelves_at board.now }
         ensures seat { SameSeat seat.old seat.new }
-        ensures ok { IfOk result (λ x. HasTaken (start_of K.hash_of board.now.shared.key.value)
+        ensures ok { IfOk result (λ x. HasTaken (start_at K.hash_of board.now)
             seat.old.me bay x seat.new.me) }
         ensures err { IfErr result (λ told. (seat.new.me ≡ seat.old.me)
             × (times bay seat.old.me.0 ≡ 0 → busy seat.old.me.0.past bay told)
-            × Agrees (start_of K.hash_of board.now.shared.key.value) seat.old.me.0.past) };
+            × Agrees (start_at K.hash_of board.now) seat.old.me.0.past) };
 
     /// Returns whether a bay that was taken and given back is taken again.
     fn comes_again(&self) -> bool;
@@ -149,11 +147,11 @@ fn pause(count: u32) {
 /// Most bays are free, or are given back soon. Between tries it only loads the word, which leaves
 /// the cache line with the holder.
 fn take_spinning<K: KeyHash + Drop>(board: &Board<K>, seat: &mut Seat, bay: usize) -> Option<Bay>
-    requires seat { IsAlive board.now.shared.table_id board.now.shared.key.value seat.old }
-    requires bay { bay ≤ board.now.shared.key.value.settings.shelves }
+    requires seat { LivesAt board.now seat.old }
+    requires bay { bay ≤ shelves_at board.now }
     ensures seat { SameSeat seat.old seat.new }
     ensures taken { IfSome result (λ value. HasTaken
-        (start_of K.hash_of board.now.shared.key.value) seat.old.me bay value seat.new.me) }
+        (start_at K.hash_of board.now) seat.old.me bay value seat.new.me) }
     ensures free { result ≡ None → seat.new.me ≡ seat.old.me }
 {
     if let Ok(value) = take(board, seat, bay) {
@@ -177,8 +175,8 @@ fn take_spinning<K: KeyHash + Drop>(board: &Board<K>, seat: &mut Seat, bay: usiz
 // `yield_now` returns only after the other threads used up their time slices, which takes
 // milliseconds if there are more threads than processors. A thread that slept runs at once.
 fn stand_aside<K: KeyHash + Drop, R: Wait>(rt: &R, board: &Board<K>, bay: usize, turns: u32)
-    requires table { IsTableOf board.now.shared.table_id board.now.shared.key.value }
-    requires bay { bay ≤ board.now.shared.key.value.settings.shelves }
+    requires table { IsBoard board.now }
+    requires bay { bay ≤ shelves_at board.now }
 {
     let longest = if turns < SHORT_TURNS {
         Duration::from_micros(50)
@@ -196,10 +194,10 @@ pub(crate) fn take_waiting<K: KeyHash + Drop, R: Wait>(
     seat: &mut Seat,
     bay: usize,
 ) -> Bay
-    requires seat { IsAlive board.now.shared.table_id board.now.shared.key.value seat.old }
-    requires bay { bay ≤ board.now.shared.key.value.settings.shelves }
+    requires seat { LivesAt board.now seat.old }
+    requires bay { bay ≤ shelves_at board.now }
     ensures seat { SameSeat seat.old seat.new }
-    ensures taken { HasTaken (start_of K.hash_of board.now.shared.key.value) seat.old.me bay
+    ensures taken { HasTaken (start_at K.hash_of board.now) seat.old.me bay
         result seat.new.me }
 {
     let mut turns: u32 = 0;

@@ -8,7 +8,7 @@ ghost use Rattle.mc_protocol.specs.declared.reply.Reply.{Reply as Told};
 ghost use Rattle.mc_shared.specs.History.{start_of};
 ghost use Rattle.mc_shared.specs.Store.{HasCalled, IsShown};
 
-use crate::steps::{NUMBERS, seek, word_at};
+use crate::steps::{NUMBERS, seek, word_in};
 use crate::store::{Caller, Shared};
 use mc_hop::KeyHash;
 use mc_time::Moment;
@@ -46,7 +46,7 @@ impl<K: KeyHash + Drop> Shared<K> {
         ensures shows { IsShown (start_of K.hash_of self.now.began) caller.old.past key.now result }
     {
         let number = (hash % NUMBERS as u64) as usize;
-        let word = word_at(&self.board, self.settings.shelves as usize, number);
+        let word = word_in(self.settings.shelves as usize, number);
         seek(&self.board, &mut caller.seat, word, key, now) == 0
     }
 }

@@ -1,145 +1,94 @@
 //! Purges of a shelf, and its growth.
-ghost use Rattle.std.specs.Prelude.{◌≡◌, ◌-◌, ◌<◌, ◌≤◌, min, IfOk, IfErr};
+ghost use Rattle.std.specs.Prelude.{◌≡◌, ◌<◌, ◌≤◌, IfErr, OnOk};
+ghost use Rattle.mc_shelf.specs.States.{ShelfContent};
 ghost use Rattle.mc_shared.specs.History.{start_of, Purged};
 ghost use Rattle.mc_shared.specs.Past.{call};
 ghost use Rattle.mc_shared.specs.Steps.{entry_of, Agrees};
-ghost use Rattle.mc_shared.specs.Holds.{HasPurged, caller_of};
+ghost use Rattle.mc_shared.specs.Seats.{IsFree};
+ghost use Rattle.mc_shared.specs.Holds.{HasPurged, HoldsShelf};
 ghost use Rattle.mc_shared.specs.Counted.{AreCountsBy};
 
 use crate::bay::Bay;
 use crate::boxed::Boxed;
 use crate::count::{count_shelf, count_words_at, lower_words};
 use crate::decision::Decision;
-use crate::hold::AtShelf;
+use crate::rule::Seat;
 use crate::steps::{NUMBERS, decide, give};
 use crate::store::{Caller, Shared};
-use core::mem::replace_with;
 use mc_hop::KeyHash;
+use mc_shelf::Shelf;
 use mc_time::Moment;
 use std::sync::Wait;
 
-impl<'a, K: KeyHash + Drop> AtShelf<'a, K> {
-    /// Gives the shelf back with the decision of a purge, if nothing in it may be dead.
-    fn purge_alone(self, now: Moment) -> Result<Caller, AtShelf<'a, K>>
-        ensures ok { IfOk result (λ caller. HasPurged K.hash_of self.entry.shared self.entry.past
-            self.entry.at now caller) }
-        ensures err { IfErr result (λ hold. hold ≡ self.entry) }
+impl<K: KeyHash + Drop> Shared<K> {
+    /// Gives a shelf back with the decision of a purge, if nothing in it may be dead.
+    ///
+    /// Otherwise it returns the shelf, which stays held.
+    fn purge_alone(
+        &self,
+        seat: &mut Seat,
+        shelf: Box<Shelf>,
+        at: u32,
+        now: Moment,
+    ) -> Result<(), Box<Shelf>>
+        requires { HoldsShelf K.hash_of self.now seat.old at shelf.value.content }
+        ensures ok { OnOk result (IsFree self.now.table self.now.began seat.new
+            × HasPurged K.hash_of self.now seat.old.me.0.past at now seat.new.me.0.past) }
+        ensures err { IfErr result (λ shelf. (seat.new.me.0.past ≡ seat.old.me.0.past)
+            × HoldsShelf K.hash_of self.now seat.new at shelf.value.content) }
     {
-        if self.shelf.may_have_dead(now) {
-            return Err(self);
+        if shelf.may_have_dead(now) {
+            return Err(shelf);
         }
-        let AtShelf {
-            shared,
-            mut seat,
-            grows,
-            at,
-            shelf,
-        } = self;
         let decision = Decision::NoneDead { at, moment: now };
         let value = Bay::Shelf(Boxed::of(shelf));
-        decide(&shared.board, &mut seat, at as usize, value, &decision);
-        Ok(Caller { seat, grows })
+        decide(&self.board, seat, at as usize, value, &decision);
+        Ok(())
     }
 
-    /// Counts the shelf's keys of each number, by the numbers' words.
-    fn counts(&mut self) -> [u64; NUMBERS]
-        ensures same { self.new ≡ self.old }
-        ensures counts { AreCountsBy (K.hash_of self.old.shared.began.hasher)
-            self.old.shelf.content result }
+    /// Counts a held shelf's keys of each number, by the numbers' words.
+    fn counts(&self, seat: &mut Seat, at: u32) -> [u64; NUMBERS]
+        requires { (shelf : ShelfContent) × HoldsShelf K.hash_of self.now seat.old at shelf }
+        ensures past { seat.new.me.0.past ≡ seat.old.me.0.past }
+        ensures counts { (shelf : ShelfContent) → HoldsShelf K.hash_of self.now seat.old at shelf →
+            HoldsShelf K.hash_of self.now seat.new at shelf
+            × AreCountsBy (K.hash_of self.now.began.hasher) shelf result }
     {
-        let shared = self.shared;
-        let count = shared.settings.shelves as usize;
-        count_words_at(&shared.board, &mut self.seat, count, self.at as usize)
+        let count = self.settings.shelves as usize;
+        count_words_at(&self.board, seat, count, at as usize)
     }
 
-    /// Moves up to `n` entries of the shelf's old table, and returns how many it moved.
-    fn grow(&mut self, n: usize) -> usize
-        ensures same { (self.new.shared ≡ self.old.shared) × (self.new.past ≡ self.old.past) }
-        ensures moved { result ≤ n }
-        ensures left { (result ≡ min n self.old.shelf.left)
-            × (self.new.shelf.left ≡ self.old.shelf.left - result) }
-    {
-        self.shelf.grow(n)
-    }
-}
-
-impl<'a, K: KeyHash + Drop> AtShelf<'a, K> {
-    /// Drops the shelf's dead items. `before` are its counts of keys by number.
+    /// Drops a shelf's dead items, and gives it back with the decision.
     ///
     /// The items are removed with the shelf alone. Then it waits for the desk, which gets their
     /// chunks back in one step. The desk is given back with the decision, then the words of the
     /// removed keys are lowered, and then the shelf is given back.
-    fn purge<R: Wait>(self, rt: &R, now: Moment, before: &[u64]) -> Caller
-        requires { AreCountsBy (K.hash_of self.shared.began.hasher) self.shelf.content before.now }
-        ensures { HasPurged K.hash_of self.entry.shared self.entry.past self.entry.at now result }
+    fn purge<R: Wait>(&self, rt: &R, seat: &mut Seat, shelf: Box<Shelf>, at: u32, now: Moment)
+        requires { HoldsShelf K.hash_of self.now seat.old at shelf.value.content }
+        ensures free { IsFree self.now.table self.now.began seat.new }
+        ensures purged { HasPurged K.hash_of self.now seat.old.me.0.past at now
+            seat.new.me.0.past }
     {
-        let AtShelf {
-            shared,
-            mut seat,
-            grows,
-            at,
-            mut shelf,
-        } = self;
-        let purging = shelf.begin_purge(shared.alloc, now);
-        let mut desk = shared.wait_for_desk(rt, &mut seat);
+        let mut shelf = shelf;
+        let before = self.counts(seat, at);
+        let purging = shelf.begin_purge(self.alloc, now);
+        let mut desk = self.wait_for_desk(rt, seat);
         shelf.end_purge(purging, now, &mut *desk);
         let decision = Decision::Purged {
             at,
             moment: now,
             shelf: &*shelf,
-            before,
+            before: &before,
         };
-        let bay = shared.settings.shelves as usize;
+        let bay = self.settings.shelves as usize;
         let value = Bay::Desk(Boxed::of(desk));
-        decide(&shared.board, &mut seat, bay, value, &decision);
+        decide(&self.board, seat, bay, value, &decision);
         let after = count_shelf(&*shelf);
-        lower_words(&shared.board, &mut seat, bay, before, &after);
+        lower_words(&self.board, seat, bay, &before, &after);
         let value = Bay::Shelf(Boxed::of(shelf));
-        give(&shared.board, &mut seat, at as usize, value);
-        Caller { seat, grows }
+        give(&self.board, seat, at as usize, value);
     }
-}
 
-/// Purges a shelf for a caller, and returns the caller.
-///
-/// If nothing in the shelf may be dead, no key is counted and the desk isn't taken.
-fn tidy_for<K: KeyHash + Drop, R: Wait>(
-    caller: Caller,
-    asked: (&Shared<K>, &R, u32, &Moment),
-) -> (Caller, ())
-    requires own { caller.table ≡ asked.0.now.table }
-    requires inside { asked.2 < asked.0.now.began.settings.shelves }
-    ensures { HasPurged K.hash_of asked.entry.0.now caller.past asked.entry.2
-        asked.entry.3.now result.0 }
-{
-    let (shared, rt, at, now) = asked;
-    match shared.wait_for_shelf(rt, caller, at).purge_alone(*now) {
-        Ok(caller) => (caller, ()),
-        Err(mut hold) => {
-            let before = hold.counts();
-            (hold.purge(rt, *now, &before), ())
-        }
-    }
-}
-
-/// Moves entries of a shelf for a caller, and returns the caller. Nothing is decided.
-fn grow_for<K: KeyHash + Drop, R: Wait>(
-    caller: Caller,
-    asked: (&Shared<K>, &R, u32, usize),
-) -> (Caller, usize)
-    requires own { caller.table ≡ asked.0.now.table }
-    requires inside { asked.2 < asked.0.now.began.settings.shelves }
-    ensures same { result.0 ≡ caller }
-    ensures moved { result.1 ≤ asked.entry.3 }
-    ensures agrees { Agrees (start_of K.hash_of asked.entry.0.now.began) caller.past }
-{
-    let (shared, rt, at, n) = asked;
-    let mut hold = shared.wait_for_shelf(rt, caller, at);
-    let moved = hold.grow(n);
-    (hold.give_back(), moved)
-}
-
-impl<K: KeyHash + Drop> Shared<K> {
     /// Drops the items of a shelf that are dead at a moment.
     ///
     /// It waits for the shelf, and if an item in it may be dead, for the desk. It costs two passes
@@ -157,7 +106,11 @@ impl<K: KeyHash + Drop> Shared<K> {
             × Agrees (start_of K.hash_of self.now.began) caller.new.past }
     {
         // Not inlined: its arrays of counts would enlarge the stack frame of every caller.
-        replace_with(caller, (self, rt, shelf, &now), tidy_for);
+        let Caller { seat, .. } = caller;
+        let held = self.wait_for_shelf(rt, seat, shelf);
+        if let Err(held) = self.purge_alone(seat, held, shelf, now) {
+            self.purge(rt, seat, held, shelf, now);
+        }
     }
 
     /// Moves up to `n` entries of a shelf's old table, and returns how many it moved.
@@ -170,7 +123,11 @@ impl<K: KeyHash + Drop> Shared<K> {
         ensures moved { result ≤ n }
         ensures agrees { Agrees (start_of K.hash_of self.now.began) caller.new.past }
     {
-        replace_with(caller, (self, rt, shelf, n), grow_for)
+        let Caller { seat, .. } = caller;
+        let mut held = self.wait_for_shelf(rt, seat, shelf);
+        let moved = held.grow(n);
+        self.give_shelf(seat, held, shelf);
+        moved
     }
 
     /// Moves entries as `grow` does, at the shelf of the caller's last step.

@@ -2,19 +2,22 @@
 //!
 //! Functions come in pairs `take`/`take_as`: the toolchain picks a call's ghost members only at a
 //! call that passes `Brand` for a bound whose trait has no method, so the pick needs a call of its
-//! own.
-ghost use Rattle.std.specs.Prelude.{◌≡◌, ◌≢◌, ◌*◌, ◌/◌, ◌%◌, ◌<◌, ◌≤◌, [], ◌∷◌, ℕ, List, ◌++◌, true, false, IfOk, IfErr, drop, replicate};
+//! own. A pick reads a call's parameters, so `decide_as`, `count_as` and `seek_as` have some that
+//! their bodies don't read.
+ghost use Rattle.std.specs.Prelude.{◌≡◌, ◌≢◌, ◌*◌, ◌/◌, ◌%◌, ◌<◌, ◌≤◌, [], ◌∷◌, ℕ, List, ◌++◌};
+ghost use Rattle.std.specs.Prelude.{true, false, IfOk, IfErr, drop, replicate};
 ghost use Rattle.mc_protocol.specs.declared.step.KeyStep.{KeyStep as Step};
 ghost use Rattle.mc_protocol.specs.declared.reply.Reply.{Reply as Told};
 ghost use Rattle.mc_shelf.specs.Numbers.{number_of};
-ghost use Rattle.mc_shared.specs.History.{start_of, Stepped};
+ghost use Rattle.mc_shared.specs.History.{Stepped};
 ghost use Rattle.mc_shared.specs.Bays.{content_of, place};
 ghost use Rattle.mc_shared.specs.Decisions.{operation_of, still_of, surplus_of};
 ghost use Rattle.mc_shared.specs.Presence.{word_of, words_with};
 ghost use Rattle.mc_shared.specs.Steps.{without, maker, newcomer, met, called, loaded};
 ghost use Rattle.mc_shared.specs.Steps.{MayAdd, MayCount, AreKeys, Shows, Agrees, Fitted};
 ghost use Rattle.mc_shared.specs.Steps.{HoldsThis, HasTaken, HasDecided, IsBusy};
-ghost use Rattle.mc_shared.specs.Seats.{SameSeat, IsTableOf, IsSeatOf, IsAlive, MayDecide};
+ghost use Rattle.mc_shared.specs.Seats.{SameSeat, IsBoard, SitsAt, LivesAt, MayDecideAt};
+ghost use Rattle.mc_shared.specs.Seats.{IsWord, number_at, shelves_at, start_at};
 
 use crate::bay::Bay;
 use crate::decision::Decision;
@@ -35,25 +38,14 @@ pub(crate) const NUMBERS: usize = 4096;
 
 /// Returns the place of a bay in the table.
 pub(crate) fn place_of<K: KeyHash + Drop>(board: &Board<K>, bay: usize) -> usize
-    requires table { IsTableOf board.now.shared.table_id board.now.shared.key.value }
-    requires bay { bay ≤ board.now.shared.key.value.settings.shelves }
+    requires table { IsBoard board.now }
+    requires bay { bay ≤ shelves_at board.now }
     ensures place { result ≡ place bay }
-    ensures inside { result < board.now.shared.table_id.words }
+    ensures inside { IsWord board.now result }
 {
     // for the proof: how many words the table has
     let _words = board.word_count();
     bay * APART
-}
-
-/// Returns the place of a number's word in the table.
-pub(crate) fn word_at<K: KeyHash + Drop>(board: &Board<K>, shelves: usize, number: usize) -> usize
-    requires table { IsTableOf board.now.shared.table_id board.now.shared.key.value }
-    requires shelves { shelves ≡ board.now.shared.key.value.settings.shelves }
-    requires number { number < 4096 }
-    ensures word { result ≡ word_of shelves number }
-    ensures inside { result < board.now.shared.table_id.words }
-{
-    word_in(shelves, number)
 }
 
 /// Returns the place of a number's word in a table with this many shelves.
@@ -72,10 +64,10 @@ fn take_as<B: Takes, K: KeyHash + Drop>(
     seat: &mut Seat,
     bay: usize,
 ) -> Result<Bay, u64>
-    requires began { B.start ≡ start_of K.hash_of board.now.shared.key.value }
+    requires began { B.start ≡ start_at K.hash_of board.now }
     requires picked { B.bay ≡ bay }
-    requires seat { IsAlive board.now.shared.table_id board.now.shared.key.value seat.old }
-    requires bay { bay ≤ board.now.shared.key.value.settings.shelves }
+    requires seat { LivesAt board.now seat.old }
+    requires bay { bay ≤ shelves_at board.now }
     ensures seat { SameSeat seat.old seat.new }
     ensures ok { IfOk result (λ x. HasTaken B.start seat.old.me bay x seat.new.me) }
     ensures err { IfErr result (λ word. IsBusy B.start seat.old.me bay word seat.new.me) }
@@ -93,12 +85,12 @@ fn take_as<B: Takes, K: KeyHash + Drop>(
 
 /// Takes a bay, if it is free.
 pub fn take<K: KeyHash + Drop>(board: &Board<K>, seat: &mut Seat, bay: usize) -> Result<Bay, u64>
-    requires seat { IsAlive board.now.shared.table_id board.now.shared.key.value seat.old }
-    requires bay { bay ≤ board.now.shared.key.value.settings.shelves }
+    requires seat { LivesAt board.now seat.old }
+    requires bay { bay ≤ shelves_at board.now }
     ensures seat { SameSeat seat.old seat.new }
-    ensures ok { IfOk result (λ x. HasTaken (start_of K.hash_of board.now.shared.key.value)
+    ensures ok { IfOk result (λ x. HasTaken (start_at K.hash_of board.now)
         seat.old.me bay x seat.new.me) }
-    ensures err { IfErr result (λ word. IsBusy (start_of K.hash_of board.now.shared.key.value)
+    ensures err { IfErr result (λ word. IsBusy (start_at K.hash_of board.now)
         seat.old.me bay word seat.new.me) }
 {
     take_as::<Brand, K>(board, seat, bay)
@@ -106,9 +98,9 @@ pub fn take<K: KeyHash + Drop>(board: &Board<K>, seat: &mut Seat, bay: usize) ->
 
 /// Gives a bay back as `give` does, for a store that began as `B` has it.
 fn give_as<B: Begins, K: KeyHash + Drop>(board: &Board<K>, seat: &mut Seat, bay: usize, value: Bay)
-    requires began { B.start ≡ start_of K.hash_of board.now.shared.key.value }
-    requires seat { IsSeatOf board.now.shared.table_id board.now.shared.key.value seat.old }
-    requires bay { bay ≤ board.now.shared.key.value.settings.shelves }
+    requires began { B.start ≡ start_at K.hash_of board.now }
+    requires seat { SitsAt board.now seat.old }
+    requires bay { bay ≤ shelves_at board.now }
     requires held { HoldsThis seat.old.me bay (content_of value) }
     ensures seat { SameSeat seat.old seat.new }
     ensures view { (seat.new.me ≡ without seat.old.me) × Fitted (B.start) seat.old.me.0 }
@@ -120,17 +112,17 @@ fn give_as<B: Begins, K: KeyHash + Drop>(board: &Board<K>, seat: &mut Seat, bay:
 
 /// Gives back the bay that was taken last, unchanged.
 pub fn give<K: KeyHash + Drop>(board: &Board<K>, seat: &mut Seat, bay: usize, value: Bay)
-    requires seat { IsSeatOf board.now.shared.table_id board.now.shared.key.value seat.old }
-    requires bay { bay ≤ board.now.shared.key.value.settings.shelves }
+    requires seat { SitsAt board.now seat.old }
+    requires bay { bay ≤ shelves_at board.now }
     requires held { HoldsThis seat.old.me bay (content_of value) }
     ensures seat { SameSeat seat.old seat.new }
     ensures view { (seat.new.me ≡ without seat.old.me)
-        × Fitted (start_of K.hash_of board.now.shared.key.value) seat.old.me.0 }
+        × Fitted (start_at K.hash_of board.now) seat.old.me.0 }
 {
     give_as::<Brand, K>(board, seat, bay, value);
 }
 
-/// Gives a bay back as `decide` does, with the decision of `D`. Only contracts read `decision`.
+/// Gives a bay back as `decide` does, with the decision of `D`.
 fn decide_as<D: Says, K: KeyHash + Drop>(
     board: &Board<K>,
     seat: &mut Seat,
@@ -138,8 +130,8 @@ fn decide_as<D: Says, K: KeyHash + Drop>(
     value: Bay,
     decision: &Decision<'_>,
 )
-    requires began { D.start ≡ start_of K.hash_of board.now.shared.key.value }
-    requires may { MayDecide board.now.shared.table_id board.now.shared.key.value seat.old bay
+    requires began { D.start ≡ start_at K.hash_of board.now }
+    requires may { MayDecideAt board.now seat.old bay
         D.start (content_of value) D.what D.still D.surplus }
     ensures seat { SameSeat seat.old seat.new }
     ensures view { HasDecided D.start seat.old.me D.what D.still D.surplus seat.new.me }
@@ -159,21 +151,21 @@ pub(crate) fn decide<K: KeyHash + Drop>(
     value: Bay,
     decision: &Decision<'_>,
 )
-    requires may { MayDecide board.now.shared.table_id board.now.shared.key.value seat.old bay
-        (start_of K.hash_of board.now.shared.key.value) (content_of value)
+    requires may { MayDecideAt board.now seat.old bay
+        (start_at K.hash_of board.now) (content_of value)
         (operation_of decision.now) (still_of decision.now)
-        (surplus_of (start_of K.hash_of board.now.shared.key.value) decision.now) }
+        (surplus_of (start_at K.hash_of board.now) decision.now) }
     ensures seat { SameSeat seat.old seat.new }
-    ensures view { HasDecided (start_of K.hash_of board.now.shared.key.value) seat.old.me
+    ensures view { HasDecided (start_at K.hash_of board.now) seat.old.me
         (operation_of decision.now) (still_of decision.now)
-        (surplus_of (start_of K.hash_of board.now.shared.key.value) decision.now) seat.new.me }
+        (surplus_of (start_at K.hash_of board.now) decision.now) seat.new.me }
 {
     decide_as::<Brand, K>(board, seat, bay, value, decision);
 }
 
 /// Returns a new seat, whose past begins with all of its maker's.
 pub fn fork<K: KeyHash + Drop>(board: &Board<K>, seat: &mut Seat) -> Seat
-    requires { IsAlive board.now.shared.table_id board.now.shared.key.value seat.old }
+    requires { LivesAt board.now seat.old }
     ensures kept { SameSeat seat.old seat.new
         × (seat.new.me ≡ (maker seat.old.me.0, seat.old.me.1)) }
     ensures new { (result.table_id ≡ seat.old.table_id)
@@ -184,8 +176,8 @@ pub fn fork<K: KeyHash + Drop>(board: &Board<K>, seat: &mut Seat) -> Seat
 
 /// Joins the other seat's past into the seat's.
 pub fn meet<K: KeyHash + Drop>(board: &Board<K>, seat: &mut Seat, other: Seat)
-    requires seat { IsSeatOf board.now.shared.table_id board.now.shared.key.value seat.old }
-    requires other { other.table_id ≡ board.now.shared.table_id }
+    requires seat { SitsAt board.now seat.old }
+    requires other { SitsAt board.now other }
     requires idle { (other.me.1 ≡ []) × (other.me.0.bays ≡ []) }
     ensures { (seat.new.table_id ≡ seat.old.table_id) × (seat.new.id ≡ seat.old.id)
         × (seat.new.me ≡ (met seat.old.me.0 other.me.0, seat.old.me.1)) }
@@ -195,8 +187,8 @@ pub fn meet<K: KeyHash + Drop>(board: &Board<K>, seat: &mut Seat, other: Seat)
 
 /// Loads a word as `reload` does, for a store that began as `B` has it.
 fn reload_as<B: Begins, K: KeyHash + Drop>(board: &Board<K>, seat: &mut Seat)
-    requires began { B.start ≡ start_of K.hash_of board.now.shared.key.value }
-    requires seat { IsSeatOf board.now.shared.table_id board.now.shared.key.value seat.old }
+    requires began { B.start ≡ start_at K.hash_of board.now }
+    requires seat { SitsAt board.now seat.old }
     ensures seat { SameSeat seat.old seat.new }
     ensures view { (seat.new.me ≡ seat.old.me) × Agrees B.start seat.old.me.0.past }
 {
@@ -205,19 +197,19 @@ fn reload_as<B: Begins, K: KeyHash + Drop>(board: &Board<K>, seat: &mut Seat)
 
 /// Loads a word and changes nothing. So there is a history that keeps the caller's past.
 pub fn reload<K: KeyHash + Drop>(board: &Board<K>, seat: &mut Seat)
-    requires seat { IsSeatOf board.now.shared.table_id board.now.shared.key.value seat.old }
+    requires seat { SitsAt board.now seat.old }
     ensures seat { SameSeat seat.old seat.new }
     ensures view { (seat.new.me ≡ seat.old.me) × Agrees
-        (start_of K.hash_of board.now.shared.key.value) seat.old.me.0.past }
+        (start_at K.hash_of board.now) seat.old.me.0.past }
 {
     reload_as::<Brand, K>(board, seat);
 }
 
 /// Adds one to the word of a number, whose shelf is held.
-pub fn raise<K: KeyHash + Drop>(board: &Board<K>, seat: &mut Seat, number: usize, word: usize)
-    requires seat { IsSeatOf board.now.shared.table_id board.now.shared.key.value seat.old }
-    requires word { word ≡ word_of board.now.shared.key.value.settings.shelves number }
-    requires may { MayAdd (start_of K.hash_of board.now.shared.key.value) seat.old.me.0 number }
+pub fn raise<K: KeyHash + Drop>(board: &Board<K>, seat: &mut Seat, word: usize)
+    requires seat { SitsAt board.now seat.old }
+    requires may { (number : ℕ) × (word ≡ word_of (shelves_at board.now) number)
+        × MayAdd (start_at K.hash_of board.now) seat.old.me.0 number }
     ensures seat { SameSeat seat.old seat.new }
     ensures view { seat.new.me ≡ loaded seat.old.me (word ∷ seat.old.me.0.surplus) }
 {
@@ -228,20 +220,19 @@ pub fn raise<K: KeyHash + Drop>(board: &Board<K>, seat: &mut Seat, number: usize
 pub fn raise_if<K: KeyHash + Drop>(
     board: &Board<K>,
     seat: &mut Seat,
-    number: usize,
     word: usize,
     comes: bool,
 ) -> usize
-    requires seat { IsSeatOf board.now.shared.table_id board.now.shared.key.value seat.old }
-    requires word { word ≡ word_of board.now.shared.key.value.settings.shelves number }
-    requires may { MayAdd (start_of K.hash_of board.now.shared.key.value) seat.old.me.0 number }
+    requires seat { SitsAt board.now seat.old }
+    requires may { (number : ℕ) × (word ≡ word_of (shelves_at board.now) number)
+        × MayAdd (start_at K.hash_of board.now) seat.old.me.0 number }
     ensures seat { SameSeat seat.old seat.new }
     ensures view { seat.new.me ≡ loaded seat.old.me (replicate result word) }
     ensures one { (comes ≡ true → result ≡ 1) × (result ≤ 1) }
     ensures none { comes ≡ false → result ≡ 0 }
 {
     if comes {
-        raise(board, seat, number, word);
+        raise(board, seat, word);
         return 1;
     }
     0
@@ -255,28 +246,27 @@ pub(crate) fn raise_for<K: KeyHash + Drop>(
     hash: u64,
     comes: bool,
 ) -> (usize, usize)
-    requires seat { IsSeatOf board.now.shared.table_id board.now.shared.key.value seat.old }
-    requires shelves { shelves ≡ board.now.shared.key.value.settings.shelves }
-    requires may { MayAdd (start_of K.hash_of board.now.shared.key.value) seat.old.me.0
-        (hash % 4096) }
+    requires seat { SitsAt board.now seat.old }
+    requires shelves { shelves ≡ shelves_at board.now }
+    requires may { MayAdd (start_at K.hash_of board.now) seat.old.me.0 (hash % 4096) }
     ensures seat { SameSeat seat.old seat.new }
     ensures word { result.0 ≡ word_of shelves (hash % 4096) }
-    ensures inside { result.0 < board.now.shared.table_id.words }
     ensures view { seat.new.me ≡ loaded seat.old.me (replicate result.1 result.0) }
     ensures one { (comes ≡ true → result.1 ≡ 1) × (result.1 ≤ 1) }
     ensures none { comes ≡ false → result.1 ≡ 0 }
 {
     let number = (hash % NUMBERS as u64) as usize;
-    let word = word_at(board, shelves, number);
-    (word, raise_if(board, seat, number, word, comes))
+    let word = word_in(shelves, number);
+    (word, raise_if(board, seat, word, comes))
 }
 
 /// Subtracts `count` from a word in one atomic step.
 ///
 /// The surplus must begin with the word, `count` times.
 pub fn lower<K: KeyHash + Drop>(board: &Board<K>, seat: &mut Seat, word: usize, count: u64)
-    requires seat { IsSeatOf board.now.shared.table_id board.now.shared.key.value seat.old }
-    requires word { word < board.now.shared.table_id.words }
+    requires seat { SitsAt board.now seat.old }
+    requires word { (number : ℕ) × (number < 4096)
+        × (word ≡ word_of (shelves_at board.now) number) }
     requires some { 0 < count }
     requires named { (more : List ℕ) × (seat.old.me.0.surplus ≡ replicate count word ++ more) }
     ensures seat { SameSeat seat.old seat.new }
@@ -289,8 +279,9 @@ pub fn lower<K: KeyHash + Drop>(board: &Board<K>, seat: &mut Seat, word: usize, 
 ///
 /// The surplus must begin with the word, `count` times.
 pub fn lower_all<K: KeyHash + Drop>(board: &Board<K>, seat: &mut Seat, word: usize, count: usize)
-    requires seat { IsSeatOf board.now.shared.table_id board.now.shared.key.value seat.old }
-    requires word { word < board.now.shared.table_id.words }
+    requires seat { SitsAt board.now seat.old }
+    requires word { (number : ℕ) × (number < 4096)
+        × (word ≡ word_of (shelves_at board.now) number) }
     requires named { (more : List ℕ) × (seat.old.me.0.surplus ≡ replicate count word ++ more) }
     ensures seat { SameSeat seat.old seat.new }
     ensures view { (more : List ℕ) → seat.old.me.0.surplus ≡ replicate count word ++ more
@@ -301,15 +292,15 @@ pub fn lower_all<K: KeyHash + Drop>(board: &Board<K>, seat: &mut Seat, word: usi
     }
 }
 
-/// Returns the count as `count` does, for the number that `C` picks. Only contracts read `_number`.
+/// Returns the count as `count` does, for the number that `C` picks.
 fn count_as<C: Counts, K: KeyHash + Drop>(
     board: &Board<K>,
     seat: &mut Seat,
     word: usize,
     _number: usize,
 ) -> u64
-    requires began { C.start ≡ start_of K.hash_of board.now.shared.key.value }
-    requires seat { IsSeatOf board.now.shared.table_id board.now.shared.key.value seat.old }
+    requires began { C.start ≡ start_at K.hash_of board.now }
+    requires seat { SitsAt board.now seat.old }
     requires word { word ≡ word_of C.start.shelves C.number }
     requires may { MayCount C.start seat.old.me.0 C.number }
     ensures seat { SameSeat seat.old seat.new }
@@ -326,19 +317,18 @@ pub fn count<K: KeyHash + Drop>(
     word: usize,
     number: usize,
 ) -> u64
-    requires seat { IsSeatOf board.now.shared.table_id board.now.shared.key.value seat.old }
-    requires word { word ≡ word_of board.now.shared.key.value.settings.shelves number }
-    requires may { MayCount (start_of K.hash_of board.now.shared.key.value) seat.old.me.0 number }
+    requires seat { SitsAt board.now seat.old }
+    requires word { word ≡ word_of (shelves_at board.now) number }
+    requires may { MayCount (start_at K.hash_of board.now) seat.old.me.0 number }
     ensures seat { SameSeat seat.old seat.new }
     ensures same { seat.new.me ≡ seat.old.me }
-    ensures keys { AreKeys (start_of K.hash_of board.now.shared.key.value) seat.old.me.0 number
+    ensures keys { AreKeys (start_at K.hash_of board.now) seat.old.me.0 number
         result }
 {
     count_as::<Brand, K>(board, seat, word, number)
 }
 
-/// Loads the word as `seek` does, for the key that `S` picks. Only contracts read `_key` and
-/// `_now`.
+/// Loads the word as `seek` does, for the key that `S` picks.
 fn seek_as<S: Seeks, K: KeyHash + Drop>(
     board: &Board<K>,
     seat: &mut Seat,
@@ -346,8 +336,8 @@ fn seek_as<S: Seeks, K: KeyHash + Drop>(
     _key: &[u8],
     _now: Moment,
 ) -> u64
-    requires began { S.start ≡ start_of K.hash_of board.now.shared.key.value }
-    requires seat { IsAlive board.now.shared.table_id board.now.shared.key.value seat.old }
+    requires began { S.start ≡ start_at K.hash_of board.now }
+    requires seat { LivesAt board.now seat.old }
     requires word { word ≡ word_of S.start.shelves (number_of S.start.hash_of S.key) }
     ensures seat { SameSeat seat.old seat.new }
     ensures gone { result ≡ 0 → (seat.new.me
@@ -367,16 +357,16 @@ pub fn seek<K: KeyHash + Drop>(
     key: &[u8],
     now: Moment,
 ) -> u64
-    requires seat { IsAlive board.now.shared.table_id board.now.shared.key.value seat.old }
-    requires word { word ≡ word_of board.now.shared.key.value.settings.shelves
-        (number_of (K.hash_of board.now.shared.key.value.hasher) key.now) }
+    requires seat { LivesAt board.now seat.old }
+    requires word { word ≡ word_of (shelves_at board.now)
+        (number_at K.hash_of board.now key.now) }
     ensures seat { SameSeat seat.old seat.new }
     ensures gone { result ≡ 0 → (seat.new.me
         ≡ called seat.old.me (Stepped (Step.Read key.now) now Told.Miss))
-        × Agrees (start_of K.hash_of board.now.shared.key.value) seat.new.me.0.past }
+        × Agrees (start_at K.hash_of board.now) seat.new.me.0.past }
     ensures stays { result ≢ 0 → seat.new.me ≡ seat.old.me }
-    ensures shows { Shows (start_of K.hash_of board.now.shared.key.value) seat.old.me.0
-        (number_of (K.hash_of board.now.shared.key.value.hasher) key.now) result }
+    ensures shows { Shows (start_at K.hash_of board.now) seat.old.me.0
+        (number_at K.hash_of board.now key.now) result }
 {
     seek_as::<Brand, K>(board, seat, word, key, now)
 }

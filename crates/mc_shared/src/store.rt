@@ -68,8 +68,7 @@ pub struct Caller {
 }
 
 impl Model for Caller {
-    ghost use Rattle.std.specs.Prelude.{◌≡◌, []};
-    ghost use Rattle.mc_shared.specs.Past.{Lives};
+    ghost use Rattle.mc_shared.specs.Seats.{Rests};
     ghost use Rattle.mc_shared.specs.Shown.{CallerState, coded_caller};
 
     ghost Value = { CallerState };
@@ -78,8 +77,7 @@ impl Model for Caller {
 
     ghost view = { λ c. record { table = c.seat.table_id; past = c.seat.me.0.past } };
 
-    ghost invariant = { λ c. (c.seat.me.1 ≡ []) × (c.seat.me.0.bays ≡ [])
-        × Lives c.seat.me.0.past × (c.seat.me.0.surplus ≡ []) };
+    ghost invariant = { λ c. Rests c.seat.me };
 }
 
 impl<K: KeyHash + Drop> Shared<K> {

@@ -1,7 +1,7 @@
 //! Steps that deliver their reply to an `Answer`.
 //!
 //! A hit is delivered while its item is in place, any other reply once the step is taken.
-ghost use Rattle.std.specs.Prelude.{◌≡◌, ◌<◌, [], true, false, Ok, Err, Some, IfOk, OnOk, OnErr};
+ghost use Rattle.std.specs.Prelude.{◌≡◌, [], true, false, Ok, Err, Some, IfOk, OnOk, OnErr};
 ghost use Rattle.std.specs.Prelude.{◌≤◌, get_or, length};
 ghost use Rattle.std.specs.List.{concat};
 ghost use Rattle.std.specs.FinMap.{get};
@@ -12,22 +12,20 @@ ghost use Rattle.mc_shelf.specs.States.{IsHash, parts_of};
 ghost use Rattle.mc_shelf.specs.Hits.{is_read};
 ghost use Rattle.mc_shelf.specs.Plans.{IsKnown, is_gone, stood};
 ghost use Rattle.mc_shared.specs.History.{start_of};
-ghost use Rattle.mc_shared.specs.Past.{Lives};
 ghost use Rattle.mc_shared.specs.Steps.{Agrees};
-ghost use Rattle.mc_shared.specs.Store.{HasCalled, MayFailAfter, Refuses};
-ghost use Rattle.mc_shared.specs.Seats.{IsAnswered, IsFree, MayAsk};
+ghost use Rattle.mc_shared.specs.Store.{HasCalled, MayFailAfter};
+ghost use Rattle.mc_shared.specs.Seats.{IsFree};
 ghost use Rattle.mc_shared.specs.Holds.{HoldsShelf, IsAsked};
 ghost use Rattle.mc_shared.specs.Telling.{CameOfRead, IsSought, IsTold, ItemStands};
 
-use crate::ask::{Ask, Untaken};
+use crate::ask::Ask;
 use crate::bay::Bay;
 use crate::boxed::Boxed;
 use crate::decision::Decision;
-use crate::hold::shelf_from;
-use crate::patience::{Gate, NoGate, Waiting, take_waiting};
+use crate::patience::{Gate, NoGate, Waiting};
 use crate::rule::Seat;
-use crate::step::is_read;
-use crate::steps::{decide, give};
+use crate::step::{growing_shelf, is_read};
+use crate::steps::decide;
 use crate::store::{Caller, Shared};
 use mc_hop::KeyHash;
 use mc_protocol::{Answer, Bytes, KeyStep, Reply, StepFault, Unanswered};
@@ -129,30 +127,6 @@ fn tell<A: Answer>(taken: Result<Reply, StepFault>, answer: &mut A) -> Result<()
 }
 
 impl<K: KeyHash + Drop> Shared<K> {
-    /// Takes a shelf for a seat that holds nothing, and waits until it is free.
-    fn take_shelf<R: Wait>(&self, rt: &R, seat: &mut Seat, at: u32) -> Box<Shelf>
-        requires own { seat.old.table_id ≡ self.now.table }
-        requires free { (seat.old.me.1 ≡ []) × (seat.old.me.0.bays ≡ []) × Lives seat.old.me.0.past
-            × (seat.old.me.0.surplus ≡ []) }
-        requires inside { at < self.now.began.settings.shelves }
-        ensures holds { HoldsShelf K.hash_of self.now seat.new at result.value.content }
-        ensures past { seat.new.me.0.past ≡ seat.old.me.0.past }
-    {
-        let bay = take_waiting(rt, &self.board, seat, at as usize);
-        shelf_from(bay, at as usize, self.settings.shelves as usize)
-    }
-
-    /// Gives a shelf back unchanged.
-    fn give_shelf(&self, seat: &mut Seat, shelf: Box<Shelf>, at: u32)
-        requires { HoldsShelf K.hash_of self.now seat.old at shelf.value.content }
-        ensures free { IsFree self.now.table self.now.began seat.new }
-        ensures past { seat.new.me.0.past ≡ seat.old.me.0.past }
-        ensures agrees { Agrees (start_of K.hash_of self.now.began) seat.new.me.0.past }
-    {
-        let value = Bay::Shelf(Boxed::of(shelf));
-        give(&self.board, seat, at as usize, value);
-    }
-
     /// Gives a shelf back with the decision of a read whose key has no dead item there.
     ///
     /// `place` is where its item is.
@@ -207,7 +181,7 @@ impl<K: KeyHash + Drop> Shared<K> {
             × (answer.new ≡ answer.old)) }
     {
         let Caller { seat, grows } = caller;
-        let shelf = self.take_shelf(patience.rt, seat, ask.at);
+        let shelf = self.wait_for_shelf(patience.rt, seat, ask.at);
         patience.gate.inside(ask.at);
         *grows = growing_shelf(&*shelf, ask.at);
         match tell_hit(&*shelf, ask, answer) {
@@ -230,27 +204,7 @@ impl<K: KeyHash + Drop> Shared<K> {
         }
     }
 
-    /// Takes a step on one key whose hash is known, waits for other callers, and calls no gate.
-    fn step_waiting<R: Wait>(
-        &self,
-        rt: &R,
-        alloc: Global,
-        caller: &mut Caller,
-        ask: &Ask<'_>,
-    ) -> Result<Reply, StepFault>
-        requires own { caller.old.table ≡ self.now.table }
-        requires asked { IsAsked K.hash_of self.now ask.now }
-        ensures { IsAnswered (start_of K.hash_of self.now.began) caller.old ask.now.step.now
-            ask.now.moment Refuses result caller.new }
-    {
-        match self.step_asked(&Waiting { rt, gate: &NoGate }, alloc, caller, ask) {
-            Ok(reply) => Ok(reply),
-            Err(Untaken::Refused(fault)) => Err(fault),
-            Err(Untaken::Met(never)) => match never {},
-        }
-    }
-
-    /// Takes a step as `step_unless_absent` does, and delivers its reply.
+    /// Takes a step as `answer_or_miss` does, and delivers its reply.
     ///
     /// A hit of a read is delivered while its shelf is held and before it is decided: if the
     /// delivery fails, the read isn't taken. Any other reply is delivered once the step is taken.
@@ -259,41 +213,31 @@ impl<K: KeyHash + Drop> Shared<K> {
         patience: &Waiting<'_, R, G>,
         alloc: Global,
         caller: &mut Caller,
-        step: &KeyStep<'_>,
-        now: Moment,
+        ask: &Ask<'_>,
         answer: &mut A,
     ) -> Result<(), Unanswered>
-        requires { MayAsk self.now caller.old step.now }
-        ensures { IsTold A.told (start_of K.hash_of self.now.began) caller.old step.now now
-            answer.old result caller.new answer.new }
+        requires own { caller.old.table ≡ self.now.table }
+        requires asked { IsAsked K.hash_of self.now ask.now }
+        ensures { IsTold A.told (start_of K.hash_of self.now.began) caller.old ask.now.step.now
+            ask.now.moment answer.old result caller.new answer.new }
     {
-        if !is_read(step) {
-            let Waiting { rt, gate } = patience;
-            let taken = self.step_unless_absent(*rt, alloc, caller, step, now, *gate);
-            return tell(taken, answer);
+        if !is_read(ask.step) {
+            return tell(self.answer(patience, alloc, caller, ask), answer);
         }
-        let hash = self.hasher.hash(step.key());
-        if self.is_told_absent(caller, step, hash, now) {
+        if self.is_told_absent(caller, ask) {
             return tell(Ok(Reply::Miss), answer);
         }
-        let ask = self.ask(step, hash, now);
-        match self.read_telling(patience, caller, &ask, answer) {
+        match self.read_telling(patience, caller, ask, answer) {
             Ok(Sought::Told(_)) => Ok(()),
             Ok(Sought::Nothing) => tell(Ok(Reply::Miss), answer),
-            Ok(Sought::Deferred) => tell(
-                self.step_waiting(patience.rt, alloc, caller, &ask),
-                answer,
-            ),
+            Ok(Sought::Deferred) => {
+                let patience = Waiting {
+                    rt: patience.rt,
+                    gate: &NoGate,
+                };
+                tell(self.answer(&patience, alloc, caller, ask), answer)
+            }
             Err(_) => Err(Unanswered::NoMemory),
         }
-    }
-}
-
-/// Returns the shelf if entries of it are left to move.
-fn growing_shelf(shelf: &Shelf, at: u32) -> Option<u32> {
-    if shelf.entries_to_move() == 0 {
-        None
-    } else {
-        Some(at)
     }
 }

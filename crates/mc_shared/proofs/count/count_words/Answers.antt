@@ -1,4 +1,4 @@
-use Rattle.std.proofs.Common.{rules, arith, ◌≤◌, ◌<◌, refl, sym, ◌∙◌, subst, length-set}
+use Rattle.std.proofs.Common.{rules, arith, ◌≡◌, ◌*◌, ◌/◌, ℕ, ◌≤◌, ◌<◌, refl, sym, ◌∙◌, subst, length-set}
 use Rattle.mc_shared.proofs.Words.{start_of, Mine, MayCount, AreKeys}
 use Rattle.mc_shared.proofs.CountLemmas.{keys_next}
 use Rattle.mc_shared.proofs.count.count_words.Goals as goal
@@ -33,3 +33,6 @@ returns-clause-keys g c =
     let inv = c.loop-number.invariant in
     let all : 4096 ≤ c.loop-number.number = search rules in
     record { many = inv.4; counted = λ n low. inv.5 n (omega (arith, low, all)) }
+
+pub word_in-word-requires-clause-divides : goal.word_in-word-requires-clause-divides
+word_in-word-requires-clause-divides g c = subst (λ (s : ℕ). 4096 / s * s ≡ 4096) (sym c.requires.shelves) c.requires.seat.fit.divides

@@ -1,4 +1,4 @@
-use Rattle.std.proofs.Common.{rules, arith, ◌/◌, ◌*◌, ◌+◌, ◌<◌, ℕ, refl, sym, ◌∙◌, subst}
+use Rattle.std.proofs.Common.{rules, arith, ◌≡◌, ◌/◌, ◌*◌, ◌+◌, ◌<◌, ℕ, refl, sym, ◌∙◌, subst}
 use Rattle.mc_shared.proofs.Words.{start_of, Mine, MayCount, AreKeys}
 use Rattle.mc_shared.proofs.CountLemmas.{row_number, row_below, rows_start, rows_next, rows_all}
 use Rattle.mc_shared.proofs.count.count_words_at.Goals as goal
@@ -12,8 +12,8 @@ loop-row-init g c = (
   rows_start (start_of g.K.KeyHash.hash_of c.args.board.now.shared.key.value) c.args.seat.now.me.0 c.args.shelves c.args.at _ c.no_counts-counts.ensures,
 )
 
-pub word_at-word-requires-clause-number : goal.word_at-word-requires-clause-number
-word_at-word-requires-clause-number g c =
+pub word_in-word-requires-clause-number : goal.word_in-word-requires-clause-number
+word_in-word-requires-clause-number g c =
     row_below _ c.args.shelves c.args.at c.loop-row.row c.requires.shelves c.requires.seat.fit.divides c.requires.inside (search rules)
 
 pub count-requires-clause-may : goal.count-requires-clause-may
@@ -42,3 +42,6 @@ pub returns-clause-keys : goal.returns-clause-keys
 returns-clause-keys g c =
     rows_all (start_of g.K.KeyHash.hash_of c.args.board.now.shared.key.value) c.args.seat.now.me.0 c.args.shelves c.args.at c.loop-row.row c.loop-row.counts
     c.requires.shelves c.requires.seat.fit.divides c.requires.inside (search rules) c.loop-row.invariant.4
+
+pub word_in-word-requires-clause-divides : goal.word_in-word-requires-clause-divides
+word_in-word-requires-clause-divides g c = subst (λ (s : ℕ). 4096 / s * s ≡ 4096) (sym c.requires.shelves) c.requires.seat.fit.divides
