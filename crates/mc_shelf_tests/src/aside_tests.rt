@@ -120,10 +120,10 @@ fn count_used(before: &Before) -> usize {
 }
 
 /// Returns how many chunks of the small items' class are out, and of the large item's.
-fn out(store: Store<Constant>) -> (Store<Constant>, (u32, u32)) {
-    let (store, (_, small)) = account(store, 55);
-    let (store, (_, large)) = account(store, LARGE as u64 + 50);
-    (store, (small, large))
+fn out(store: &mut Store<Constant>) -> (u32, u32) {
+    let (_, small) = account(store, 55);
+    let (_, large) = account(store, LARGE as u64 + 50);
+    (small, large)
 }
 
 /// Returns the chunks of items without a block right after a flush.
@@ -141,16 +141,25 @@ fn come_behind(
     before: u8,
     large: &[u8],
 ) -> Result<Option<Before>, Fail> {
-    let store = laid_aside(alloc, store_of(alloc, before, large)?)?;
-    let (mut store, has) = out(store);
-    assert_eq!(rt; has, (0, 0));
-    let told = put(&mut store, alloc, 254, 0, large);
-    assert!(rt; told == "stored", "{told} with {before} before it");
-    let (mut store, has) = out(store);
-    assert_eq!(rt; has, (0, 1));
-    let told = put(&mut store, alloc, 253, 0, large);
-    assert!(rt; told == "no chunk", "{told} for a second one");
+    let mut store = laid_aside(alloc, store_of(alloc, before, large)?)?;
+    takes_one_large(rt, alloc, &mut store, before, large);
     Ok(chunks_that_come(store, alloc))
+}
+
+/// Checks that a store without items takes one large item, and no second one.
+fn takes_one_large(
+    rt: &impl Abort,
+    alloc: Global,
+    store: &mut Store<Constant>,
+    before: u8,
+    large: &[u8],
+) {
+    assert_eq!(rt; out(store), (0, 0));
+    let told = put(store, alloc, 254, 0, large);
+    assert!(rt; told == "stored", "{told} with {before} before it");
+    assert_eq!(rt; out(store), (0, 1));
+    let told = put(store, alloc, 253, 0, large);
+    assert!(rt; told == "no chunk", "{told} for a second one");
 }
 
 /// Returns whether a large item left the small ones aside.

@@ -9,6 +9,7 @@ use mc_rows::{Ask, Row, Want, ask_step, filled_block, first_unlike, set, step_of
 use mc_shelf::{Shelf, Store};
 use mc_time::Moment;
 use std::alloc::{AllocError, Global};
+use std::process::Abort;
 use std::test::*;
 
 /// Drops the dead items of the first shelf, if `purges`.
@@ -18,77 +19,106 @@ fn purge_at(store: &mut Store<Constant>, seconds: u64, purges: bool) {
     }
 }
 
+const X: Ask<'static> = Ask::Store(Verb::Set, 0, b"x");
+
+/// It expires in 10 seconds.
+const Y: Ask<'static> = Ask::Store(Verb::Set, 10, b"y");
+
+const Z: Ask<'static> = Ask::Store(Verb::Set, 0, b"z");
+
+const STORED: Want<'static> = Want::Told("stored");
+
+/// Rows, whether a purge at the row's second follows, and the number of the shelf's items then.
+static ITEMS: [(Row<'static>, bool, usize); 16] = [
+    ((1000, b"a", Ask::Get, Want::Told("miss")), false, 0),
+    ((1000, b"a", X, STORED), false, 1),
+    ((1000, b"b", Y, STORED), false, 2),
+    ((1001, b"a", Z, STORED), true, 2),
+    ((1002, b"a", Ask::Delete, Want::Told("deleted")), false, 1),
+    ((1002, b"a", Ask::Delete, Want::Told("not found")), false, 1),
+    ((1010, b"a", Ask::Get, Want::Told("miss")), false, 1),
+    ((1010, b"b", Ask::Get, Want::Told("miss")), false, 0),
+    ((1010, b"c", Y, STORED), false, 1),
+    ((1020, b"a", Ask::Get, Want::Told("miss")), true, 0),
+    ((1020, b"a", X, STORED), false, 1),
+    ((1020, b"b", X, STORED), false, 2),
+    ((1020, b"a", Ask::Flush(5), Want::Told("flushed")), true, 2),
+    ((1025, b"c", Ask::Get, Want::Told("miss")), true, 0),
+    ((1025, b"a", X, STORED), false, 1),
+    ((1025, b"a", Ask::Flush(0), Want::Told("flushed")), false, 0),
+];
+
 /// Keys of one hash, on the first shelf, with the number 960.
 ///
 /// A dead item counts until a step on its key, or a purge, drops it.
 #[test]
 fn a_shelf_counts_its_items(rt: HostRuntime) -> Result<(), Fail> {
-    // The number of the shelf's items after each row, and after a purge at its second if there is
-    // one.
-    let rows: [(Row<'_>, bool, usize); 16] = [
-        ((1000, b"a", Ask::Get, Want::Told("miss")), false, 0),
-        (set(1000, b"a", 0, b"x", "stored"), false, 1),
-        (set(1000, b"b", 10, b"y", "stored"), false, 2),
-        (set(1001, b"a", 0, b"z", "stored"), true, 2),
-        ((1002, b"a", Ask::Delete, Want::Told("deleted")), false, 1),
-        ((1002, b"a", Ask::Delete, Want::Told("not found")), false, 1),
-        ((1010, b"a", Ask::Get, Want::Told("miss")), false, 1),
-        ((1010, b"b", Ask::Get, Want::Told("miss")), false, 0),
-        (set(1010, b"c", 10, b"y", "stored"), false, 1),
-        ((1020, b"a", Ask::Get, Want::Told("miss")), true, 0),
-        (set(1020, b"a", 0, b"x", "stored"), false, 1),
-        (set(1020, b"b", 0, b"x", "stored"), false, 2),
-        ((1020, b"a", Ask::Flush(5), Want::Told("flushed")), true, 2),
-        ((1025, b"c", Ask::Get, Want::Told("miss")), true, 0),
-        (set(1025, b"a", 0, b"x", "stored"), false, 1),
-        ((1025, b"a", Ask::Flush(0), Want::Told("flushed")), false, 0),
-    ];
-    let alloc = rt.alloc();
-    let mut store = open_with(alloc, 64, Constant(5056))?;
+    let mut store = open_with(rt.alloc(), 64, Constant(5056))?;
+    counts_items(&rt, rt.alloc(), &mut store, &ITEMS)
+}
+
+/// Checks after each row, and a purge if there is one, how many items and keys there are.
+fn counts_items(
+    rt: &impl Abort,
+    alloc: Global,
+    store: &mut Store<Constant>,
+    rows: &[(Row<'_>, bool, usize)],
+) -> Result<(), Fail> {
     for (row, purges, want) in rows {
-        assert_eq!(rt; first_unlike(&mut store, alloc, &[row])?, None);
-        purge_at(&mut store, row.0, purges);
-        let (same, has) = keys(store, 960);
-        store = same;
+        assert_eq!(rt; first_unlike(store, alloc, &[*row])?, None);
+        purge_at(store, row.0, *purges);
+        let (len, count) = keys(store, 960);
         assert!(rt;
-            has == (want, want as u64),
-            "{} and {} at {}",
-            has.0,
-            has.1,
+            len == *want && count == *want as u64,
+            "{len} and {count} at {}",
             row.0
         );
     }
     Ok(())
 }
 
+/// It expires in 5 seconds.
+const FIVE: Ask<'static> = Ask::Store(Verb::Set, 5, b"x");
+
+/// It expires in 10 seconds.
+const TEN: Ask<'static> = Ask::Store(Verb::Set, 10, b"x");
+
+/// Rows, whether a purge at the row's second follows, and the number of dropped items then.
+static DROPPED: [(Row<'static>, bool, u64); 14] = [
+    ((1000, b"a", X, STORED), false, 0),
+    ((1000, b"b", TEN, STORED), false, 0),
+    ((1000, b"c", FIVE, STORED), false, 0),
+    ((1000, b"d", FIVE, STORED), true, 0),
+    ((1005, b"e", Ask::Get, Want::Told("miss")), true, 2),
+    ((1005, b"a", Ask::Delete, Want::Told("deleted")), true, 2),
+    ((1010, b"b", Ask::Get, Want::Told("miss")), true, 2),
+    ((1010, b"a", FIVE, STORED), true, 2),
+    ((1015, b"a", X, STORED), true, 2),
+    ((1015, b"b", X, STORED), true, 2),
+    ((1015, b"", Ask::Flush(5), Want::Told("flushed")), true, 2),
+    ((1020, b"e", Ask::Get, Want::Told("miss")), true, 4),
+    ((1020, b"a", X, STORED), true, 4),
+    ((1020, b"", Ask::Flush(0), Want::Told("flushed")), true, 5),
+];
+
 /// Keys of one hash, on the first shelf. A dead item that a step on its key drops isn't counted.
 #[test]
 fn items_that_purges_and_flushes_drop_are_counted(rt: HostRuntime) -> Result<(), Fail> {
-    // The number of dropped items after each row, and after a purge at its second if there is one.
-    let rows: [(Row<'_>, bool, u64); 14] = [
-        (set(1000, b"a", 0, b"x", "stored"), false, 0),
-        (set(1000, b"b", 10, b"x", "stored"), false, 0),
-        (set(1000, b"c", 5, b"x", "stored"), false, 0),
-        (set(1000, b"d", 5, b"x", "stored"), true, 0),
-        ((1005, b"e", Ask::Get, Want::Told("miss")), true, 2),
-        ((1005, b"a", Ask::Delete, Want::Told("deleted")), true, 2),
-        ((1010, b"b", Ask::Get, Want::Told("miss")), true, 2),
-        (set(1010, b"a", 5, b"x", "stored"), true, 2),
-        (set(1015, b"a", 0, b"x", "stored"), true, 2),
-        (set(1015, b"b", 0, b"x", "stored"), true, 2),
-        ((1015, b"", Ask::Flush(5), Want::Told("flushed")), true, 2),
-        ((1020, b"e", Ask::Get, Want::Told("miss")), true, 4),
-        (set(1020, b"a", 0, b"x", "stored"), true, 4),
-        ((1020, b"", Ask::Flush(0), Want::Told("flushed")), true, 5),
-    ];
-    let alloc = rt.alloc();
-    let mut store = open_with(alloc, 64, Constant(5056))?;
+    let mut store = open_with(rt.alloc(), 64, Constant(5056))?;
+    counts_the_dropped(&rt, rt.alloc(), &mut store, &DROPPED)
+}
+
+/// Checks after each row, and a purge if there is one, how many items were dropped.
+fn counts_the_dropped(
+    rt: &impl Abort,
+    alloc: Global,
+    store: &mut Store<Constant>,
+    rows: &[(Row<'_>, bool, u64)],
+) -> Result<(), Fail> {
     for (row, purges, want) in rows {
-        assert_eq!(rt; first_unlike(&mut store, alloc, &[row])?, None);
-        purge_at(&mut store, row.0, purges);
-        let (same, count) = reclaimed(store);
-        store = same;
-        assert!(rt; count == Some(want), "not {want} at {}", row.0);
+        assert_eq!(rt; first_unlike(store, alloc, &[*row])?, None);
+        purge_at(store, row.0, *purges);
+        assert!(rt; reclaimed(store) == Some(*want), "not {want} at {}", row.0);
     }
     Ok(())
 }
@@ -172,8 +202,8 @@ fn keys_are_counted_by_their_numbers(rt: HostRuntime) -> Result<(), Fail> {
         (250, 3840, 15),
     ];
     for (many, number, want) in rows {
-        let store = store_of(rt.alloc(), ByLength, many)?;
-        let (_, (_, has)) = keys(store, number);
+        let mut store = store_of(rt.alloc(), ByLength, many)?;
+        let (_, has) = keys(&mut store, number);
         assert!(rt; has == want, "{has} of {number} after {many} keys");
     }
     Ok(())
@@ -215,8 +245,8 @@ fn strays_are_counted(rt: HostRuntime) -> Result<(), Fail> {
         (120, 0, 120),
     ];
     for (many, number, want) in rows {
-        let store = store_of(rt.alloc(), Constant(0), many)?;
-        let (_, has) = keys(store, number);
+        let mut store = store_of(rt.alloc(), Constant(0), many)?;
+        let has = keys(&mut store, number);
         assert!(rt;
             has == (many, want),
             "{} of {number} after {many} keys",

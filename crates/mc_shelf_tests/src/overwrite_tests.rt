@@ -13,6 +13,7 @@ use mc_rows::{Ask, Row, Want, ask_step, set};
 use mc_shelf::Store;
 use mc_time::Moment;
 use std::alloc::Global;
+use std::process::Abort;
 use std::test::*;
 
 /// Expiry, moment and unique number are the new item's.
@@ -88,16 +89,14 @@ fn the_account_of_the_class_stays(rt: HostRuntime) -> Result<(), Fail> {
     let mut store = open(alloc, 1)?;
     for (row, want) in rows {
         answers(&rt, alloc, &mut store, &[row])?;
-        let (same, has) = account(store, 96);
-        store = same;
-        assert_eq!(rt; has, (1, want));
+        assert_eq!(rt; account(&mut store, 96), (1, want));
     }
     Ok(())
 }
 
 // A page has one chunk for a block of 600,000 bytes.
 
-const NO_PAGE: [Play; 4] = [
+static NO_PAGE: [Play; 4] = [
     (1000, b"k", Act::Set(0, 600_000, "stored")),
     (1000, b"k", Act::Set(0, 600_001, "no chunk")),
     (1000, b"k", Act::Hit(1, 600_000)),
@@ -114,7 +113,7 @@ fn no_chunk_is_free_and_no_page_left(rt: HostRuntime) -> Result<(), Fail> {
     Ok(())
 }
 
-const A_PAGE: [Play; 5] = [
+static A_PAGE: [Play; 5] = [
     (1000, b"k", Act::Set(0, 600_000, "stored")),
     (1000, b"k", Act::Set(0, 600_001, "stored")),
     (1000, b"k", Act::Hit(2, 600_001)),
@@ -159,15 +158,21 @@ fn joins_end_where_a_chunk_does(rt: HostRuntime) -> Result<(), Fail> {
         (join(1000, Verb::Prepend, &WHOLE[..1], "stored"), 0, 1),
         ((1000, b"k", Ask::Get, Want::Hit(6, WHOLE)), 0, 1),
     ];
-    let alloc = rt.alloc();
-    let mut store = open(alloc, 2)?;
+    let mut store = open(rt.alloc(), 2)?;
+    moves_between(&rt, rt.alloc(), &mut store, &rows)
+}
+
+/// Checks after each row how many chunks of the two smallest classes are out.
+fn moves_between(
+    rt: &impl Abort,
+    alloc: Global,
+    store: &mut Store<Fnv>,
+    rows: &[(Row<'_>, u32, u32)],
+) -> Result<(), Fail> {
     for (row, least, next) in rows {
-        answers(&rt, alloc, &mut store, &[row])?;
-        let (same, (_, of_least)) = account(store, 96);
-        let (same, (_, of_next)) = account(same, 120);
-        store = same;
-        assert_eq!(rt; of_least, least);
-        assert_eq!(rt; of_next, next);
+        answers(rt, alloc, store, &[*row])?;
+        let out = (account(store, 96).1, account(store, 120).1);
+        assert_eq!(rt; out, (*least, *next));
     }
     Ok(())
 }
@@ -196,7 +201,7 @@ fn a_join_is_of_its_moment(rt: HostRuntime) -> Result<(), Fail> {
     Ok(())
 }
 
-const NO_JOIN: [Play; 4] = [
+static NO_JOIN: [Play; 4] = [
     (1000, b"k", Act::Set(0, 600_000, "stored")),
     (1000, b"k", Act::Join(Verb::Append, 1, "no chunk")),
     (1000, b"k", Act::Join(Verb::Append, 0, "no chunk")),
@@ -213,7 +218,7 @@ fn a_join_wants_a_free_chunk(rt: HostRuntime) -> Result<(), Fail> {
     Ok(())
 }
 
-const JOINS: [Play; 4] = [
+static JOINS: [Play; 4] = [
     (1000, b"k", Act::Set(0, 600_000, "stored")),
     (1000, b"k", Act::Join(Verb::Append, 50_000, "stored")),
     (1000, b"k", Act::Join(Verb::Append, 50_000, "stored")),

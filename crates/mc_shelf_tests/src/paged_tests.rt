@@ -23,7 +23,7 @@ const ONE: usize = 1_048_527;
 
 const SMALL: usize = 5;
 
-const LIVE: [Play; 5] = [
+static LIVE: [Play; 5] = [
     (1000, b"k", Act::Set(0, TWO, "stored")),
     (1000, b"k", Act::Set(0, THREE, "no chunk")),
     (1000, b"k", Act::Hit(1, TWO)),
@@ -40,7 +40,7 @@ fn one_that_stands_gives_its_pages_last(rt: HostRuntime) -> Result<(), Fail> {
 
 // The item of `k` dies at 1010, and the set then is the first step on `k`.
 
-const SHORTER: [Play; 5] = [
+static SHORTER: [Play; 5] = [
     (1000, b"k", Act::Set(10, THREE, "stored")),
     (1010, b"k", Act::Set(0, TWO, "stored")),
     (1010, b"k", Act::Hit(2, TWO)),
@@ -58,7 +58,7 @@ fn a_dead_one_gives_way_to_a_shorter(rt: HostRuntime) -> Result<(), Fail> {
     Ok(())
 }
 
-const FULL: [Play; 4] = [
+static FULL: [Play; 4] = [
     (1000, b"k", Act::Set(10, TWO, "stored")),
     (1000, b"b", Act::Set(0, ONE, "stored")),
     (1010, b"k", Act::Set(0, THREE, "no chunk")),
@@ -78,18 +78,17 @@ fn a_dead_one_goes_where_no_room_is(rt: HostRuntime) -> Result<(), Fail> {
 /// Sets `k` at 1010, when its item of two pages is dead. Returns whether it is stored.
 ///
 /// If memory is refused the two pages must still be out, and the second try must store it.
-fn gives_way(store: Store<Fnv>, alloc: Global, block: &[u8]) -> (Store<Fnv>, bool) {
-    let mut store = store;
+fn gives_way(store: &mut Store<Fnv>, alloc: Global, block: &[u8]) -> bool {
     let now = Moment::from_seconds_at_most(1010);
     let step = step_of(b"k", Ask::Store(Verb::Set, 0, block));
     let first = store.step(alloc, &step, now);
     match first {
         Err(StepFault::NoMemory) => {
-            let (mut store, has) = account(store, PAGE);
+            let has = account(store, PAGE);
             let told = told_of(&store.step(alloc, &step, now));
-            (store, has == (2, 2) && told == "stored")
+            has == (2, 2) && told == "stored"
         }
-        _ => (store, told_of(&first) == "stored"),
+        _ => told_of(&first) == "stored",
     }
 }
 
@@ -98,11 +97,10 @@ fn seen_of_longer(alloc: Global, bytes: &[u8]) -> Result<(bool, (u32, u32)), All
     let mut store = set_up(alloc, large_items(3), Fnv)?;
     let dies = set(1000, b"k", 10, part(bytes, TWO), "stored");
     let is_set = is_answered(&mut store, alloc, dies);
-    let (mut store, is_stored) = gives_way(store, alloc, bytes);
+    let is_stored = gives_way(&mut store, alloc, bytes);
     let stands: Row<'_> = (1010, b"k", Ask::Get, Want::Hit(2, bytes));
     let is_right = is_set && is_stored && is_answered(&mut store, alloc, stands);
-    let (_, has) = account(store, PAGE);
-    Ok((is_right, has))
+    Ok((is_right, account(&mut store, PAGE)))
 }
 
 /// A dead item of two pages gives way to one of three, which takes one page more.
@@ -118,7 +116,7 @@ fn a_dead_one_gives_way_to_a_longer(rt: HostRuntime) -> Result<(), Fail> {
     Ok(())
 }
 
-const GROWING: [Play; 4] = [
+static GROWING: [Play; 4] = [
     (1000, b"k", Act::Set(0, 1_000_000, "stored")),
     (1000, b"k", Act::Join(Verb::Append, 1_500_000, "stored")),
     (1000, b"k", Act::Join(Verb::Prepend, 500_000, "stored")),
@@ -135,7 +133,7 @@ fn joins_go_over_pages(rt: HostRuntime) -> Result<(), Fail> {
     Ok(())
 }
 
-const STAYING: [Play; 5] = [
+static STAYING: [Play; 5] = [
     (1000, b"k", Act::Set(0, 1_500_000, "stored")),
     (1000, b"k", Act::Join(Verb::Append, 400_000, "stored")),
     (1000, b"k", Act::Join(Verb::Append, 100_000, "stored")),
@@ -175,10 +173,11 @@ fn bounded(alloc: Global, many: usize) -> Result<Vec<u8>, AllocError> {
 
 /// Returns the accounts of the last class in both.
 fn accounts(both: Both) -> [(u32, u32); 2] {
-    let Both { whole, parted } = both;
-    let (_, whole) = account(whole, PAGE);
-    let (_, parted) = account(parted, PAGE);
-    [whole, parted]
+    let Both {
+        mut whole,
+        mut parted,
+    } = both;
+    [account(&mut whole, PAGE), account(&mut parted, PAGE)]
 }
 
 /// Joins a block of 1,500,000 bytes, one of 900,000, the first byte and the last, in two stores.
@@ -211,7 +210,7 @@ fn joins_of_pages_go_in_two_parts(rt: HostRuntime) -> Result<(), Fail> {
 
 /// A join, its length, and whether it is left: to one chunk, to two pages that become three, to
 /// three that are copied for a prepend, and to three that stay.
-const LEFT: [(Verb, usize, bool); 5] = [
+static LEFT: [(Verb, usize, bool); 5] = [
     (Verb::Append, 700_000, false),
     (Verb::Append, 1_000_000, true),
     (Verb::Prepend, 1, true),

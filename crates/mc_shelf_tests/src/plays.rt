@@ -148,8 +148,7 @@ pub(crate) fn seen_of(alloc: Global, settings: Settings, plays: &[Play]) -> Resu
     let bytes = filled_block(alloc, LONGEST)?;
     let mut store = set_up(alloc, settings, Fnv)?;
     let wrong = first_wrong(&mut store, alloc, bytes.as_slice(), plays)?;
-    let (_, has) = account(store, PAGE);
-    Ok((wrong, has))
+    Ok((wrong, account(&mut store, PAGE)))
 }
 
 /// Returns the same, if no key is read before its step.
@@ -157,6 +156,5 @@ pub(crate) fn seen_unread(alloc: Global, settings: Settings, plays: &[Play]) -> 
     let bytes = filled_block(alloc, LONGEST)?;
     let mut store = set_up(alloc, settings, Fnv)?;
     let wrong = first_wrong_unread(&mut store, alloc, bytes.as_slice(), plays);
-    let (_, has) = account(store, PAGE);
-    Ok((wrong, has))
+    Ok((wrong, account(&mut store, PAGE)))
 }

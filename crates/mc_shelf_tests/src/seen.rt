@@ -1,7 +1,9 @@
-//! What tests see of a store's parts. Most calls return the store, made again from its parts.
+//! What tests see of a store's parts. A call that lends the store takes it apart, and makes it
+//! again from its parts.
 
 ghost use Rattle.std.specs.Prelude.{◌≡◌};
 
+use core::mem::replace_with;
 use mc_hop::{Fnv, KeyHash};
 use mc_shelf::{Desk, Purging, Shelf, ShelfCounts, Store, StoreParts};
 use mc_slab::{Account, Chunks, class_of};
@@ -26,15 +28,25 @@ pub(crate) fn account_at(desk: &Desk, charge: u64) -> (u32, u32) {
     }
 }
 
-/// Returns the same for a store.
-pub(crate) fn account<K: KeyHash + Drop>(store: Store<K>, charge: u64) -> (Store<K>, (u32, u32)) {
+/// Returns the same for a store, and the store.
+fn account_for<K: KeyHash + Drop>(store: Store<K>, charge: u64) -> (Store<K>, (u32, u32)) {
     let parts = store.into_parts();
     let account = account_at(&parts.desk, charge);
     (Store::from_parts(parts), account)
 }
 
+/// Returns the same for a store.
+pub(crate) fn account<K: KeyHash + Drop>(store: &mut Store<K>, charge: u64) -> (u32, u32) {
+    replace_with(store, charge, account_for)
+}
+
 /// Returns whether an item of one of the shelves may be dead.
-pub(crate) fn may_have_dead<K: KeyHash + Drop>(store: Store<K>, now: Moment) -> (Store<K>, bool) {
+pub(crate) fn may_have_dead<K: KeyHash + Drop>(store: &mut Store<K>, now: Moment) -> bool {
+    replace_with(store, now, may_have_dead_for)
+}
+
+/// Returns the same, and the store.
+fn may_have_dead_for<K: KeyHash + Drop>(store: Store<K>, now: Moment) -> (Store<K>, bool) {
     let parts = store.into_parts();
     let may = parts.shelves.iter().any(|shelf| shelf.may_have_dead(now));
     (Store::from_parts(parts), may)
@@ -65,14 +77,24 @@ fn count_keys(shelves: &[Shelf], number: usize) -> (usize, u64) {
 }
 
 /// Returns the same for a store.
-pub(crate) fn keys<K: KeyHash + Drop>(store: Store<K>, number: usize) -> (Store<K>, (usize, u64)) {
+pub(crate) fn keys<K: KeyHash + Drop>(store: &mut Store<K>, number: usize) -> (usize, u64) {
+    replace_with(store, number, keys_for)
+}
+
+/// Returns the same, and the store.
+fn keys_for<K: KeyHash + Drop>(store: Store<K>, number: usize) -> (Store<K>, (usize, u64)) {
     let parts = store.into_parts();
     let has = count_keys(&parts.shelves, number);
     (Store::from_parts(parts), has)
 }
 
 /// Returns the number of items of the first shelf that purges and flushes dropped.
-pub(crate) fn reclaimed<K: KeyHash + Drop>(store: Store<K>) -> (Store<K>, Option<u64>) {
+pub(crate) fn reclaimed<K: KeyHash + Drop>(store: &mut Store<K>) -> Option<u64> {
+    replace_with(store, (), reclaimed_for)
+}
+
+/// Returns the same, and the store.
+fn reclaimed_for<K: KeyHash + Drop>(store: Store<K>, _asked: ()) -> (Store<K>, Option<u64>) {
     let parts = store.into_parts();
     let count = match parts.shelves.first() {
         Some(shelf) => Some(shelf.reclaimed()),

@@ -6,7 +6,7 @@ use std::test::*;
 /// Pages, a greatest charge and shelves, and whether these are settings.
 type Row = (u32, u64, u32, bool);
 
-const ROWS: [Row; 23] = [
+static ROWS: [Row; 23] = [
     (0, 1048576, 64, false),
     (1, 1048576, 64, true),
     (65536, 1048576, 64, true),

@@ -154,33 +154,44 @@ fn purge_all(store: &mut Store<Fnv>, seconds: u64) {
     }
 }
 
+const STORED: Want<'static> = Want::Told("stored");
+
+/// Rows, and the chunks out of the smallest class after each and a purge at its second.
+static COMES_BACK: [(Row<'static>, u32); 14] = [
+    ((1000, b"a", Ask::Store(Verb::Set, 0, b"1"), STORED), 1),
+    ((1000, b"b", Ask::Store(Verb::Set, 10, b"2"), STORED), 2),
+    ((1000, b"k", Ask::Store(Verb::Set, 25, b"3"), STORED), 3),
+    ((1009, b"b", Ask::Get, Want::Hit(2, b"2")), 3),
+    ((1015, b"a", Ask::Get, Want::Hit(1, b"1")), 2),
+    ((1015, b"b", Ask::Get, Want::Told("miss")), 2),
+    ((1015, b"a", Ask::Flush(5), Want::Told("flushed")), 2),
+    ((1019, b"k", Ask::Get, Want::Hit(3, b"3")), 2),
+    ((1020, b"b", Ask::Store(Verb::Set, 0, b"4"), STORED), 1),
+    ((1020, b"a", Ask::Get, Want::Told("miss")), 1),
+    ((1021, b"b", Ask::Get, Want::Hit(4, b"4")), 1),
+    ((1021, b"a", Ask::Flush(0), Want::Told("flushed")), 0),
+    ((1021, b"b", Ask::Delete, Want::Told("not found")), 0),
+    ((1021, b"b", Ask::Store(Verb::Set, 0, b"5"), STORED), 1),
+];
+
 #[test]
 fn chunks_of_the_dead_come_back(rt: HostRuntime) -> Result<(), Fail> {
-    // The chunks out of the smallest class, after each row and a purge at its second.
-    let rows: [(Row<'_>, u32); 14] = [
-        (set(1000, b"a", 0, b"1", "stored"), 1),
-        (set(1000, b"b", 10, b"2", "stored"), 2),
-        (set(1000, b"k", 25, b"3", "stored"), 3),
-        ((1009, b"b", Ask::Get, Want::Hit(2, b"2")), 3),
-        ((1015, b"a", Ask::Get, Want::Hit(1, b"1")), 2),
-        ((1015, b"b", Ask::Get, Want::Told("miss")), 2),
-        ((1015, b"a", Ask::Flush(5), Want::Told("flushed")), 2),
-        ((1019, b"k", Ask::Get, Want::Hit(3, b"3")), 2),
-        (set(1020, b"b", 0, b"4", "stored"), 1),
-        ((1020, b"a", Ask::Get, Want::Told("miss")), 1),
-        ((1021, b"b", Ask::Get, Want::Hit(4, b"4")), 1),
-        ((1021, b"a", Ask::Flush(0), Want::Told("flushed")), 0),
-        ((1021, b"b", Ask::Delete, Want::Told("not found")), 0),
-        (set(1021, b"b", 0, b"5", "stored"), 1),
-    ];
-    let alloc = rt.alloc();
-    let mut store = open(alloc, 1)?;
+    let mut store = open(rt.alloc(), 1)?;
+    takes_and_frees(&rt, rt.alloc(), &mut store, &COMES_BACK)
+}
+
+/// Checks after each row and a purge how many chunks of the smallest class are out.
+fn takes_and_frees(
+    rt: &impl Abort,
+    alloc: Global,
+    store: &mut Store<Fnv>,
+    rows: &[(Row<'_>, u32)],
+) -> Result<(), Fail> {
     for (row, want) in rows {
-        answers(&rt, alloc, &mut store, &[row])?;
-        purge_all(&mut store, row.0);
-        let (same, (_, out)) = account(store, 96);
-        store = same;
-        assert!(rt; out == want, "{out} are out");
+        answers(rt, alloc, store, &[*row])?;
+        purge_all(store, row.0);
+        let (_, out) = account(store, 96);
+        assert!(rt; out == *want, "{out} are out");
     }
     Ok(())
 }
@@ -256,7 +267,7 @@ fn a_chunk_that_is_not_left_is_told(rt: HostRuntime) -> Result<(), Fail> {
 
 const LARGE: usize = 600_000;
 
-const OTHERS: [Play; 10] = [
+static OTHERS: [Play; 10] = [
     (1000, b"a", Act::Set(0, LARGE, "stored")),
     (1000, b"b", Act::Set(0, LARGE, "no chunk")),
     (1000, b"k", Act::Set(0, 1, "no chunk")),
@@ -279,14 +290,14 @@ fn a_chunk_that_comes_back_serves_another_shelf(rt: HostRuntime) -> Result<(), F
     Ok(())
 }
 
-const DIES: [Play; 2] = [
+static DIES: [Play; 2] = [
     (1000, b"a", Act::Set(10, LARGE, "stored")),
     (1010, b"b", Act::Set(0, LARGE, "no chunk")),
 ];
 
-const FULL: [Play; 1] = [(1010, b"b", Act::Set(0, LARGE, "no chunk"))];
+static FULL: [Play; 1] = [(1010, b"b", Act::Set(0, LARGE, "no chunk"))];
 
-const FREE: [Play; 2] = [
+static FREE: [Play; 2] = [
     (1010, b"b", Act::Set(0, LARGE, "stored")),
     (1010, b"a", Act::Told(Ask::Get, "miss")),
 ];
@@ -319,52 +330,67 @@ fn a_purge_drops_the_dead_of_one_shelf(rt: HostRuntime) -> Result<(), Fail> {
     Ok(())
 }
 
+const X: Ask<'static> = Ask::Store(Verb::Set, 0, b"x");
+
+/// It expires in 20 seconds.
+const Y: Ask<'static> = Ask::Store(Verb::Set, 20, b"y");
+
+const Z: Ask<'static> = Ask::Store(Verb::Set, 0, b"z");
+
+/// Rows, a second after each, and whether an item may be dead then.
+static MAY_BE_DEAD: [(Row<'static>, u64, bool); 13] = [
+    ((1000, b"a", Ask::Get, Want::Told("miss")), 9000, false),
+    ((1000, b"a", X, STORED), 9000, false),
+    ((1000, b"b", Y, STORED), 1019, false),
+    ((1000, b"b", Ask::Get, Want::Hit(2, b"y")), 1020, true),
+    ((1000, b"b", Ask::Gat(10), Want::Hit(2, b"y")), 1009, false),
+    (
+        (1000, b"b", Ask::Touch(30), Want::Told("touched")),
+        1010,
+        true,
+    ),
+    // The purge of a flush with a delay finds that b expires later, and a at the flush.
+    (
+        (1010, b"a", Ask::Flush(9), Want::Told("flushed")),
+        1018,
+        false,
+    ),
+    ((1018, b"a", Ask::Get, Want::Hit(1, b"x")), 1019, true),
+    ((1019, b"a", Ask::Get, Want::Told("miss")), 1018, false),
+    ((1019, b"c", Z, STORED), 1019, true),
+    (
+        (1019, b"a", Ask::Flush(50), Want::Told("flushed")),
+        1068,
+        false,
+    ),
+    ((1019, b"c", Ask::Get, Want::Hit(3, b"z")), 1069, true),
+    (
+        (1019, b"a", Ask::Flush(0), Want::Told("flushed")),
+        9000,
+        false,
+    ),
+];
+
 /// From the soonest expiry or a flush on, an item may be dead, until a purge.
 ///
 /// The purge drops those that are.
 #[test]
 fn shelves_tell_whether_one_may_be_dead(rt: HostRuntime) -> Result<(), Fail> {
-    // A second after each row, and whether an item may be dead then.
-    let rows: [(Row<'_>, u64, bool); 13] = [
-        ((1000, b"a", Ask::Get, Want::Told("miss")), 9000, false),
-        (set(1000, b"a", 0, b"x", "stored"), 9000, false),
-        (set(1000, b"b", 20, b"y", "stored"), 1019, false),
-        ((1000, b"b", Ask::Get, Want::Hit(2, b"y")), 1020, true),
-        ((1000, b"b", Ask::Gat(10), Want::Hit(2, b"y")), 1009, false),
-        (
-            (1000, b"b", Ask::Touch(30), Want::Told("touched")),
-            1010,
-            true,
-        ),
-        // The purge of a flush with a delay finds that b expires later, and a at the flush.
-        (
-            (1010, b"a", Ask::Flush(9), Want::Told("flushed")),
-            1018,
-            false,
-        ),
-        ((1018, b"a", Ask::Get, Want::Hit(1, b"x")), 1019, true),
-        ((1019, b"a", Ask::Get, Want::Told("miss")), 1018, false),
-        (set(1019, b"c", 0, b"z", "stored"), 1019, true),
-        (
-            (1019, b"a", Ask::Flush(50), Want::Told("flushed")),
-            1068,
-            false,
-        ),
-        ((1019, b"c", Ask::Get, Want::Hit(3, b"z")), 1069, true),
-        (
-            (1019, b"a", Ask::Flush(0), Want::Told("flushed")),
-            9000,
-            false,
-        ),
-    ];
-    let alloc = rt.alloc();
-    let mut store = open(alloc, 64)?;
+    let mut store = open(rt.alloc(), 64)?;
+    tells_of_dead(&rt, rt.alloc(), &mut store, &MAY_BE_DEAD)
+}
+
+/// Checks after each row whether an item may be dead at a second.
+fn tells_of_dead(
+    rt: &impl Abort,
+    alloc: Global,
+    store: &mut Store<Fnv>,
+    rows: &[(Row<'_>, u64, bool)],
+) -> Result<(), Fail> {
     for (row, seconds, want) in rows {
-        answers(&rt, alloc, &mut store, &[row])?;
-        let now = Moment::from_seconds_at_most(seconds);
-        let (same, may) = may_have_dead(store, now);
-        store = same;
-        assert!(rt; may == want, "{may} at {seconds}");
+        answers(rt, alloc, store, &[*row])?;
+        let may = may_have_dead(store, Moment::from_seconds_at_most(*seconds));
+        assert!(rt; may == *want, "{may} at {seconds}");
     }
     Ok(())
 }
