@@ -15,7 +15,7 @@ use Rattle.mc_shared.specs.Asking.{AskingState, AsksOnce, moment_of, Further, no
 use Rattle.mc_workers.specs.Tending.{Tidied, none, and_one}
 use Rattle.mc_guests.specs.Guests.{GuestState}
 use Rattle.mc_guests.specs.Visits.{Does, Visited}
-use Rattle.mc_guests.specs.Asks.{MayAsk, NamesKey, AsksAndVisits, IsKeptWaiting, MakesRound, nobody, asks, visits}
+use Rattle.mc_guests.specs.Asks.{MayAsk, NamesKey, MakesRound, nobody, asks, visits}
 use Rattle.mc_guests.specs.declared.guest.Visit.{Visit}
 use Rattle.mc_guests.specs.declared.guest.Visit.TheVariants.{Wrote, Turned, Read, Later, Served, Broken, Refused}
 

@@ -1,2 +1,3 @@
 pub mod Tending
+pub mod Room
 pub mod Rounds

@@ -5,8 +5,10 @@ use Rattle.mc_shelf.specs.Stores.{StoreState}
 use Rattle.mc_shared.specs.Shown.{CallerState}
 use Rattle.mc_shared.specs.Asking.{AskingState, AsksStep, AsksInVain}
 use Rattle.mc_guests.specs.Books.{BooksState, SettlesFrom, no_books}
+use Rattle.mc_guests.specs.Budgets.{unused}
 use Rattle.mc_guests.specs.Doors.{OpensForAll, shut}
 use Rattle.mc_guests.specs.Turns.{VisitsAll}
+use Rattle.mc_workers.specs.Room.{MakesRoom}
 use Rattle.mc_workers.specs.Tending.{Tidied, asked_by, tidied_at_once}
 use Rattle.mc_guests.specs.declared.door.Door.{Door}
 use Rattle.mc_guests.specs.declared.guests.WorkEnd.{WorkEnd}
@@ -29,7 +31,7 @@ pub record WorkState (K : Type 0) : Type 0 where
 abbrev pub begins : {K : Type 0} → (first share : ℕ) → StoreState K → CallerState → (moment : ℕ) → WorkState K
 begins first share began caller moment = record {
   asking = asked_by began caller;
-  books = no_books share;
+  books = no_books (unused share began.settings.greatest);
   door = shut began.settings.greatest;
   end = record { served = 0; broken = 0; refused = 0 };
   turn = first;
@@ -51,16 +53,18 @@ module _ {K : Type 0} (hash_of : K → List ℕ → ℕ) where
     pub tidies : TidiesWhereRisen before now turn next old between
     pub visits : VisitsAll (as_caller hash_of) now books later between new
 
-  -- One round, at a moment that the clock may give: tidying and visits, those that ended go, and the door is opened for those
-  -- that wait.
+  -- One round, at a moment that the clock may give: tidying and visits, those that ended go, the slowest are judged, and the
+  -- door is opened for those that wait.
   pub record WorksRound (may_give : ℕ → Type 0) (old new : WorkState K) (goes_on : Bool) : Type 0 where
     pub given : may_give new.moment
     pub visited : BooksState
     pub settled : BooksState
+    pub roomy : BooksState
     pub counted : WorkEnd
     pub visits : TidiesAndVisits old.moment new.moment old.turn new.turn old.asking new.asking old.books visited
     pub settles : SettlesFrom 0 visited settled old.end counted
-    pub opens : OpensForAll old.door new.door settled new.books counted new.end goes_on
+    pub judges : MakesRoom settled roomy
+    pub opens : OpensForAll old.door new.door roomy new.books counted new.end goes_on
 
   -- rounds, one after another, each of which said that more can come
   pub data Works (may_give : ℕ → Type 0) : (old new : WorkState K) → Type 0 where

@@ -7,6 +7,7 @@ ghost use Rattle.std.specs.Prelude.{◌≡◌, ◌-◌, ◌^◌};
 ghost use Rattle.mc_shared.specs.Asking.{GoesFurther, Further};
 ghost use Rattle.mc_shared.specs.History.{start_of};
 ghost use Rattle.mc_shared.specs.Steps.{Agrees};
+ghost use Rattle.mc_workers.specs.Room.{MakesRoom, JudgesUpTo};
 ghost use Rattle.mc_workers.specs.Rounds.{TidiesAndVisits, TidiesWhereRisen, WorksToEnd};
 
 use crate::counting::Counting;
@@ -162,14 +163,29 @@ fn tidy_if_risen<R: Wait, K: KeyHash + Drop, G: Gate, T: Tally>(
 
 /// Judges the slowest guests that hold much, once a tick: as many as wait, at most 16.
 fn make_room<L: Link + Drop, Q: Links<L>>(guests: &mut Guests<L>, links: &mut Q)
-    ensures { guests.new ≡ guests.old }
+    ensures { MakesRoom guests.old guests.new }
 {
     guests.tick(links.ticks());
-    for _one in 0..guests.takes_turn_to_judge() {
+    let most = guests.takes_turn_to_judge();
+    judge_slow(guests, links, most);
+}
+
+/// Judges the slowest guests that hold much, at most `most`.
+fn judge_slow<L: Link + Drop, Q: Links<L>>(guests: &mut Guests<L>, links: &mut Q, most: usize)
+    ensures { JudgesUpTo most guests.old guests.new }
+{
+    for _ in 0..most {
         match guests.judge_slowest() {
-            Some(Judged::Asks(number)) => links.ask_again(number),
-            Some(Judged::Ends(number)) => links.end(number),
+            Some(judged) => carry_out(links, judged),
             None => return,
         }
+    }
+}
+
+/// Asks the link of a slow guest again, or closes it, as it was judged.
+fn carry_out<L: Link + Drop, Q: Links<L>>(links: &mut Q, judged: Judged) {
+    match judged {
+        Judged::Asks(number) => links.ask_again(number),
+        Judged::Ends(number) => links.end(number),
     }
 }

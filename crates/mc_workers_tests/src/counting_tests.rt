@@ -3,7 +3,7 @@
 use crate::held::{HeldLink, HeldLinks, Seen};
 use mc_guests::{Outcome, Tally};
 use mc_hop::Fnv;
-use mc_protocol::{Answer, Bytes, KeyStep, Reply, StepFault, Steps, Verb};
+use mc_protocol::{Answer, Bytes, KeyStep, Reply, Steps, Verb};
 use mc_rows::{Ask, filled_block, step_of};
 use mc_shared::{NoGate, Shared};
 use mc_shelf::{Settings, Store};

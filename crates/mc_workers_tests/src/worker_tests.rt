@@ -3,7 +3,7 @@
 use crate::held::{HeldLink, HeldLinks, Seen};
 use mc_guests::WorkEnd;
 use mc_hop::Fnv;
-use mc_protocol::{KeyStep, Reply, StepFault};
+use mc_protocol::{Reply, StepFault};
 use mc_rows::{Ask, step_of};
 use mc_shared::{NoGate, Shared};
 use mc_shelf::{Settings, Store};

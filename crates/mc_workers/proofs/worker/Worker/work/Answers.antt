@@ -1,8 +1,9 @@
 use Rattle.std.proofs.Common.{sym, ap, ◌∙◌, subst}
 use Rattle.mc_shared.specs.Asking.{AskingState, Further}
 use Rattle.mc_shared.specs.Past.{Past}
-use Rattle.mc_guests.specs.Books.{BooksState, SettlesFrom, no_books}
+use Rattle.mc_guests.specs.Books.{BooksState, no_books}
 use Rattle.mc_guests.specs.declared.budget.Budget.{Budget}
+use Rattle.mc_workers.specs.Room.{MakesRoom}
 use Rattle.mc_workers.proofs.WorkLemmas.{goes_same, goes_both, goes_at}
 use Rattle.mc_workers.proofs.WorksLemmas.{works_from, works_on, works_over}
 use Rattle.mc_workers.proofs.worker.Worker.work.Goals as goal
@@ -12,7 +13,8 @@ loop-init g c = (
   goes_same _ _ _ (c.new-counting.ensures ∙ c.new-tending.ensures),
   works_from g.K.KeyHash.hash_of (g.C.Clock.may_give c.args.self.now.clock.now) c.args.self.now.first c.args.self.now.share c.args.shared.now.began c.args.caller c.of-reading.result.now
       c.new-counting.result c.new-guests.result c.new-door.result c.of-reading.ensures.given (c.new-counting.ensures ∙ c.new-tending.ensures)
-      (c.new-guests.ensures ∙ ap (λ (b : Budget). no_books b.share) c.new.ensures) c.greatest.result c.new-door.ensures c.greatest.ensures,
+      c.greatest-2.result (c.new-guests.ensures ∙ ap (λ (b : Budget). no_books b) c.new.ensures) c.greatest-2.ensures
+      c.greatest.result c.new-door.ensures c.greatest.ensures,
   c.of-reading.ensures.given,
 )
 
@@ -28,9 +30,9 @@ loop-preserved g c = (
         turn = c.make_round-turn.result;
         moment = c.for_round-now.result;
       })
-      c.make_round-turn.new.guests c.make_room.new.guests c.settle.new.end c.open_for_all.result c.loop.invariant.1 (c.for_round-now.ensures.given c.loop.invariant.2)
+      c.make_round-turn.new.guests c.settle.new.self c.make_room.new.guests c.settle.new.end c.open_for_all.result c.loop.invariant.1 (c.for_round-now.ensures.given c.loop.invariant.2)
       c.make_round-turn.ensures.round
-      (subst (λ (b : BooksState). SettlesFrom 0 c.make_round-turn.new.guests b c.loop.end c.settle.new.end) (sym (c.make_room.ensures ∙ c.report.ensures)) c.settle.ensures)
+      c.settle.ensures (subst (λ (b : BooksState). MakesRoom b c.make_room.new.guests) c.report.ensures c.make_room.ensures)
       c.open_for_all.ensures (cc),
   subst (g.C.Clock.may_give c.args.self.now.clock.now) (sym c.for_round-now.ensures.kept) (c.for_round-now.ensures.given c.loop.invariant.2),
 )
@@ -52,7 +54,7 @@ returns-then-not-open_for_all-clause-works g c =
       turn = c.make_round-turn.result;
       moment = c.for_round-now.result;
     })
-    c.make_round-turn.new.guests c.make_room.new.guests c.settle.new.end c.open_for_all.result _ c.loop.invariant.1 (c.for_round-now.ensures.given c.loop.invariant.2)
+    c.make_round-turn.new.guests c.settle.new.self c.make_room.new.guests c.settle.new.end c.open_for_all.result _ c.loop.invariant.1 (c.for_round-now.ensures.given c.loop.invariant.2)
     c.make_round-turn.ensures.round
-    (subst (λ (b : BooksState). SettlesFrom 0 c.make_round-turn.new.guests b c.loop.end c.settle.new.end) (sym (c.make_room.ensures ∙ c.report.ensures)) c.settle.ensures) c.open_for_all.ensures (cc)
+    c.settle.ensures (subst (λ (b : BooksState). MakesRoom b c.make_room.new.guests) c.report.ensures c.make_room.ensures) c.open_for_all.ensures (cc)
     (c.into_caller.ensures.same.1 ∙ ap (λ (s : AskingState g.row.K.Denot). s.past) c.into_steps.ensures)
