@@ -1,12 +1,12 @@
 //! The listener for scrapes.
-ghost use Rattle.std.specs.Prelude.{◌≡◌, IfErr};
+ghost use Rattle.std.specs.Prelude.{IfErr};
 ghost use Rattle.mc_host.specs.Ends.{EndsWithoutDoor};
 
 use crate::end::End;
 use mc_options::Endpoint;
 use mio::net::{TcpListener, TcpStream};
 use mio::{Events, Interest, Poll, Token};
-use std::alloc::{AllocError, Global};
+use std::alloc::Global;
 use std::net::{Net, SocketAddr};
 use std::time::{Clock, Duration};
 use std::{io, thread};

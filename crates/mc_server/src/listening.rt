@@ -18,14 +18,11 @@ use mc_shared::{Caller, Shared};
 use mc_time::Clock;
 use std::alloc::{AllocError, AllocGlobal, Global};
 use std::fs::Files;
-use std::io::{Stderr, Write};
+use std::io::Write;
 use std::net::Net;
 use std::sync::Wait;
 use std::thread::Threads;
 use std::time;
-
-/// The size of an allocation that the C library requests from the system by itself, in bytes.
-const LARGE: usize = 5_242_880;
 
 /// Listens at the options' endpoints, and serves until a listener fails or it is asked to end.
 ///
@@ -80,7 +77,6 @@ where
     R: Net + Files + AllocGlobal + Wait + Threads + time::Clock + Sync,
     S: Clock + Sync,
 {
-    keep_memory(rt.alloc(), diagnostics.stderr);
     let (shared, caller) = make_store(rt.alloc(), options)?;
     let client = StoreClient::new(&shared, caller);
     serve_over(rt, diagnostics, options, bound, client, system)
@@ -117,17 +113,5 @@ where
     match serve(rt, plan, client, &common, system) {
         Ok(()) => Ok(common.arrivals.is_over_as_asked()),
         Err(wanting) => Err(wanting),
-    }
-}
-
-/// Lets the C library keep freed memory: up to about twice `LARGE` bytes per worker above its last
-/// block in use. Without it a large block is requested from the system, page by page, for each
-/// request. The C library goes by the largest piece that the system gave alone and that was freed,
-/// so one is allocated and freed, and no page of it is touched.
-fn keep_memory(alloc: Global, stderr: Stderr) {
-    let mut stderr = stderr;
-    if let Ok(large) = Vec::<u8>::with_capacity(alloc, LARGE) {
-        // it has no bytes, so nothing is written; a vector that nobody reads wouldn't be made
-        let _ = stderr.write(large.as_slice());
     }
 }

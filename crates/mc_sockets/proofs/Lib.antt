@@ -1,2 +1,4 @@
+pub mod DroppingLemmas
+pub mod SeatLemmas
 pub mod StreamLemmas
 pub mod WakeupLemmas

@@ -1,9 +1,13 @@
 pub mod Channels
 pub mod Crowds
+pub mod Dropping
 pub mod Partings
 pub mod Phases
 pub mod Places
 pub mod Readiness
 pub mod Remedies
+pub mod Seats
 pub mod Streams
 pub mod Wakeups
+pub mod Watches
+pub mod Yards

@@ -3,33 +3,21 @@
 //! A channel owns a connection's stream, its entry among the open connections, its readiness and
 //! its counters, and is a link over them. It is proved for any stream: contracts see the bytes that
 //! the stream gave and took, and how each answer comes of the stream's answer and the readiness.
-//!
-//! The program frees one block of 5 MiB at its start, so that glibc keeps up to about 10 MiB per
-//! worker: without it a get of 1 MB met 100 to 220 page faults.
 ghost use Rattle.std.specs.Prelude.{◌≡◌, ◌≤◌, ◌+◌, ◌++◌, length};
 ghost use Rattle.mc_sockets.specs.Channels.{ReadsBy, WritesBy};
 ghost use Rattle.mc_sockets.specs.Streams.{MovesIn, MovesOut};
 
 use crate::connection::{Entry, Parting};
+use crate::dropping::drop_input;
 use crate::readiness::{Readiness, ReadinessCell, SharedReadiness};
 use crate::stream::{Hindrance, Received, Sent, Stream, receive_again, send_again};
 use mc_guests::{Got, Link, LinkFault, Took};
 use mc_metrics::{Counted, Counts};
 use mio::net::TcpStream;
 use std::cell::Cell;
-use std::io::{self, ErrorKind, Read};
 use std::net::Shutdown;
 use std::rc::Rc;
 use std::sync::Arc;
-
-/// The most input bytes that are dropped behind the last answer.
-const DROPPED: usize = 1_048_576;
-
-/// The most bytes of a read whose bytes are dropped.
-const DROPPED_PIECE: usize = 16_384;
-
-/// The most such reads at once, so that a client that sends on holds no worker.
-const DROPPED_PIECES: u32 = 128;
 
 /// A connection as a link.
 ///
@@ -299,37 +287,18 @@ impl Channel<TcpStream, SharedReadiness> {
 
     /// Reads and drops what is there, and returns whether nothing more is to be dropped.
     fn drop_input(&self) -> bool {
-        let mut piece = [0u8; DROPPED_PIECE];
-        for _piece in 0..DROPPED_PIECES {
-            match (&self.stream).read(&mut piece) {
-                Ok(0) => return true,
-                Ok(count) if self.has_dropped(count) => return true,
-                Ok(_) => {}
-                Err(error) if error.kind() == ErrorKind::Interrupted => {}
-                Err(error) => return !is_later(&error),
-            }
-        }
-        false
-    }
-
-    /// Counts dropped bytes, and returns whether they are as many as may be dropped.
-    fn has_dropped(&self, bytes: usize) -> bool {
-        self.count(Counted::Received, bytes);
         let known = self.readiness.get();
         let before = match known.dropped {
             Some(before) => before,
             None => 0,
         };
-        let dropped = before.saturating_add(bytes);
+        let mut stream = &self.stream;
+        let dropped = drop_input(&mut stream, before);
+        self.count(Counted::Received, dropped.bytes.saturating_sub(before));
         self.readiness.set(Readiness {
-            dropped: Some(dropped),
+            dropped: Some(dropped.bytes),
             ..known
         });
-        dropped >= DROPPED
+        dropped.drain.is_done()
     }
-}
-
-/// Returns whether a call would have blocked.
-fn is_later(error: &io::Error) -> bool {
-    error.kind() == ErrorKind::WouldBlock
 }

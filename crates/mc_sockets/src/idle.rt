@@ -3,6 +3,9 @@
 //! A connection is idle since a look at it and not since its event, so an event reads no clock.
 //! About once a second a worker looks at its places, a few at a time. An idle connection ends as if
 //! its client had closed it.
+ghost use Rattle.std.specs.Prelude.{◌≡◌, ◌↔◌, ◌<◌, ◌≤◌, ◌+◌, ◌*◌, Some, None, IfSome, IsNone, if◌then◌else◌};
+ghost use Rattle.std.specs.Duration.{as_nanos};
+ghost use Rattle.mc_sockets.specs.Watches.{due, is_too_soon, turn, worth};
 
 use std::time::{Duration, Instant};
 
@@ -30,7 +33,12 @@ pub struct Watch {
 
 impl Watch {
     /// Returns the watch of an idle timeout in seconds, or `None` for 0, which disables it.
-    pub fn new(seconds: u32) -> Option<Watch> {
+    pub fn new(seconds: u32) -> Option<Watch>
+        ensures none { IsNone result ↔ (seconds ≡ 0) }
+        ensures limit { IfSome result (λ watch.
+            as_nanos watch.limit ≡ seconds * 1_000_000_000) }
+        ensures first { IfSome result (λ watch. (watch.looked ≡ None) × (watch.at ≡ 0)) }
+    {
         if seconds == 0 {
             return None;
         }
@@ -42,14 +50,23 @@ impl Watch {
     }
 
     /// Returns the idle timeout.
-    pub fn limit(&self) -> Duration {
+    pub fn limit(&self) -> Duration
+        ensures { result ≡ self.now.limit }
+    {
         self.limit
     }
 
     /// Returns how many of `places` are to be looked at now.
     ///
     /// None is shortly after the last look, and all are if that was at least a second ago.
-    pub fn due(&mut self, places: usize, now: Instant) -> usize {
+    pub fn due(&mut self, places: usize, now: Instant) -> usize
+        ensures due { result ≡ due self.old.looked now places }
+        ensures noted { self.new ≡ record self.old {
+          looked =
+              if is_too_soon self.old.looked now then self.old.looked else Some now;
+        } }
+        ensures most { result ≤ places }
+    {
         let time = match self.looked {
             Some(looked) => now.duration_since(looked),
             None => Duration::from_millis(ROUND),
@@ -62,7 +79,11 @@ impl Watch {
     }
 
     /// Returns the next of `places` in turn.
-    pub fn turn(&mut self, places: usize) -> usize {
+    pub fn turn(&mut self, places: usize) -> usize
+        ensures turn { result ≡ turn self.old.at places }
+        ensures next { self.new ≡ record self.old { at = result + 1 } }
+        ensures inside { 0 < places → result < places }
+    {
         let at = if self.at < places { self.at } else { 0 };
         self.at = at.saturating_add(1);
         at
@@ -70,7 +91,9 @@ impl Watch {
 }
 
 /// Returns the share of `places` for a time.
-fn share(places: usize, time: Duration) -> usize {
+fn share(places: usize, time: Duration) -> usize
+    ensures { result ≡ worth places (as_nanos time) }
+{
     if time >= Duration::from_millis(ROUND) {
         return places;
     }

@@ -3,8 +3,9 @@
 //! The way of a connection: it is accepted and counted (`accepting.rt`, `connection.rt`), dealt to
 //! a worker (`arrivals.rt`), and made a link (`links.rt`, `link.rt`). A [`Channel`] owns it from
 //! then on (`channel.rt`), over a [`Stream`] that never blocks (`stream.rt`). Its events wake its
-//! guest (`place.rt`, `idle.rt`). Output that isn't sent when its session ends is sent later
-//! (`yard.rt`). `closing.rt` is how all of it ends when it is asked to, `phase.rt` how far that is.
+//! guest (`seats.rt`, `place.rt`, `idle.rt`). Output that isn't sent when its session ends is sent
+//! later, and input is dropped (`yard.rt`, `dropping.rt`). `closing.rt` is how all of it ends when
+//! it is asked to, `phase.rt` how far that is.
 //! Lines about connections, and that the store is full, wait in a [`Log`] (`log.rt`, `lines.rt`,
 //! `shortage.rt`) for the one thread that writes them, so that no other thread waits for standard
 //! error.
@@ -29,6 +30,7 @@ mod arrivals;
 mod channel;
 mod closing;
 mod connection;
+mod dropping;
 mod idle;
 mod laws;
 mod lines;
@@ -39,6 +41,7 @@ mod phase;
 mod place;
 mod readiness;
 mod remedy;
+mod seats;
 mod shortage;
 mod stream;
 mod warning;

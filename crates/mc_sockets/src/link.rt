@@ -4,7 +4,7 @@
 //! see how often it failed and whether it is at its end.
 
 use crate::channel::SocketChannel;
-use crate::yard::Yard;
+use crate::yard::SocketYard;
 use mc_guests::{Gathering, Got, Link, LinkFault, Took};
 use std::alloc::{AllocFailed, Global};
 use std::cell::RefCell;
@@ -23,7 +23,7 @@ pub struct SocketLink {
 struct Parts {
     gathering: Gathering<SocketChannel>,
     place: usize,
-    yard: Rc<RefCell<Yard>>,
+    yard: Rc<RefCell<SocketYard>>,
 }
 
 impl SocketLink {
@@ -33,7 +33,7 @@ impl SocketLink {
         alloc: Global,
         channel: SocketChannel,
         place: usize,
-        yard: Rc<RefCell<Yard>>,
+        yard: Rc<RefCell<SocketYard>>,
     ) -> Option<SocketLink> {
         let parts = Parts {
             gathering: Gathering::new(alloc, channel),
@@ -67,6 +67,10 @@ impl Link for SocketLink {
         self.parts.gathering.pause()
     }
 
+    fn send_soon(&mut self) {
+        self.parts.gathering.send_soon();
+    }
+
     fn refused(&mut self) {
         self.parts.gathering.refused();
     }
@@ -92,7 +96,8 @@ impl Drop for Parts {
             yard,
         } = self;
         if let Ok(mut yard) = yard.try_borrow_mut() {
-            yard.take_in(place, gathering);
+            // without memory it is closed
+            let _ = yard.take_in(place, gathering);
         }
     }
 }

@@ -1,19 +1,22 @@
 //! The links of a worker, and the events that wake them.
+//!
+//! What a poll reports is heard by the books, each event once. Which events the system reports, and
+//! when, is unspecified.
+ghost use Rattle.std.specs.Prelude.{◌≡◌, [], length, None, IfSome, IfNone, ⊤};
 
 use crate::arrivals::{Arrivals, Share};
 use crate::channel::Channel;
 use crate::connection::{Connection, Parting};
 use crate::idle::Watch;
 use crate::link::SocketLink;
-use crate::place::Place;
-use crate::readiness::{Readiness, Report, SharedReadiness};
-use crate::yard::Yard;
+use crate::readiness::{Readiness, SharedReadiness};
+use crate::seats::{Rests, Seats, token_of};
+use crate::yard::SocketYard;
 use mc_guests::{Links, Next};
 use mc_metrics::Counts;
 use mio::{Events, Interest, Poll, Token};
 use std::alloc::Global;
 use std::cell::{Cell, RefCell};
-use std::collections::VecDeque;
 use std::mem;
 use std::rc::Rc;
 use std::sync::{Arc, Wait};
@@ -31,7 +34,7 @@ pub const EVENTS: usize = 1024;
 const ASKED: u32 = 16;
 
 /// After this many moved bytes it is polled too.
-const MOVED: usize = 262_144;
+const MOVED: usize = 1_048_576;
 
 /// How long a tick is, in milliseconds.
 const TICK: u64 = 250;
@@ -49,7 +52,7 @@ const LINGER: u64 = 2;
 #[derive(Drop)]
 struct Common {
     /// The output that they leave behind.
-    yard: Rc<RefCell<Yard>>,
+    yard: Rc<RefCell<SocketYard>>,
     /// The bytes that they moved since the last poll.
     moved: Rc<Cell<usize>>,
 }
@@ -58,7 +61,7 @@ impl Common {
     /// Makes what the first link shares with later ones. The only error is a refused allocation.
     fn new(alloc: Global) -> Option<Common> {
         Some(Common {
-            yard: Rc::new(alloc, RefCell::new(Yard::new(alloc))).ok()?,
+            yard: Rc::new(alloc, RefCell::new(SocketYard::new(alloc))).ok()?,
             moved: Rc::new(alloc, Cell::new(0)).ok()?,
         })
     }
@@ -79,6 +82,21 @@ impl Common {
     }
 }
 
+/// What the links leave behind; there is nothing before the first link.
+///
+/// What is sent is unspecified: the yard is shared with the links.
+impl Rests for Option<Common> {
+    ghost use Rattle.std.specs.Prelude.{⊤};
+
+    ghost sends = { λ _ _ _. ⊤ };
+
+    fn send_rest(&mut self, at: usize) {
+        if let Some(common) = self {
+            common.send_rest(at);
+        }
+    }
+}
+
 /// The links of one worker, over the connections that it takes from the arrivals.
 #[derive(Drop)]
 pub struct SocketLinks<'a, R: Wait + Clock> {
@@ -88,15 +106,10 @@ pub struct SocketLinks<'a, R: Wait + Clock> {
     share: Share,
     poll: Poll,
     events: Events,
-    places: Vec<Place<SharedReadiness>>,
+    /// The records of the links, and those to be named.
+    seats: Seats<SharedReadiness>,
     /// What the links share; `None` before the first link.
     common: Option<Common>,
-    /// The links to be named, oldest first.
-    ///
-    /// A waiting link is named once, so there are at most as many as places.
-    named: VecDeque<u64>,
-    /// The number of links handed out.
-    given: u64,
     /// The number of calls for a link since the last poll.
     asked: u32,
     /// Whether the last call for a link returned one.
@@ -115,6 +128,9 @@ pub struct SocketLinks<'a, R: Wait + Clock> {
 }
 
 impl<'a, R: Wait + Clock> SocketLinks<'a, R> {
+    ghost use Rattle.mio.specs.Events.{items};
+    ghost use Rattle.mc_sockets.specs.Seats.{AreHeard, Hears};
+
     /// Returns links without a connection, which count what they move. It takes no memory.
     pub fn new(
         rt: &'a R,
@@ -132,10 +148,8 @@ impl<'a, R: Wait + Clock> SocketLinks<'a, R> {
             share,
             poll,
             events,
-            places: Vec::new(alloc),
+            seats: Seats::new(alloc),
             common: None,
-            named: VecDeque::new(alloc),
-            given: 0,
             asked: 0,
             gave: false,
             watch: None,
@@ -166,16 +180,31 @@ impl<'a, R: Wait + Clock> SocketLinks<'a, R> {
         }
         // the poll reports all events before this moment
         let before = Instant::now(self.rt).ok();
-        if self.poll.poll(&mut self.events, Some(timeout)).is_err() {
+        let Some(heard) = self.hear_events(timeout) else {
             return;
-        }
+        };
         self.count_ticks();
-        let told = self.note_events();
+        // if there are fewer than one poll may return, there were no others
         if let Some(before) = before
-            && told < self.events.capacity()
+            && heard < self.events.capacity()
         {
             self.end_idle(before);
             self.ask_unheard(before);
+        }
+    }
+
+    /// Polls the system, waits at most `timeout` for the first event, and notes each in the books.
+    ///
+    /// Returns their number, or `None` if the poll fails: then the books are unchanged.
+    fn hear_events(&mut self, timeout: Duration) -> Option<usize>
+        ensures heard { AreHeard (Hears (λ _. None) (λ _ _ _. ⊤)) (items self.new.events)
+            self.old.seats self.new.seats self.old.common self.new.common }
+        ensures count { IfSome result (λ heard. heard ≡ length (items self.new.events)) }
+        ensures fails { IfNone result (items self.new.events ≡ []) }
+    {
+        match self.poll.poll(&mut self.events, Some(timeout)) {
+            Ok(()) => Some(self.seats.hear_all(&self.events, &mut self.common)),
+            Err(_) => None,
         }
     }
 
@@ -196,24 +225,6 @@ impl<'a, R: Wait + Clock> SocketLinks<'a, R> {
         }
     }
 
-    /// Notes the events, and returns their number.
-    ///
-    /// If there are fewer than one poll may return, there were no others.
-    fn note_events(&mut self) -> usize {
-        let mut told = 0usize;
-        for event in &self.events {
-            told = told.saturating_add(1);
-            if let Some(at) = event.token().0.checked_sub(1)
-                && let Some(place) = self.places.get_mut(at)
-                && place.note(Report::of(event), &mut self.named)
-                && let Some(common) = &self.common
-            {
-                common.send_rest(at);
-            }
-        }
-        told
-    }
-
     /// Closes connections in turn that were idle for too long before the last poll.
     fn end_idle(&mut self, before: Instant) {
         let Some(watch) = &mut self.watch else {
@@ -222,15 +233,14 @@ impl<'a, R: Wait + Clock> SocketLinks<'a, R> {
         let Ok(now) = Instant::now(self.rt) else {
             return;
         };
-        let (places, quiet) = (self.places.len(), self.quiet);
+        let (places, quiet) = (self.seats.len(), self.quiet);
         for _one in 0..watch.due(places, now) {
             let at = watch.turn(places);
-            if let Some(place) = self.places.get_mut(at)
-                && place.has_waited(watch.limit(), before, now)
-                && place.end(quiet, &mut self.named)
-                && let Some(common) = &self.common
+            if self
+                .seats
+                .end_if_idle(at, watch.limit(), before, now, quiet)
             {
-                common.send_rest(at);
+                self.common.send_rest(at);
             }
         }
     }
@@ -245,16 +255,15 @@ impl<'a, R: Wait + Clock> SocketLinks<'a, R> {
         let Ok(now) = Instant::now(self.rt) else {
             return;
         };
-        let places = self.places.len();
+        let places = self.seats.len();
         let linger = Duration::from_secs(LINGER);
         for _one in 0..watch.due(places, now) {
             let at = watch.turn(places);
-            if let Some(place) = self.places.get_mut(at)
-                && (place.lingers_too_long(linger, before, now)
-                    || place.ask_if_unheard(watch.limit(), before, now, &mut self.named))
-                && let Some(common) = &self.common
+            if self
+                .seats
+                .ask_or_close(at, linger, watch.limit(), before, now)
             {
-                common.send_rest(at);
+                self.common.send_rest(at);
             }
         }
     }
@@ -270,7 +279,7 @@ impl<'a, R: Wait + Clock> SocketLinks<'a, R> {
         let Common { yard, moved } = self.shared_parts()?;
         let at = self.settle(&yard, readiness.clone().ok()?)?;
         let all = Interest::READABLE | Interest::WRITABLE | Interest::PRIORITY;
-        let token = Token(at.saturating_add(1));
+        let token = Token(token_of(at));
         let stream = &mut connection.stream;
         let registered = self.poll.registry().register(stream, token, all);
         if registered.is_ok() {
@@ -287,27 +296,23 @@ impl<'a, R: Wait + Clock> SocketLinks<'a, R> {
         let channel = Channel::new(stream, entry, readiness, moved, counts);
         let link = SocketLink::new(self.alloc, channel, at, yard)?;
         registered.ok()?;
-        self.given = self.given.wrapping_add(1);
+        self.seats.hand_out();
         Some(link)
     }
 
-    /// Notes a link at a free place, and reserves room to name it.
-    fn settle(&mut self, yard: &Rc<RefCell<Yard>>, readiness: SharedReadiness) -> Option<usize> {
-        let room = self.places.len().saturating_add(1);
-        self.named.reserve(room).ok()?;
-        let place = Place::new(self.given, readiness);
-        let free = match yard.try_borrow_mut() {
-            Ok(mut yard) => yard.free_place(),
-            Err(_) => None,
-        };
-        if let Some(at) = free
-            && let Some(one) = self.places.get_mut(at)
-        {
-            *one = place;
-            return Some(at);
+    /// Notes the next link at a free place, which it takes from the yard.
+    fn settle(
+        &mut self,
+        yard: &Rc<RefCell<SocketYard>>,
+        readiness: SharedReadiness,
+    ) -> Option<usize> {
+        self.seats.reserve().ok()?;
+        let mut yard = yard.try_borrow_mut().ok()?;
+        let at = yard.take_place()?;
+        if !self.seats.settle(at, readiness) {
+            yard.free(at);
+            return None;
         }
-        let at = self.places.len();
-        self.places.push(place).ok()?;
         Some(at)
     }
 
@@ -342,9 +347,7 @@ impl<'a, R: Wait + Clock> SocketLinks<'a, R> {
         } else {
             Parting::ListenerFailed
         };
-        for place in self.places.iter_mut() {
-            place.end(parting, &mut self.named);
-        }
+        self.seats.end_all(parting);
         Next::Closed
     }
 }
@@ -372,7 +375,7 @@ impl<'a, R: Wait + Clock> Links<SocketLink> for SocketLinks<'a, R> {
     }
 
     fn ready(&mut self) -> Option<u64> {
-        self.named.pop_front()
+        self.seats.ready()
     }
 
     fn rest(&mut self) {
@@ -382,9 +385,7 @@ impl<'a, R: Wait + Clock> Links<SocketLink> for SocketLinks<'a, R> {
     }
 
     fn end(&mut self, number: u64) {
-        for place in self.places.iter_mut() {
-            place.end_if(number, Parting::Hoarding, &mut self.named);
-        }
+        self.seats.end(number, Parting::Hoarding);
     }
 
     fn ticks(&mut self) -> u64 {
@@ -392,8 +393,6 @@ impl<'a, R: Wait + Clock> Links<SocketLink> for SocketLinks<'a, R> {
     }
 
     fn ask_again(&mut self, number: u64) {
-        for place in self.places.iter_mut() {
-            place.ask_again_if(number, &mut self.named);
-        }
+        self.seats.ask_again(number);
     }
 }

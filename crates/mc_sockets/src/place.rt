@@ -1,5 +1,5 @@
 //! A worker's record of a link.
-ghost use Rattle.std.specs.Prelude.{◌≡◌, ◌≤◌, ◌-◌, ◌↔◌, IsTrue};
+ghost use Rattle.std.specs.Prelude.{◌≡◌, ◌≤◌, ◌-◌, ◌↔◌, ◌||◌, IsTrue, IsFalse};
 ghost use Rattle.std.specs.Duration.{as_nanos};
 ghost use Rattle.std.specs.Time.{instant_nanos};
 
@@ -26,11 +26,19 @@ impl<F: ReadinessCell + Drop> Place<F> {
     ghost use Rattle.std.specs.Prelude.{Some, None, IfSome};
     ghost use Rattle.std.specs.VecDeque.{deque_len, deque_capacity};
     ghost use Rattle.mc_sockets.specs.Readiness.{Reported, AskedAgain, Ended};
-    ghost use Rattle.mc_sockets.specs.Places.{Finds, Happens, NamesIf, lingers, seen_waiting};
+    ghost use Rattle.mc_sockets.specs.Places.{AsksIfUnheard, AsksOrCloses, EndsIfIdle, Finds};
+    ghost use Rattle.mc_sockets.specs.Places.{Happens, HappensIf, HappensTo, NamesIf, lingers};
+    ghost use Rattle.mc_sockets.specs.Places.{seen_waiting};
 
     /// Returns the record of a new link with this number.
     pub fn new(number: u64, readiness: F) -> Place<F>
-        ensures { result.number ≡ number }
+        ensures { result ≡ record {
+          number = number;
+          readiness = readiness;
+          waits_since = None;
+          asked_since = None;
+          lingers_since = None;
+        } }
     {
         Place {
             number,
@@ -55,6 +63,7 @@ impl<F: ReadinessCell + Drop> Place<F> {
             (deque_capacity named.old ≤ deque_len named.old) (F.known self.old.readiness)
             (F.known self.new.readiness) named.old.items named.new.items }
         ensures number { self.new.number ≡ self.old.number }
+        ensures left { IfSome (F.known self.old.readiness) (λ known. result ≡ known.leaves) }
     {
         self.waits_since = None;
         self.asked_since = None;
@@ -83,6 +92,7 @@ impl<F: ReadinessCell + Drop> Place<F> {
             (deque_capacity named.old ≤ deque_len named.old) (F.known self.old.readiness)
             (F.known self.new.readiness) named.old.items named.new.items }
         ensures number { self.new.number ≡ self.old.number }
+        ensures left { IfSome (F.known self.old.readiness) (λ known. result ≡ known.leaves) }
     {
         self.waits_since = None;
         let known = self.readiness.look();
@@ -94,11 +104,9 @@ impl<F: ReadinessCell + Drop> Place<F> {
     ///
     /// It does nothing if the link has another number.
     pub fn end_if(&mut self, number: u64, parting: Parting, named: &mut VecDeque<u64>)
-        ensures own { self.old.number ≡ number → Happens (Ended parting) number
-            (deque_capacity named.old ≤ deque_len named.old) (F.known self.old.readiness)
-            (F.known self.new.readiness) named.old.items named.new.items }
-        ensures others { (self.old.number ≡ number → ⊥) →
-            (self.new ≡ self.old) × (named.new ≡ named.old) }
+        ensures { HappensIf F.known (Ended parting) number
+            (deque_capacity named.old ≤ deque_len named.old) self.old self.new named.old.items
+            named.new.items }
     {
         if self.is_of(number) {
             self.end(parting, named);
@@ -109,11 +117,9 @@ impl<F: ReadinessCell + Drop> Place<F> {
     ///
     /// It does nothing if the link has another number.
     pub fn ask_again_if(&mut self, number: u64, named: &mut VecDeque<u64>)
-        ensures own { self.old.number ≡ number → Happens AskedAgain number
-            (deque_capacity named.old ≤ deque_len named.old) (F.known self.old.readiness)
-            (F.known self.new.readiness) named.old.items named.new.items }
-        ensures others { (self.old.number ≡ number → ⊥) →
-            (self.new ≡ self.old) × (named.new ≡ named.old) }
+        ensures { HappensIf F.known AskedAgain number
+            (deque_capacity named.old ≤ deque_len named.old) self.old self.new named.old.items
+            named.new.items }
     {
         if self.is_of(number) {
             self.ask_again(named);
@@ -139,10 +145,14 @@ impl<F: ReadinessCell + Drop> Place<F> {
     /// Returns whether its write side was shut down `limit` before `before`. It does so once.
     ///
     /// The connection has lingered then, and is to be closed.
-    pub fn lingers_too_long(&mut self, limit: Duration, before: Instant, now: Instant) -> bool
+    fn lingers_too_long(&mut self, limit: Duration, before: Instant, now: Instant) -> bool
         ensures finds { Finds (F.known self.old.readiness)
             (record { limit = limit; before = before; now = now }) (λ known. lingers known)
             (λ _. self.old.lingers_since) result self.new.lingers_since }
+        ensures number { self.new.number ≡ self.old.number }
+        ensures stays { IsFalse result → self.new.readiness ≡ self.old.readiness }
+        ensures over { IsTrue result → IfSome (F.known self.new.readiness) (λ stands.
+            IsTrue stands.has_lingered) }
     {
         let known = self.readiness.look();
         if known.dropped.is_none() || known.has_lingered {
@@ -166,13 +176,43 @@ impl<F: ReadinessCell + Drop> Place<F> {
     ///
     /// That holds for a link that waits or was dropped: its next call asks the system, which may
     /// have reported nothing. Returns whether the link was dropped, and its output may be sent.
-    pub fn ask_if_unheard(
+    fn ask_if_unheard(
         &mut self,
         limit: Duration,
         before: Instant,
         now: Instant,
         named: &mut VecDeque<u64>,
-    ) -> bool {
+    ) -> bool
+        ensures { AsksIfUnheard F.known (record { limit = limit; before = before; now = now })
+            (deque_capacity named.old ≤ deque_len named.old) self.old self.new named.old.items
+            named.new.items }
+    {
+        if !self.is_unheard(limit, before, now) {
+            return false;
+        }
+        self.ask_since(now, named)
+    }
+
+    /// Names the link if it waits, and notes when. Returns whether the link was dropped.
+    fn ask_since(&mut self, now: Instant, named: &mut VecDeque<u64>) -> bool
+        ensures { HappensTo F.known AskedAgain (deque_capacity named.old ≤ deque_len named.old)
+            self.old self.new named.old.items named.new.items }
+    {
+        self.asked_since = Some(now);
+        self.ask_again(named);
+        self.readiness.look().leaves
+    }
+
+    /// Returns whether it had no event for `limit` before `before`, and waits or was dropped.
+    ///
+    /// If it wasn't seen so before, it is now.
+    fn is_unheard(&mut self, limit: Duration, before: Instant, now: Instant) -> bool
+        ensures finds { Finds (F.known self.old.readiness)
+            (record { limit = limit; before = before; now = now })
+            (λ known. known.waits || known.leaves) (λ _. self.old.asked_since) result
+            self.new.asked_since }
+        ensures same { self.new ≡ record self.old { asked_since = self.new.asked_since } }
+    {
         let known = self.readiness.look();
         if !known.waits && !known.leaves {
             return false;
@@ -181,21 +221,17 @@ impl<F: ReadinessCell + Drop> Place<F> {
             self.asked_since = Some(now);
             return false;
         };
-        if !has_passed(since, before, limit) {
-            return false;
-        }
-        self.asked_since = Some(now);
-        self.go_on(known, known.asked_again(), named);
-        known.leaves
+        has_passed(since, before, limit)
     }
 
     /// Returns whether it was idle for `limit` before `before`, with no event since.
     ///
     /// If it waits and wasn't seen waiting before, it is now.
-    pub fn has_waited(&mut self, limit: Duration, before: Instant, now: Instant) -> bool
+    fn has_waited(&mut self, limit: Duration, before: Instant, now: Instant) -> bool
         ensures finds { Finds (F.known self.old.readiness)
             (record { limit = limit; before = before; now = now }) (λ known. known.waits)
             (λ known. seen_waiting known self.old.waits_since) result self.new.waits_since }
+        ensures number { self.new.number ≡ self.old.number }
     {
         let known = self.readiness.look();
         if !known.waits {
@@ -215,6 +251,49 @@ impl<F: ReadinessCell + Drop> Place<F> {
                 false
             }
         }
+    }
+
+    /// Ends the connection for this reason if it was idle for `limit` before `before`, and names
+    /// its link if it waits. Returns whether it did and the link was dropped.
+    pub fn end_if_idle(
+        &mut self,
+        limit: Duration,
+        before: Instant,
+        now: Instant,
+        parting: Parting,
+        named: &mut VecDeque<u64>,
+    ) -> bool
+        ensures { EndsIfIdle F.known (record { limit = limit; before = before; now = now })
+            parting (deque_capacity named.old ≤ deque_len named.old) self.old self.new
+            named.old.items named.new.items }
+    {
+        if !self.has_waited(limit, before, now) {
+            return false;
+        }
+        self.end(parting, named)
+    }
+
+    /// Notes that the connection is to be closed if it lingers since `linger` before `before`, and
+    /// else names its link again if it had no event for `limit` before it.
+    ///
+    /// Returns whether what the link left is to be looked at.
+    pub fn ask_or_close(
+        &mut self,
+        linger: Duration,
+        limit: Duration,
+        before: Instant,
+        now: Instant,
+        named: &mut VecDeque<u64>,
+    ) -> bool
+        ensures { AsksOrCloses F.known (record { limit = linger; before = before; now = now })
+            (record { limit = limit; before = before; now = now })
+            (deque_capacity named.old ≤ deque_len named.old) self.old self.new named.old.items
+            named.new.items }
+    {
+        if self.lingers_too_long(linger, before, now) {
+            return true;
+        }
+        self.ask_if_unheard(limit, before, now, named)
     }
 }
 

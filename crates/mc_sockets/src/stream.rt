@@ -118,6 +118,26 @@ impl Stream for TcpStream {
     }
 }
 
+/// A socket that is borrowed.
+impl<'a> Stream for &'a TcpStream {
+    ghost use Rattle.std.specs.Prelude.{⊤};
+    ghost use Rattle.mc_sockets.specs.Streams.{unknown};
+
+    ghost flow = { λ _. unknown };
+
+    ghost receives = { λ _ _ _ _. ⊤ };
+
+    ghost sends = { λ _ _ _ _. ⊤ };
+
+    fn receive(&mut self, piece: &mut [u8]) -> Received {
+        received_from(self.read(piece))
+    }
+
+    fn send(&mut self, first: &[u8], second: &[u8]) -> Sent {
+        sent_from(self.write(if first.is_empty() { second } else { first }))
+    }
+}
+
 /// Returns the answer to a read by what the system answered.
 fn received_from(answer: io::Result<usize>) -> Received
     ensures { IsReceived answer result }

@@ -1,0 +1,19 @@
+-- Input that is dropped.
+use Rattle.std.proofs.Common.{◌≡◌, ℕ, ◌+◌, List, subst, sym}
+use Rattle.mc_sockets.specs.declared.dropping.Drain.TheVariants.{Going}
+use Rattle.mc_sockets.specs.declared.dropping.Dropping.{Dropping}
+use Rattle.mc_sockets.specs.declared.stream.Received.{Received}
+use Rattle.mc_sockets.specs.Dropping.{Drops, DropsInput, after_drop, one_more}
+
+-- one more read was made
+pub dropped_more : {S : Type 0} (receives : S → List ℕ → Received → S → Type 0) (before : ℕ) (first : S) (reads : ℕ) (old result : Dropping)
+    (mid new : S) (answer : Received) (piece : List ℕ) → Drops receives before first reads old mid → old.drain ≡ Going
+    → receives mid piece answer new → result ≡ after_drop old answer → Drops receives before first (reads + 1) result new
+dropped_more receives before first reads old result mid new answer piece drops going call is =
+    subst (λ (dropped : Dropping). Drops receives before first (reads + 1) dropped new) (sym is) (one_more reads old mid new answer drops going (piece, call))
+
+-- nothing more is to be dropped, or nothing now
+pub drop_stops : {S : Type 0} (receives : S → List ℕ → Received → S → Type 0) (before : ℕ) (first : S) (reads : ℕ) (result : Dropping) (new : S)
+    → Drops receives before first reads result new → (result.drain ≡ Going → ⊥) → DropsInput receives before first result new
+drop_stops receives before first reads result new drops stops =
+    record { reads = reads; drops = drops; most = λ going. absurd (stops going) }

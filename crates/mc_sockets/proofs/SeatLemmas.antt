@@ -1,0 +1,78 @@
+-- What is done at a place.
+use Rattle.std.proofs.Common.{◌≡◌, ◌∙◌, ℕ, ◌<◌, List, [], ◌∷◌, length, Option, MatchOption, slice_get, slice_index_or, subst, sym, ap, inl, inr, Bool, true, false, MatchBool, ◌-◌, arith}
+use Rattle.std.proofs.lemmas.Option.{slice_get_read, slice_get_cases}
+use Rattle.mio.specs.declared.event.event.Event.{Event}
+use Rattle.mio.specs.declared.token.Token.{Token}
+use Rattle.mio.specs.Event.{event_token}
+use Rattle.mc_sockets.specs.declared.readiness.Readiness.{Readiness}
+use Rattle.mc_sockets.specs.declared.readiness.Report.{Report}
+use Rattle.mc_sockets.specs.declared.seats.Seats.{Seats}
+use Rattle.mc_sockets.specs.Places.{Notes}
+use Rattle.mc_sockets.specs.Readiness.{report_of}
+use Rattle.mc_sockets.specs.Seats.{AreHeard, AtEach, Hears, IsFull, SendsAt, no_event, one_first}
+
+-- a record stands at this place, and that holds of it
+pub some_at : {P : Type 0} (places : List P) (n at : ℕ) (place : P) (N : Type 0) (Q : P → Type 0) → n ≡ length places → at < n
+    → place ≡ slice_index_or places at place → Q place → MatchOption (slice_get places at) N Q
+some_at places n at place N Q len within is holds = subst (λ o. MatchOption o N Q) (sym (slice_get_read places n at place len within is)) holds
+
+-- no record stands at this place
+pub none_at : {P : Type 0} (places : List P) (n at : ℕ) (N : Type 0) (Q : P → Type 0) → n ≡ length places → (at < n → false ≡ true) → N
+    → MatchOption (slice_get places at) N Q
+none_at places n at N Q len out holds =
+    elim (slice_get_cases places at).1 [
+      | inl there ↦ let no : false ≡ true = out (subst (λ k. at < k) (sym len) there.1) in cc
+      | inr gone ↦ subst (λ o. MatchOption o N Q) (sym gone.1) holds
+    ]
+
+-- a test is so, or isn't
+pub match_true : (b : Bool) (X Y : Type 0) → b ≡ true → X → MatchBool b X Y
+match_true b X Y is holds = subst (λ t. MatchBool t X Y) (sym is) holds
+
+pub match_false : (b : Bool) (X Y : Type 0) → b ≡ false → Y → MatchBool b X Y
+match_false b X Y is holds = subst (λ t. MatchBool t X Y) (sym is) holds
+
+-- a step was made at each place
+pub at_all : {F : Type 0} (step : ℕ → Seats F → Seats F → Type 0) (made all : ℕ) (old new : Seats F) → made ≡ all → AtEach step made old new
+    → AtEach step all old new
+at_all step made all old new is steps = subst (λ n. AtEach step n old new) is steps
+
+-- an event of a link is heard at the place of its token
+pub hears_link : {F R : Type 0} (known : F → Option Readiness) (sends : R → ℕ → R → Type 0) (event : Event) (token : Token) (report : Report)
+    (old new : Seats F) (old_rests new_rests : R) → token ≡ event_token event → (token.0 ≡ 0 → ⊥) → report ≡ report_of event
+    → SendsAt sends (Notes known report (IsFull old)) (token.0 - 1) old new old_rests new_rests → Hears known sends event old new old_rests new_rests
+hears_link known sends event token report old new old_rests new_rests is some reports heard = record {
+  waker = λ none. absurd (some (ap (λ t. t.0) is ∙ none));
+  link = λ _. subst (λ r. SendsAt sends (Notes known r (IsFull old)) ((event_token event).0 - 1) old new old_rests new_rests) reports
+      (subst (λ t. SendsAt sends (Notes known report (IsFull old)) (t.0 - 1) old new old_rests new_rests) is heard);
+}
+
+module _ {F R : Type 0} (hears : Event → Seats F → Seats F → R → R → Type 0) where
+  -- all but these events are heard: once they are, all are
+  abbrev pub HeardBut : (left all : List Event) (old new : Seats F) (old_rests new_rests : R) → Type 0
+  HeardBut left all old new old_rests new_rests =
+      (end : Seats F) (end_rests : R) → AreHeard hears left new end new_rests end_rests → AreHeard hears all old end old_rests end_rests
+
+  -- no event is heard yet
+  pub heard_none : (left all : List Event) (seats : Seats F) (rests : R) → left ≡ all → HeardBut left all seats seats rests rests
+  heard_none left all seats rests is end end_rests heard = subst (λ events. AreHeard hears events seats end rests end_rests) is heard
+
+  -- the first event that was left is heard
+  pub heard_next : (left others all : List Event) (event : Event) (old mid new : Seats F) (old_rests mid_rests new_rests : R) → left ≡ event ∷ others
+      → HeardBut left all old mid old_rests mid_rests → hears event mid new mid_rests new_rests → HeardBut others all old new old_rests new_rests
+  heard_next left others all event old mid new old_rests mid_rests new_rests is so_far heard end end_rests rest =
+      so_far end end_rests
+      (subst (λ events. AreHeard hears events mid end mid_rests end_rests) (sym is) (one_first event others mid new end mid_rests new_rests end_rests heard rest))
+
+  -- no event is left
+  pub heard_all : (left all : List Event) (old new : Seats F) (old_rests new_rests : R) → length left ≡ 0 → HeardBut left all old new old_rests new_rests
+      → AreHeard hears all old new old_rests new_rests
+  heard_all [] all old new old_rests new_rests is so_far = so_far new new_rests (no_event new new_rests)
+  heard_all (event ∷ others) all old new old_rests new_rests is so_far = absurd (grind (arith, is))
+
+  -- no event was there
+  pub heard_nothing : (all : List Event) (old new : Seats F) (old_rests new_rests : R) → all ≡ [] → new ≡ old → new_rests ≡ old_rests
+      → AreHeard hears all old new old_rests new_rests
+  heard_nothing all old new old_rests new_rests is same same_rests =
+      subst (λ events. AreHeard hears events old new old_rests new_rests) (sym is)
+      (subst (λ end. AreHeard hears [] old end old_rests new_rests) (sym same) (subst (λ end. AreHeard hears [] old old old_rests end) (sym same_rests) (no_event old old_rests)))

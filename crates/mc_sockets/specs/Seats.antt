@@ -1,0 +1,70 @@
+-- The books of a worker's links.
+use Rattle.std.specs.Prelude.{◌≡◌, ◌≤◌, ◌<◌, ◌+◌, ◌-◌, ℕ, Bool, false, List, [], ◌∷◌, ◌++◌, length, slice_get, slice_set, Option, MatchBool, MatchOption, vec_len, vec_capacity}
+use Rattle.std.specs.VecDeque.{deque_len, deque_capacity}
+use Rattle.mio.specs.declared.event.event.Event.{Event}
+use Rattle.mio.specs.Event.{event_token}
+use Rattle.mc_sockets.specs.Places.{Notes}
+use Rattle.mc_sockets.specs.Readiness.{report_of}
+use Rattle.mc_sockets.specs.declared.place.Place.{Place}
+use Rattle.mc_sockets.specs.declared.readiness.Readiness.{Readiness}
+use Rattle.mc_sockets.specs.declared.seats.Seats.{Seats}
+
+module _ {F : Type 0} where
+  -- the queue of names may find no memory for one more
+  abbrev pub IsFull : Seats F → Type 0
+  IsFull seats = deque_capacity seats.named ≤ deque_len seats.named
+
+  -- there is room for one more place
+  abbrev pub HasRoom : Seats F → Type 0
+  HasRoom seats = vec_len seats.places < vec_capacity seats.places
+
+  -- what is done with the record of a place, and with the names: no other place changes
+  pub record Acts (act : Place F → Place F → List ℕ → List ℕ → Type 0) (at : ℕ) (place : Place F) (old new : Seats F) : Type 0 where
+    pub left : Place F
+    pub acts : act place left old.named.items new.named.items
+    pub places : new.places.items ≡ slice_set old.places.items at left
+    pub given : new.given ≡ old.given
+
+  -- that is done at a place, if there is one, and at no other
+  abbrev pub ActsAt : (Place F → Place F → List ℕ → List ℕ → Type 0) → ℕ → Seats F → Seats F → Type 0
+  ActsAt act at old new = MatchOption (slice_get old.places.items at) (new ≡ old) (λ place. Acts act at place old new)
+
+  -- a step at each place before this one, from the first on
+  pub data AtEach (step : ℕ → Seats F → Seats F → Type 0) : ℕ → Seats F → Seats F → Type 0 where
+    none_yet : (seats : Seats F) → AtEach step 0 seats seats
+    one_more : (at : ℕ) (old mid new : Seats F) → AtEach step at old mid → step at mid new → AtEach step (at + 1) old new
+
+  -- that is done at a place, and answered; without a record there nothing is done, and the answer is no
+  abbrev pub AnswersAt : (act : Bool → Place F → Place F → List ℕ → List ℕ → Type 0) → ℕ → (answer : Bool) → Seats F → Seats F → Type 0
+  AnswersAt act at answer old new = MatchOption (slice_get old.places.items at) ((answer ≡ false) × (new ≡ old)) (λ place. Acts (act answer) at place old new)
+
+  -- That is done at a place. What the link there left is sent if the answer is yes, and else nothing is sent.
+  pub record SendsAt {R : Type 0} (sends : R → ℕ → R → Type 0) (act : Bool → Place F → Place F → List ℕ → List ℕ → Type 0) (at : ℕ) (old new : Seats F) (old_rests new_rests : R) : Type 0 where
+    pub answer : Bool
+    pub answers : AnswersAt act at answer old new
+    pub rest : MatchBool answer (sends old_rests at new_rests) (new_rests ≡ old_rests)
+
+  -- An event is heard at the place of its token, which is 1 more than the place: what it reports happens to
+  -- the link there. The token 0 is the waker's, and nothing happens.
+  pub record Hears {R : Type 0} (known : F → Option Readiness) (sends : R → ℕ → R → Type 0) (event : Event) (old new : Seats F) (old_rests new_rests : R) : Type 0 where
+    pub waker : (event_token event).0 ≡ 0 → (new ≡ old) × (new_rests ≡ old_rests)
+    pub link : 0 < (event_token event).0
+        → SendsAt sends (Notes known (report_of event) (IsFull old)) ((event_token event).0 - 1) old new old_rests new_rests
+
+  -- each event of a list is heard once, from the first to the last, and nothing else happens
+  pub data AreHeard {R : Type 0} (hears : Event → Seats F → Seats F → R → R → Type 0) : List Event → (old new : Seats F) → (old_rests new_rests : R) → Type 0 where
+    no_event : (seats : Seats F) (rests : R) → AreHeard hears [] seats seats rests rests
+    one_first : (event : Event) (others : List Event) (old mid new : Seats F) (old_rests mid_rests new_rests : R)
+        → hears event old mid old_rests mid_rests → AreHeard hears others mid new mid_rests new_rests
+        → AreHeard hears (event ∷ others) old new old_rests new_rests
+
+  -- a link gets a place: its record has the next number, and stands there or behind all others
+  pub record Settles (at : ℕ) (cell : F) (old new : Seats F) : Type 0 where
+    pub place : Place F
+    pub number : place.number ≡ old.given
+    pub readiness : place.readiness ≡ cell
+    pub there : at < length old.places.items → new.places.items ≡ slice_set old.places.items at place
+    pub behind : at ≡ length old.places.items → new.places.items ≡ old.places.items ++ place ∷ []
+    pub within : at ≤ length old.places.items
+    pub names : new.named ≡ old.named
+    pub given : new.given ≡ old.given

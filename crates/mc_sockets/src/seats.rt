@@ -1,0 +1,266 @@
+//! The books of a worker's links: the record of each place, and the links to be named.
+//!
+//! They are proved for any readiness: each event of a poll is heard once, at the place of its token
+//! and no other, a link is ended by its own number, and a look changes the place alone that it is
+//! at. What the poll reports, and when, is unspecified (`links.rt`).
+ghost use Rattle.std.specs.Prelude.{◌≡◌, ◌<◌, ◌≤◌, ◌+◌, ◌-◌, ◌^◌, ◌++◌, [], length, option_to_list};
+ghost use Rattle.std.specs.Prelude.{IfSome, IsTrue, IsFalse, OnOk};
+
+use crate::connection::Parting;
+use crate::place::Place;
+use crate::readiness::{ReadinessCell, Report};
+use mio::Events;
+use mio::event::Event;
+use std::alloc::{AllocError, Global};
+use std::collections::VecDeque;
+use std::time::{Duration, Instant};
+
+/// What dropped links left at their places.
+pub trait Rests {
+    ghost use Rattle.std.specs.Prelude.{ℕ};
+
+    /// What the link at a place left was sent.
+    ghost sends: { Self → ℕ → Self → Type 0 };
+
+    /// Sends what the link at a place left.
+    fn send_rest(&mut self, at: usize)
+        ensures { sends self.old at self.new };
+}
+
+/// The records of a worker's links by place, and the links to be named.
+#[derive(Drop)]
+pub struct Seats<F: ReadinessCell + Drop> {
+    places: Vec<Place<F>>,
+    /// The numbers of the links to be named, oldest first.
+    ///
+    /// A waiting link is named once, so there are at most as many as places.
+    named: VecDeque<u64>,
+    /// The number of links handed out, which is that of the next link.
+    given: u64,
+}
+
+impl<F: ReadinessCell + Drop> Seats<F> {
+    ghost use Rattle.std.specs.Prelude.{◌%◌};
+    ghost use Rattle.mc_sockets.specs.Places.{AsksOrCloses, EndsIfIdle, HappensIf, HappensTo};
+    ghost use Rattle.mc_sockets.specs.Places.{Notes};
+    ghost use Rattle.mc_sockets.specs.Readiness.{AskedAgain, Ended};
+    ghost use Rattle.mc_sockets.specs.Seats.{ActsAt, AnswersAt, AreHeard, AtEach, HasRoom, Hears};
+    ghost use Rattle.mc_sockets.specs.Seats.{IsFull, Settles};
+    ghost use Rattle.mio.specs.Events.{items};
+
+    /// Makes books without a place. It takes no memory.
+    pub fn new(alloc: Global) -> Seats<F>
+        ensures places { result.places.items ≡ [] }
+        ensures names { result.named.items ≡ [] }
+        ensures given { result.given ≡ 0 }
+    {
+        Seats {
+            places: Vec::new(alloc),
+            named: VecDeque::new(alloc),
+            given: 0,
+        }
+    }
+
+    /// Returns the number of places.
+    pub fn len(&self) -> usize
+        ensures { result ≡ length self.now.places.items }
+    {
+        self.places.len()
+    }
+
+    /// Takes the name of a link that may go on: the oldest.
+    pub fn ready(&mut self) -> Option<u64>
+        ensures names { self.old.named.items ≡ option_to_list result ++ self.new.named.items }
+        ensures same { self.new ≡ record self.old { named = self.new.named } }
+    {
+        self.named.pop_front()
+    }
+
+    /// Reserves room for one more place, and to name each link. The only error is a refused
+    /// allocation.
+    pub fn reserve(&mut self) -> Result<(), AllocError>
+        ensures room { OnOk result (HasRoom self.new) }
+        ensures places { self.new.places.items ≡ self.old.places.items }
+        ensures names { self.new.named.items ≡ self.old.named.items }
+        ensures given { self.new.given ≡ self.old.given }
+    {
+        self.named.reserve(self.places.len().saturating_add(1))?;
+        self.places.reserve(1)
+    }
+
+    /// Notes the next link at a place: at one that it takes over, or behind all others.
+    ///
+    /// Returns whether it did. It does if there is room.
+    pub fn settle(&mut self, at: usize, readiness: F) -> bool
+        ensures settles { IsTrue result → Settles at readiness self.old self.new }
+        ensures succeeds { at ≤ length self.old.places.items → HasRoom self.old → IsTrue result }
+        ensures refused { IsFalse result → self.new.places.items ≡ self.old.places.items }
+    {
+        let place = Place::new(self.given, readiness);
+        if let Some(one) = self.places.get_mut(at) {
+            *one = place;
+            return true;
+        }
+        at == self.places.len() && self.places.push(place).is_ok()
+    }
+
+    /// Counts the link that was settled last: it is handed out.
+    pub fn hand_out(&mut self)
+        ensures { self.new ≡ record self.old { given = (self.old.given + 1) % 2 ^ 64 } }
+    {
+        self.given = self.given.wrapping_add(1);
+    }
+
+    /// Notes each event of a poll in turn, and returns their number.
+    ///
+    /// A link that waits is named, and what a dropped link left is sent.
+    pub fn hear_all<R: Rests>(&mut self, events: &Events, rests: &mut R) -> usize
+        ensures heard { AreHeard (Hears F.known R.sends) (items events.now) self.old self.new
+            rests.old rests.new }
+        ensures count { result ≡ length (items events.now) }
+    {
+        for event in events {
+            self.hear(event, rests);
+        }
+        events.iter().len()
+    }
+
+    /// Notes an event at the place of its token, and sends what a dropped link left there.
+    ///
+    /// The token of a link is its place and 1 more.
+    fn hear<R: Rests>(&mut self, event: &Event, rests: &mut R)
+        ensures { Hears F.known R.sends event.now self.old self.new rests.old rests.new }
+    {
+        let token = event.token().0;
+        if token == 0 {
+            return;
+        }
+        let at = token - 1;
+        if self.hear_at(at, Report::of(event)) {
+            rests.send_rest(at);
+        }
+    }
+
+    /// Notes a report at a place, and names the link there if it waits. Returns whether it was
+    /// dropped.
+    fn hear_at(&mut self, at: usize, report: Report) -> bool
+        ensures { AnswersAt (Notes F.known report (IsFull self.old)) at result self.old self.new }
+    {
+        match self.places.get_mut(at) {
+            Some(place) => place.note(report, &mut self.named),
+            None => false,
+        }
+    }
+
+    /// Ends the link with this number for this reason, and names it if it waits.
+    pub fn end(&mut self, number: u64, parting: Parting)
+        ensures { AtEach (λ at mid. ActsAt (HappensIf F.known (Ended parting) number (IsFull mid))
+            at mid) (length self.old.places.items) self.old self.new }
+    {
+        for at in 0..self.places.len() {
+            self.end_at(at, number, parting);
+        }
+    }
+
+    /// Ends the link at a place if it has this number.
+    fn end_at(&mut self, at: usize, number: u64, parting: Parting)
+        ensures { ActsAt (HappensIf F.known (Ended parting) number (IsFull self.old)) at self.old
+            self.new }
+    {
+        match self.places.get_mut(at) {
+            Some(place) => place.end_if(number, parting, &mut self.named),
+            None => {}
+        }
+    }
+
+    /// Ends all links for this reason, and names those that wait.
+    pub fn end_all(&mut self, parting: Parting)
+        ensures { AtEach (λ at mid. ActsAt (HappensTo F.known (Ended parting) (IsFull mid)) at mid)
+            (length self.old.places.items) self.old self.new }
+    {
+        for at in 0..self.places.len() {
+            self.end_whose(at, parting);
+        }
+    }
+
+    /// Ends the link at a place.
+    fn end_whose(&mut self, at: usize, parting: Parting)
+        ensures { ActsAt (HappensTo F.known (Ended parting) (IsFull self.old)) at self.old
+            self.new }
+    {
+        match self.places.get_mut(at) {
+            Some(place) => {
+                place.end(parting, &mut self.named);
+            }
+            None => {}
+        }
+    }
+
+    /// Names the link with this number if it waits, so that it is asked again.
+    pub fn ask_again(&mut self, number: u64)
+        ensures { AtEach (λ at mid. ActsAt (HappensIf F.known AskedAgain number (IsFull mid)) at
+            mid) (length self.old.places.items) self.old self.new }
+    {
+        for at in 0..self.places.len() {
+            self.ask_again_at(at, number);
+        }
+    }
+
+    /// Names the link at a place if it has this number and waits.
+    fn ask_again_at(&mut self, at: usize, number: u64)
+        ensures { ActsAt (HappensIf F.known AskedAgain number (IsFull self.old)) at self.old
+            self.new }
+    {
+        match self.places.get_mut(at) {
+            Some(place) => place.ask_again_if(number, &mut self.named),
+            None => {}
+        }
+    }
+
+    /// Ends the link at a place if it was idle for too long. Returns whether it was dropped.
+    pub fn end_if_idle(
+        &mut self,
+        at: usize,
+        limit: Duration,
+        before: Instant,
+        now: Instant,
+        parting: Parting,
+    ) -> bool
+        ensures { ActsAt (EndsIfIdle F.known
+            (record { limit = limit; before = before; now = now }) parting (IsFull self.old)) at
+            self.old self.new }
+    {
+        match self.places.get_mut(at) {
+            Some(place) => place.end_if_idle(limit, before, now, parting, &mut self.named),
+            None => false,
+        }
+    }
+
+    /// Names the link at a place again, or notes that it is to be closed. Returns whether what it
+    /// left is to be looked at.
+    pub fn ask_or_close(
+        &mut self,
+        at: usize,
+        linger: Duration,
+        limit: Duration,
+        before: Instant,
+        now: Instant,
+    ) -> bool
+        ensures { ActsAt (AsksOrCloses F.known
+            (record { limit = linger; before = before; now = now })
+            (record { limit = limit; before = before; now = now }) (IsFull self.old)) at self.old
+            self.new }
+    {
+        match self.places.get_mut(at) {
+            Some(place) => place.ask_or_close(linger, limit, before, now, &mut self.named),
+            None => false,
+        }
+    }
+}
+
+/// Returns the token of the events at a place.
+pub fn token_of(at: usize) -> usize
+    ensures { at < 2 ^ 64 - 1 → result ≡ at + 1 }
+{
+    at.saturating_add(1)
+}
