@@ -3,8 +3,8 @@
 All print as they go. The last line adds up what was counted: `N passed, N failed`. The status is 0 only where something passed in each
 stage, nothing failed and all ended well.
 
-`rt ci` tries each edit of must-fail/ alone, which costs the proof of its crate. A toolchain that keeps what it proved does so once. With one
-that keeps nothing the edits are set aside in out/must-fail/ while `rt ci` runs, and judged with the wrong bodies, by one check a crate.
+`rt ci` tries each edit of must-fail/ alone, which costs the proof of its crate. So the edits are set aside in out/must-fail/ while it runs, and
+judged with the wrong bodies, by one check a crate.
 """
 import contextlib
 import os
@@ -48,21 +48,13 @@ def command(name, words):
     return passed, failed or int(bool(status) or not passed)
 
 
-def keeps():
-    """Whether the toolchain keeps what `rt ci` proved."""
-    try:
-        return kit.toolchain().keeps
-    except kit.Stopped:
-        return True
-
-
 @contextlib.contextmanager
-def edits_aside(is_wanted):
+def edits_aside():
     """Sets the crates' folders must-fail/ aside for a while."""
     aside = "out/must-fail"
     put_back(aside)
     try:
-        for crate in os.listdir("crates") if is_wanted else []:
+        for crate in os.listdir("crates"):
             if os.path.isdir(f"crates/{crate}/must-fail"):
                 os.makedirs(aside, exist_ok=True)
                 shutil.move(f"crates/{crate}/must-fail", f"{aside}/{crate}")
@@ -103,14 +95,13 @@ def main():
     before = {program: written(program) for _, program, _ in STAGES}
     # as Ctrl-C does, so that what is set aside is put back
     signal.signal(signal.SIGTERM, lambda *_: sys.exit(143))
-    are_kept = keeps()
-    with edits_aside(not are_kept):
+    with edits_aside():
         counts = [command("gate", ["rt", "ci"])]
     if counts[0][1]:
         print("wrong bodies: not judged, as they stand over what the gate proves", flush=True)
         counts.append((0, 1))
     else:
-        counts.append(command("wrong bodies", [sys.executable, "-m", "tests.wrong", "--left", *["--edits"] * (not are_kept)]))
+        counts.append(command("wrong bodies", [sys.executable, "-m", "tests.wrong", "--left", "--edits"]))
     counts.append(command("documents", [sys.executable, "docs/make.py", "--check"]))
     for kind, program, build in STAGES:
         # The gate leaves the programs that it proved and ran, so nothing is proved a second time for these.

@@ -6,8 +6,9 @@ functions has one of its own. Each begins with the work of the one before. What 
 that it rests on, and is not judged again; --anew judges all. --only judges one alone. --left takes the libraries that a run of `rt ci` over
 the same sources has just left in the crates' folders, where the toolchain keeps none. --edits judges the edits of `crates/NAME/must-fail/`
 too; one that isn't refused so is tried as `rt must-fail` tries it. With a crate's name each reason is printed. The
-environment may name JOBS, how many checks run side by side: as many as there are processors, where it doesn't. The last line is
-`N passed, N failed`; the status is 0 where something passed and nothing failed.
+environment may name JOBS, how many checks run side by side: as many as there are processors, where it doesn't. It may name LIMIT, the seconds
+after which a check is killed: 1200, where it doesn't. If that check was of several bodies each is then judged alone, and what gives no verdict
+alone either has failed. The last line is `N passed, N failed`; the status is 0 where something passed and nothing failed.
 """
 import argparse
 import dataclasses
@@ -22,7 +23,7 @@ import threading
 import time
 
 from tests.lib import bodies
-from tests.lib.kit import Copy, Results, Stopped
+from tests.lib.kit import Copy, Late, Results, Stopped
 
 ROOT = os.path.dirname(os.path.dirname(os.path.realpath(__file__)))
 
@@ -117,7 +118,11 @@ class Run:
             return
         names = dict.fromkeys(f"{crate.name}::{it.function}" for it in found)
         flags = [word for it in names for word in ("--only", it)]
-        status, output = self.copy.check(crate.name, crate.sources.planted(found), [*flags, "--jobs", str(self.each)], begin, keep)
+        try:
+            status, output = self.copy.check(crate.name, crate.sources.planted(found), [*flags, "--jobs", str(self.each)], begin, keep)
+        except Late as late:
+            self.find_late(crate, found, str(late), keep)
+            return
         said = bodies.verdicts(output, crate.name)
         if status in (0, 1, 3) and said and not bodies.unread(output):
             self.part(crate, found, said, begin, keep)
@@ -132,6 +137,14 @@ class Run:
                     self.add(crate, part, begin)
         else:
             self.give_up(crate, found[0], bodies.complaint(status, output), keep)
+
+    def find_late(self, crate, found, why, keep):
+        """Judges the bodies of a check that gave no verdict in time one by one, over what it proved; one that was alone fails."""
+        if len(found) == 1:
+            self.fail(crate, found[0], why)
+            return
+        for body in found:
+            self.add(crate, [body], keep)
 
     def part(self, crate, found, said, begin, keep):
         """Notes which bodies a check refuses. What isn't refused beside others is tried alone, and then from nothing."""
@@ -149,7 +162,10 @@ class Run:
     def give_up(self, crate, body, why, begin):
         """Fails a wrong body, unless it is an edit of must-fail/ that the toolchain's own rule finds refused."""
         if is_edit(body):
-            is_refused, why = self.copy.tries_edit(crate.name, body.name, begin, tempfile.mkdtemp(dir=self.room))
+            try:
+                is_refused, why = self.copy.tries_edit(crate.name, body.name, begin, tempfile.mkdtemp(dir=self.room))
+            except Late as late:
+                is_refused, why = False, str(late)
             if is_refused:
                 self.results.keep(crate.name, body, why)
                 with self.turn:

@@ -14,16 +14,26 @@ import os
 import shutil
 import signal
 import subprocess
+import sys
 import tempfile
+import threading
+
+from tests.lib import settings
 
 NAMES = ["Crate", "checked", "crates_of", "handles_of", "must_fail", "rtlib"]
 # The names of a toolchain that keeps what `rt ci` proved.
 KEEPING = ["Kept", "STORE", "stamp_of", "work_for"]
+# Its names for an edit that is refused: by a proof, and by a limit of the prover.
+VERDICTS = ["REFUSED", "AT_LIMIT"]
 PARTS = ("src", "specs", "proofs", "c")
 
 
 class Stopped(Exception):
     """What is asked for can't be had; the text says why."""
+
+
+class Late(Exception):
+    """A check was killed, as it gave no verdict in time; the text says in which."""
 
 
 def toolchain():
@@ -50,6 +60,60 @@ def link_or_copy(one, other):
     shutil.copy2(one, other)
 
 
+class Limit:
+    """A limit of time for what `rt` starts.
+
+    `rt` puts all that it starts into one process group, which a shell kills when this process ends. Inside `within` what a thread starts
+    has a group and a shell of its own, and is killed when its time is over, too.
+    """
+
+    # Joins a group, or with 0 makes one, and becomes a command, for which the signals that Python ignores are as they were.
+    JOIN = "import os, sys, signal as s; os.setpgid(0, {}); [s.signal(it, s.SIG_DFL) for it in (s.SIGPIPE, s.SIGXFSZ)]; os.execvp(sys.argv[1], sys.argv[1:])"
+
+    def __init__(self, rtlib, seconds):
+        self.seconds, self.own, self.guarded = seconds, threading.local(), rtlib.guarded
+        # its first call wants the main thread
+        self.guarded()
+        rtlib.guarded = self.words
+
+    def words(self):
+        """The words before a command of `rt`."""
+        group = getattr(self.own, "group", None)
+        return self.join(group) if group else self.guarded()
+
+    def join(self, group):
+        return [sys.executable, "-ISc", self.JOIN.format(group)]
+
+    @contextlib.contextmanager
+    def within(self):
+        """After the limit kills what this thread started by `rt`, and all that this started, and raises Late."""
+        words, is_late, is_over = ["sh", "-c", "echo; read _; kill -9 0"], threading.Event(), threading.Event()
+        with subprocess.Popen([*self.join(0), *words], stdin=subprocess.PIPE, stdout=subprocess.PIPE, stderr=subprocess.DEVNULL) as guard:
+            # it has its group when it writes
+            guard.stdout.readline()
+            self.own.group = guard.pid
+            watch = threading.Thread(target=self.watch, args=(guard.pid, is_late, is_over), daemon=True)
+            watch.start()
+            try:
+                yield
+            finally:
+                self.own.group = None
+                is_over.set()
+                watch.join()
+        if is_late.is_set():
+            raise Late(f"gave no verdict in {self.seconds} s")
+
+    def watch(self, group, is_late, is_over):
+        if is_over.wait(self.seconds):
+            return
+        is_late.set()
+        # again each second, as something may join the group still, or be tried once more
+        while not is_over.is_set():
+            with contextlib.suppress(ProcessLookupError):
+                os.killpg(group, signal.SIGKILL)
+            is_over.wait(1)
+
+
 class Copy:
     """A copy of the crates' sources, with the libraries that crates are checked over."""
 
@@ -70,8 +134,7 @@ class Copy:
             self.crates = {it.name: it for it in self.rt.crates_of(*[folder] * len(folders))}
         except SystemExit:
             raise Stopped("rt can't read the crates, as it says above") from None
-        # what it starts ends with this process; its first call wants the main thread
-        self.rt.rtlib.guarded()
+        self.limit = Limit(self.rt.rtlib, settings.number("LIMIT"))
         self.stamps = {}
         # whether the libraries are those that `rt ci` left, over which no check kept work
         self.has_left = False
@@ -122,10 +185,11 @@ class Copy:
 
     def check(self, name, texts, flags, begin, keep):
         """Checks a crate with these texts in place of its own, and gives the status and the output. What it proves is kept in the folder `keep`,
-        which begins with what the folder `begin` holds, if there is one."""
+        which begins with what the folder `begin` holds, if there is one. Raises Late if it gives no verdict in time."""
         self.begin_with(begin, keep)
         for _time in range(2):
-            ran = self.rt.checked(self.crates[name], texts, flags, keep)
+            with self.limit.within():
+                ran = self.rt.checked(self.crates[name], texts, flags, keep)
             # most likely for memory
             if ran.returncode != -signal.SIGKILL:
                 break
@@ -139,9 +203,12 @@ class Copy:
         os.makedirs(keep, exist_ok=True)
 
     def tries_edit(self, name, edit, begin, keep):
-        """Whether the toolchain's own rule finds an edit of must-fail/ refused, and what it says."""
+        """Whether the toolchain's own rule finds an edit of must-fail/ refused, and what it says. Raises Late if it gives no verdict in time."""
         self.begin_with(begin, keep)
-        return self.rt.must_fail(self.crates[name], f"{self.root}/crates/{name}/{edit}.edit", ["--jobs", "1"], keep)
+        with self.limit.within():
+            verdict, why = self.rt.must_fail(self.crates[name], f"{self.root}/crates/{name}/{edit}.edit", ["--jobs", "1"], keep)
+        # a toolchain that keeps what it proved has a word for each verdict, and one that doesn't says whether it is refused
+        return verdict in (True, *(getattr(self.rt, it, True) for it in VERDICTS)), why
 
     def work(self, name):
         """The folder of what earlier checks of a crate kept, which a check may begin with, or None."""

@@ -141,11 +141,22 @@ class Started:
     def settle(self):
         """Waits until the connections that were closed are closed on its side too, or a second has gone by.
 
-        The one that waited for the start may still wait to be accepted: one that is answered comes in behind it."""
+        The one that waited for the start may still wait to be accepted: one that is answered comes in behind it. A worker counts a
+        connection out after it has closed it, and sleeps only then."""
         with socket.create_connection(self.address, timeout=SECONDS) as behind:
             behind.sendall(b"version\r\n")
             behind.recv(100)
         until(lambda: self.connections() == 0, 1)
+        until(self.sleeps, 1)
+
+    def sleeps(self):
+        """Whether none of its threads runs or is about to."""
+        states = []
+        for thread in os.listdir(f"/proc/{self.pid}/task"):
+            with contextlib.suppress(FileNotFoundError, ProcessLookupError):  # (ended since)
+                with open(f"/proc/{self.pid}/task/{thread}/stat") as it:
+                    states.append(it.read().rpartition(")")[2].split()[0])
+        return all(it == "S" for it in states)
 
     def processor(self):
         """The seconds that it had of the processor."""

@@ -7,13 +7,14 @@
     SEEDS FIRST how many runs are recorded, and the seed of the first
     ALTERED     how many shorter runs are recorded and altered
     JOBS        how many records are judged, or requests refused, side by side
+    LIMIT       seconds after which a check of wrong bodies is killed
     KEEP        the folder in which records lie that aren't as they should be
 """
 import os
 import tempfile
 
 ROOT = os.path.dirname(os.path.dirname(os.path.dirname(os.path.realpath(__file__))))
-NUMBERS = {"COUNT": 300, "SEED": 1, "INPUTS": 100_000, "CALLS": 25_000, "SEEDS": 20, "FIRST": 1, "ALTERED": 5, "JOBS": os.cpu_count() or 1}
+NUMBERS = {"COUNT": 300, "SEED": 1, "INPUTS": 100_000, "CALLS": 25_000, "SEEDS": 20, "FIRST": 1, "ALTERED": 5, "JOBS": os.cpu_count() or 1, "LIMIT": 1200}
 NAMES = [*NUMBERS, "PROGRAM", "KEEP"]
 
 

@@ -1,7 +1,7 @@
 """What connections hold of what they send and are told is bounded by --buffer-limit, and comes back."""
 import time
 
-from tests.lib.abuse import LITTLE, MB, Beside, costs, sent_as_far
+from tests.lib.abuse import GIVEN_BACK, LITTLE, MB, Beside, costs, sent_as_far
 from tests.lib.case import ProgramCase
 from tests.lib.peer import Peer, clients
 from tests.lib.server import Server
@@ -19,6 +19,9 @@ IDLE = 8192
 # as much beyond the limit: 18 KiB of requests, an answer of 16 KiB, and 16 KiB of answers before it in room that was doubled.
 UNREAD = [(100_000, 60), (20_000, 200), (1_000, 2000)]
 SILENT, EACH = 500, 72 * 1024
+# How many large requests are made before those that are counted, and how many page faults each of these may meet. A buffer of 8 MB
+# that comes from the system meets 2,000.
+FIRST, COUNTED, FAULTS = 3, 6, 16
 # How many pages a store of joined items has, how many workers, and how much each may have of pages that go to and fro.
 PAGES, WORKERS, EXCHANGED = 64, 4, 8 * MB
 
@@ -26,6 +29,12 @@ PAGES, WORKERS, EXCHANGED = 64, 4, 8 * MB
 def limited(most):
     """A server with that limit, whose clock goes."""
     return Server(args=["-I", most, "--buffer-limit", str(LIMIT), "-c", "2000"])
+
+
+def faults_of(pid):
+    """How many page faults a process has met that no device had to serve."""
+    with open(f"/proc/{pid}/stat", encoding="ascii") as file:
+        return int(file.read().rpartition(")")[2].split()[7])
 
 
 class Buffers(ProgramCase):
@@ -79,8 +88,20 @@ class Buffers(ProgramCase):
                 block = b"b" * length
                 for peer in peers:
                     peer.asks(b"set block 0 0 %d\r\n%s\r\nget block\r\n" % (length, block), b"STORED\r\nVALUE block 0 %d\r\n%s\r\nEND\r\n" % (length, block))
-            had = until(lambda: server.memory() <= before + LITTLE + len(peers) * IDLE, 3)
+            had = until(lambda: server.memory() <= before + LITTLE + len(peers) * IDLE, GIVEN_BACK)
             self.assertTrue(had, f"{len(peers)} idle ones have {server.memory() - before >> 10} kB more")
+
+    def test_memory_of_large_requests_is_used_again(self):
+        """A client sets and gets a large block again and again: a worker keeps the buffers, so that the system gives no further pages."""
+        for most, length, _ in ONES:
+            with self.subTest(most), Server(workers=1, args=["-I", most]) as server, Peer(server.port, LET_ON) as peer:
+                block = b"w" * length
+                for number in range(FIRST + COUNTED):
+                    if number == FIRST:
+                        before = faults_of(server.pid)
+                    peer.asks(b"set whole 0 0 %d\r\n%s\r\n" % (length, block), b"STORED\r\n")
+                    peer.asks(b"get whole\r\n", b"VALUE whole 0 %d\r\n%s\r\nEND\r\n" % (length, block))
+                self.assertLess((faults_of(server.pid) - before) / (2 * COUNTED), FAULTS)
 
     def test_joins_give_pages_back(self):
         """Clients append to items until these have seven pages, twenty times: pages that are brought in exchange for an item's come back."""

@@ -7,6 +7,7 @@ import io
 import os
 import subprocess
 import tempfile
+import time
 import unittest
 from unittest import mock
 
@@ -75,26 +76,53 @@ BODIES = {
     "in_what_calls_a_wrong_one": ("behind_next", "    let behind = next(number);", "    let it = number; let behind = next(it);", "FAILED: "),
     "of_no_text": ("next", "    number + 7", "    number + 8", "FAILED: an 'old:' text stands in src/lib.rt 0 times"),
 }
+# A prover that refuses each function that it is asked for. Where a text adds 5 it gives no verdict, and what it starts keeps its output open.
+PROVER = """#!/bin/sh
+if grep -q 'number + 5' src/lib.rt; then
+    sleep 600 &
+    sleep 600
+fi
+while test $# -gt 0; do
+    test "$1" = --only && printf 'note: src/lib.rt:1:1: a goal is not proved (`returns`)\\nfn %s: not proved\\n' "$2"
+    shift
+done
+echo logic=not-proved
+exit 1
+"""
+# One that proves each function that it is asked for, and any crate.
+BELIEVER = """#!/bin/sh
+while test $# -gt 0; do
+    test "$1" = --only && echo "fn $2: proved"
+    shift
+done
+echo logic=proved
+"""
+# Bodies for the first: the function, and the texts. The second spins.
+SPINNING = {
+    "one_too_many": ("next", "    number + 1", "    number + 2"),
+    "without_end": ("twice", "    number + number", "    number + 5"),
+    "one_too_few": ("four_more", "    number + 4", "    number + 3"),
+}
 
 
 class WrongBodies(unittest.TestCase):
-    def repository(self, folder, bodies):
+    def repository(self, folder, bodies, place="wrong"):
         """Writes a repository of one crate with some of the wrong bodies."""
         os.makedirs(f"{folder}/crates/mc_sums/src")
-        os.mkdir(f"{folder}/crates/mc_sums/wrong")
+        os.mkdir(f"{folder}/crates/mc_sums/{place}")
         for file, text in {"crates.txt": "mc_sums:\n", "HANDLES": "Handles allowed: none.\n", "crates/mc_sums/src/lib.rt": CODE}.items():
             with open(f"{folder}/{file}", "w", encoding="utf-8") as it:
                 it.write(text)
         for name in bodies:
-            function, old, new, _ = BODIES[name]
-            with open(f"{folder}/crates/mc_sums/wrong/{name}.edit", "w", encoding="utf-8") as it:
+            function, old, new, *_ = {**BODIES, **SPINNING}[name]
+            with open(f"{folder}/crates/mc_sums/{place}/{name}.edit", "w", encoding="utf-8") as it:
                 it.write(f"function: {function}\nfile: src/lib.rt\nold: {old}\nnew: {new}\n")
 
-    def judged(self, bodies):
+    def judged(self, bodies, *words, place="wrong"):
         """The status of a run, and its lines."""
         with tempfile.TemporaryDirectory() as folder, contextlib.redirect_stdout(io.StringIO()) as said:
-            self.repository(folder, bodies)
-            status = wrong.main(["mc_sums", "--anew"], folder)
+            self.repository(folder, bodies, place)
+            status = wrong.main(["mc_sums", "--anew", *words], folder)
         return status, said.getvalue().splitlines()
 
     def test_each_is_found_among_others(self):
@@ -107,6 +135,30 @@ class WrongBodies(unittest.TestCase):
     def test_wrong_ones_alone_pass(self):
         status, lines = self.judged(["one_too_many"])
         self.assertEqual(("1 passed, 0 failed", 0), (lines[-1], status), lines)
+
+    def judged_by(self, prover, bodies, *words, place="wrong", **settings):
+        """The same where the prover is a script. What that says isn't kept."""
+        toolchain = kit.toolchain()
+        with tempfile.TemporaryDirectory() as folder, contextlib.ExitStack() as changed:
+            toolchain.rtlib.RATTLE = f"{folder}/prover"
+            with open(toolchain.rtlib.RATTLE, "w", encoding="utf-8", opener=lambda *it: os.open(*it, 0o700)) as it:
+                it.write(prover)
+            for patch in (mock.patch.object(kit, "toolchain", lambda: toolchain), mock.patch.object(kit.Results, "keep"), mock.patch.dict(os.environ, settings)):
+                changed.enter_context(patch)
+            return self.judged(bodies, *words, place=place)
+
+    def test_one_that_spins_is_named_and_others_are_judged(self):
+        began = time.monotonic()
+        status, lines = self.judged_by(PROVER, SPINNING, LIMIT="20")
+        self.assertIn("mc_sums/without_end: FAILED: gave no verdict in 20 s", lines)
+        self.assertEqual(("2 passed, 1 failed", 1), (lines[-1], status), lines)
+        # what the check started had its output, so it was killed, too
+        self.assertLess(time.monotonic() - began, 300)
+
+    def test_an_edit_that_is_proved_fails(self):
+        status, lines = self.judged_by(BELIEVER, ["one_too_many"], "--edits", place="must-fail")
+        self.assertIn("mc_sums/must-fail/one_too_many: FAILED: ", "\n".join(lines))
+        self.assertEqual(("0 passed, 1 failed", 1), (lines[-1], status), lines)
 
     def test_what_the_gate_left_is_taken(self):
         with tempfile.TemporaryDirectory() as folder, contextlib.redirect_stdout(io.StringIO()) as said:
