@@ -23,7 +23,7 @@ ARGS ?=
 JOBS ?= $(shell nproc)
 MINUTES ?= 30
 
-.PHONY: build try bench-build run test check crate rows history fmt bench bench-tcp bench-waiting bench-instructions clean
+.PHONY: build try bench-build run test check crate rows history fmt bench bench-tcp bench-waiting bench-instructions bench-resident clean
 .PHONY: docs docs-check where test-clients test-scaling test-metrics test-package test-containers soak man install uninstall deb is-built thin
 
 # Proves the program and what is below it, and builds it (build.py tells how far it is). It is run once, for --help, which ends it at once. What is
@@ -100,6 +100,10 @@ bench-tcp: build
 # The instructions of a request over TCP, by valgrind: make bench-instructions OPTIONS="--now 1000"
 bench-instructions: build
 	@python3 bench/instructions.py $(OPTIONS)
+
+# The memory of an item over TCP, beside memcached's: make bench-resident OPTIONS="--items 1000000"
+bench-resident: build
+	@python3 bench/resident.py $(OPTIONS)
 
 # How long polite clients wait beside others, with memcached beside it: make bench-waiting OPTIONS="--quick --only flush"
 bench-waiting: build

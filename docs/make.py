@@ -21,7 +21,7 @@ import chart  # noqa: E402
 import style  # noqa: E402
 
 # The run that README.md, docs/BENCHMARKS.md and docs/tcp.svg show.
-RUN = "bench/results/2026-11-27-b0cb5ee7.json"
+RUN = "bench/results/2026-11-28-58ffa809.json"
 # The workloads that README.md shows.
 SHOWN = ["get", "set", "get of 100 keys", "get, 32 deep", "set, 32 deep",
          *(f"{verb} of {size}" for size in ("10 KB", "100 KB", "1 MB", "8 MB") for verb in ("get", "set"))]
@@ -32,7 +32,7 @@ PLACE = re.compile(r"\[`(\w+)`\]\(([^)#]+)#L\d+\)")
 LIBRARIES = {
     "memchr": "finds line ends and word ends", "itoa": "prints numbers", "byteorder": "reads and writes an item's header",
     "thiserror": "makes error types", "clap": "parses the command line (brings `strsim`)", "mio": "polls sockets",
-    "crossbeam_queue": "hands connections to the workers (brings `crossbeam_utils`)", "httparse": "parses the head of an HTTP request",
+    "crossbeam_queue": "hands connections to the workers (brings `crossbeam_utils`)", "slab": "keeps the places of links", "httparse": "parses the head of an HTTP request",
     "atomic_table": "has the atomic steps of threads", "core": "",
 }
 # Of these documents the names in code spans are looked up, too; the others name what clients and systems have.
