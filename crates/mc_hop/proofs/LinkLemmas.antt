@@ -12,6 +12,19 @@ item-push : {X : Type 0} (xs : List X) (y : X) (n : ℕ) → n ≤ length xs →
 item-push xs y zero l = refl
 item-push xs y (suc i) l = get-push xs y i (omega arith)
 
+item-set_here : {X : Type 0} (xs : List X) (y : X) (p : ℕ) → p < length xs → item_of (set xs p y) (suc p) ≡ Some y
+item-set_here [] y p l = absurd (omega arith)
+item-set_here (x ∷ xs) y zero l = refl
+item-set_here (x ∷ xs) y (suc p) l = item-set_here xs y p (omega arith)
+
+item-set_other : {X : Type 0} (xs : List X) (y : X) (p n : ℕ) → n ≢ suc p → item_of (set xs p y) n ≡ item_of xs n
+item-set_other xs y p zero other = refl
+item-set_other [] y p (suc n) other = refl
+item-set_other (x ∷ xs) y zero (suc zero) other = absurd (other refl)
+item-set_other (x ∷ xs) y zero (suc (suc n)) other = refl
+item-set_other (x ∷ xs) y (suc p) (suc zero) other = refl
+item-set_other (x ∷ xs) y (suc p) (suc (suc n)) other = item-set_other xs y p (suc n) (λ e. other (ap suc e))
+
 none_used : {X : Type 0} (xs : List X) (n : ℕ) → n ≤ length xs → item_of xs n ≡ None → n ≡ 0
 none_used xs zero l e = refl
 none_used xs (suc i) l e = let x = some_there xs i (omega arith) in absurd (none-some x.0 (sym e ∙ x.1))
@@ -105,6 +118,17 @@ module _ {X : Type 0} {ats : List ℕ} {items : List X} {places : List ℕ} {ite
     take_here {x} read =
         rw (← seen) (item_at items ats at its.0 ∙ ap (item_of items) its.1
         ∙ slice_get_read items (length items) p x refl (omega (arith, its, links.within at, links.same_length)) read)
+
+    -- the value stands where it stood, and is another
+    pub change_items : (x : X) → map (item_of (set items p x)) ats ≡ set (map (item_of items) ats) at (Some x)
+    change_items x = ext_get_or None _ _ (grind (arith, reads, length-map)) same where
+      same : (b : ℕ) → b < length (map (item_of (set items p x)) ats) → get_or (map (item_of (set items p x)) ats) b None ≡ get_or (set (map (item_of items) ats) at (Some x)) b None
+      same b below =
+          let seen_now = item_at (set items p x) ats b in
+          let seen = item_at items ats b in
+          let other = item-set_other items x p (get_or ats b 0) in
+          let here = item-set_here items x p in
+          grind (arith, its, reads, length-map, cases_eq b at, cases_eq (get_or ats b 0) (suc p), other, here, links.within b, links.within at, links.back b, links.back at, links.same_length)
 
     module _ {items_new : List X} {places_new : List ℕ} (items_swapped : IsSwapped items items_new p) (places_swapped : IsSwapped places places_new p) where
       abbrev now : List ℕ

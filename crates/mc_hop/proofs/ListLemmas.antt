@@ -1,5 +1,5 @@
 -- Lists by index: what a read finds after a list was set at one place, pushed, joined with another, or had one taken out.
-use Rattle.std.proofs.Common.{◌≡◌, ◌≢◌, ℕ, zero, suc, ◌+◌, ◌-◌, ◌<◌, ◌⊎◌, inl, inr, List, [], ◌∷◌, ◌++◌, Option, Some, None, map, replicate, length, get_or, set}
+use Rattle.std.proofs.Common.{◌≡◌, ◌≢◌, ℕ, zero, suc, ◌+◌, ◌-◌, ◌<◌, ◌⊎◌, inl, inr, List, [], ◌∷◌, ◌++◌, Option, Some, None, is_some, true, map, replicate, length, get_or, set}
 use Rattle.std.proofs.Common.{refl, ap, ◌∙◌, arith, ⊎_elim}
 use Rattle.std.specs.Prelude.{slice_get}
 use Rattle.std.proofs.lemmas.Option.{none-some, slice_get-get_or}
@@ -12,6 +12,11 @@ pub ruleset reads = (get_or-set_at, get_or-set_other, get_or_append_left, get_or
 
 pub same_Some : {X : Type 0} (x y : X) → Some x ≡ Some y → x ≡ y
 same_Some x y e = cc
+
+-- what stands in a bucket that has an entry
+pub entry_of : {X : Type 0} (o : Option X) → is_some o ≡ true → (x : X) × (o ≡ Some x)
+entry_of None e = cc
+entry_of (Some x) e = (x, refl)
 
 -- a bucket that has an entry is there
 pub filled_inside : {X : Type 0} (items : List (Option X)) (at : ℕ) (x : X) → get_or items at None ≡ Some x → at < length items

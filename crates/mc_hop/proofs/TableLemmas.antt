@@ -154,6 +154,18 @@ module _ {X : Type 0} (hash_of : X → ℕ) (key_of : X → List ℕ) (k : ℕ) 
         grind (arith, reads, stood cells.items at p (Some x) y there, filled_inside (set cells.items at (Some x)) p y there, before.tags_length, before.tagged p y, same_Some x y);
   }
 
+  -- another entry of the same hash in an entry's place
+  pub IsTagged-changed : (x y : X) → get_or cells.items at None ≡ Some x → hash_of y ≡ hash_of x → IsTable hash_of key_of k cells.words (set cells.items at (Some y))
+      → IsTagged hash_of key_of k (record { words = cells.words; tags = cells.tags; items = set cells.items at (Some y) })
+  IsTagged-changed x y here same_hash table = record {
+    table = table;
+    tags_length = before.tags_length ∙ sym (length-set cells.items at (Some y));
+    tagged = λ p z there. elim (stood cells.items at p (Some y) z there) [
+      | (inl a) ↦ ap (λ (n : ℕ). get_or cells.tags n 0) a.0 ∙ before.tagged at x here ∙ ap tag_in (sym same_hash ∙ ap hash_of (same_Some y z a.1))
+      | (inr b) ↦ before.tagged p z b.1
+    ];
+  }
+
   pub IsTagged-remove : (words : List ℕ) → IsTable hash_of key_of k words (set cells.items at None)
       → IsTagged hash_of key_of k (record { words = words; tags = cells.tags; items = set cells.items at None })
   IsTagged-remove words table = record {

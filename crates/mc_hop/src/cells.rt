@@ -4,8 +4,9 @@ ghost use Rattle.std.specs.Prelude.{◌≡◌, ◌+◌, ◌-◌, ◌<◌, ◌≤
 ghost use Rattle.mc_hop.specs.Cells.{empty_cells, filled};
 ghost use Rattle.mc_hop.specs.Links.{ats_of, tags_of, words_of, renumbered};
 
+use core::mem::replace_with;
 use std::alloc::{AllocError, Global};
-use std::marker::Model;
+use std::marker::{Model, PhantomData};
 
 /// The limit of a bucket's number, 2^25. The tag is in the bits above.
 const NUMBERS: u32 = 1 << 25;
@@ -104,6 +105,17 @@ fn renumber(cells: &mut Vec<Cell>, places: &Vec<u32>, place: usize)
     if place < places.len() {
         set_number(cells, places[place] as usize, place + 1);
     }
+}
+
+/// Returns what a closure returns for a value.
+///
+/// For the borrow checker the arguments name the type of the closure's second result.
+fn apply<T, R, F: FnOnce(T) -> (T, R)>(value: T, change: (F, PhantomData<R>)) -> (T, R)
+    requires { F.pre change.0 value }
+    ensures { F.post change.0 value result }
+{
+    let (change, _) = change;
+    change(value)
 }
 
 /// A row of buckets, each with a word, a tag and at most one value.
@@ -243,6 +255,24 @@ impl<T: Drop> Cells<T> {
         self.items.push_reserved(value);
         self.places.push_reserved(at as u32);
         set_tagged(&mut self.cells, at, number, tag);
+    }
+
+    /// Changes the value of a bucket that has one by a closure, and returns the closure's second
+    /// result.
+    ///
+    /// The value stays where it is, and the tag is unchanged. It takes no memory of its own.
+    pub fn update<R, F: FnOnce(T) -> (T, R)>(&mut self, at: usize, change: F) -> R
+        requires filled { is_some (slice_index_or self.old.items at None) ≡ true }
+        requires may { (value : T) → slice_index_or self.old.items at None ≡ Some value →
+            F.pre change value }
+        ensures { (value : T) → slice_index_or self.old.items at None ≡ Some value →
+            (pair : T × R) × F.post change value pair × (result ≡ pair.1)
+            × (self.new ≡ record self.old {
+              items = slice_set self.old.items at (Some pair.0);
+            }) }
+    {
+        let place = number_of(&self.cells, at) - 1;
+        replace_with(&mut self.items[place], (change, PhantomData), apply)
     }
 
     /// Takes the value out of a bucket that has one. The tag is unchanged.

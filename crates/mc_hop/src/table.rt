@@ -226,11 +226,7 @@ impl<T: Keyed + Drop> Hop<T> {
             × (content T.hash_of T.key_of self.new.items ≡
             content_with T.hash_of T.key_of self.old.items entry pair.0) }
     {
-        let entry = self.cells.take(at);
-        let (entry, answer) = change(entry);
-        let tag = tag_of(entry.hash());
-        self.cells.put(at, entry, tag);
-        answer
+        self.cells.update(at, change)
     }
 
     /// Returns a filled bucket, or `None` if all are empty.
