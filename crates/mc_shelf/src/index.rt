@@ -172,7 +172,7 @@ impl Index {
         ensures room { self.old.spare ≤ self.new.spare + 1 }
         ensures table { KeepsTable 0 (counts_in self.old) (counts_in self.new) }
     {
-        self.soonest = self.soonest.with(entry.expiry(), entry.updated_at());
+        self.soonest.note(entry.expiry(), entry.updated_at());
         self.entries.insert_reserved(entry)
     }
 
@@ -198,7 +198,7 @@ impl Index {
         ensures before { entry_at self.old place ≡ Some result }
         ensures changed { ItemIsChanged self.old self.new entry.entry.key entry.entry.item }
     {
-        self.soonest = self.soonest.with(entry.expiry(), entry.updated_at());
+        self.soonest.note(entry.expiry(), entry.updated_at());
         self.entries.update(place, |before| (entry, before))
     }
 
@@ -226,7 +226,7 @@ impl Index {
             draft,
             ..
         } = *write;
-        self.soonest = self.soonest.with(draft.expiry, moment);
+        self.soonest.note(draft.expiry, moment);
         self.entries.update(place, |mut entry| {
             entry.rewrite(Parts {
                 hash,
@@ -256,7 +256,7 @@ impl Index {
             (at.entry.item.block ++ block.now) unique write.now.moment) }
     {
         let Write { moment, draft, .. } = *write;
-        self.soonest = self.soonest.with(draft.expiry, moment);
+        self.soonest.note(draft.expiry, moment);
         self.entries.update(place, |mut entry| {
             entry.extend(block, draft.flags, draft.expiry, unique, moment);
             (entry, ())

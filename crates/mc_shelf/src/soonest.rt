@@ -46,6 +46,27 @@ impl Soonest {
         }
     }
 
+    /// Changes the bounds to those with one item more.
+    ///
+    /// It writes them only if they change: what isn't written stays in the caches of all processors.
+    pub(crate) fn note(&mut self, expiry: Expiry, updated: Moment)
+        ensures one { (item : Item) → item.expiry ≡ expiry → item.updated ≡ updated →
+            DiesNoSooner self.new item }
+        ensures others { (item : Item) → DiesNoSooner self.old item → DiesNoSooner self.new item }
+    {
+        let lowered = self.with(expiry, updated);
+        if !self.is(&lowered) {
+            *self = lowered;
+        }
+    }
+
+    /// Returns whether these are the same bounds.
+    fn is(&self, other: &Soonest) -> bool
+        ensures { result ≡ true → self.now ≡ other.now }
+    {
+        self.expiry == other.expiry && self.updated.seconds() == other.updated.seconds()
+    }
+
     /// Returns the bounds after one of the items gets this expiry.
     pub(crate) fn with_expiry(self, expiry: Expiry) -> Soonest
         ensures one { (item : Item) → DiesNoSooner self item →

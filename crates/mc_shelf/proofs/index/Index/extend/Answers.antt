@@ -16,8 +16,8 @@ invariant_of-self c =
     let soonest = c.self.inside.soonest in
     let up = updated c.self.view_is c.self.invariant.0 found is becomes refl refl in (
       up.0,
-      sooner_changed soonest c.with-self-inside.result up.1 (subst (λ (s : IndexState EntryState). DieNoSooner soonest (items_of s)) c.self.view_is c.self.invariant.1)
-          c.with-self-inside.ensures.others (c.with-self-inside.ensures.one made refl refl),
+      sooner_changed soonest c.note.new.self up.1 (subst (λ (s : IndexState EntryState). DieNoSooner soonest (items_of s)) c.self.view_is c.self.invariant.1)
+          c.note.ensures.others (c.note.ensures.one made refl refl),
     )
 
 pub returns : goal.returns

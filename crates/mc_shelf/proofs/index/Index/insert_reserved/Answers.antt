@@ -18,9 +18,9 @@ invariant_of-self c =
     let absent = subst (λ (s : IndexState EntryState). get (items_of s) entry.key ≡ None) (sym c.self.view_is) c.requires.absent in
     let comes = came inside.entries c.insert_reserved.new.self c.self.invariant.0 entry absent c.insert_reserved.ensures.content in (
       came_keyed inside.entries c.insert_reserved.new.self c.self.invariant.0 entry absent c.insert_reserved.ensures.content,
-      sooner_insert inside.soonest c.with-self-inside.result (items_of inside.entries) (items_of c.insert_reserved.new.self) entry.key entry.item comes.items c.self.invariant.1
-          c.with-self-inside.ensures.others
-          (c.with-self-inside.ensures.one entry.item (sym c.expiry.ensures) (sym c.updated_at.ensures)),
+      sooner_insert inside.soonest c.note.new.self (items_of inside.entries) (items_of c.insert_reserved.new.self) entry.key entry.item comes.items c.self.invariant.1
+          c.note.ensures.others
+          (c.note.ensures.one entry.item (sym c.expiry.ensures) (sym c.updated_at.ensures)),
     )
 
 pub returns-clause-inserted : goal.returns-clause-inserted

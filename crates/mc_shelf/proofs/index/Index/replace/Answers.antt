@@ -7,12 +7,12 @@ use Rattle.mc_shelf.proofs.index.Index.replace.Goals as goal
 pub invariant_of-self : goal.invariant_of-self
 invariant_of-self c =
     let inside = c.self.inside in
-    let lowered = c.with-self-inside in
+    let lowered = c.note in
     let at = subst (λ (s : IndexState EntryState). IsKeyAt s c.args.entry.key c.args.place) (sym c.self.view_is) c.requires.key in
     let is = c.update.ensures at.entry at.there in
     let becomes : is.given ≡ c.args.entry = let met = is.called in search rules in
     let up = updated refl c.self.invariant.0 at is becomes (sym (c.requires.hash at.entry.hash c.requires.key.hash)) (sym at.same_key) in
-    (up.0, sooner_changed inside.soonest lowered.result up.1 c.self.invariant.1 lowered.ensures.others (lowered.ensures.one c.args.entry.item (sym c.expiry.ensures) (sym c.updated_at.ensures)))
+    (up.0, sooner_changed inside.soonest lowered.new.self up.1 c.self.invariant.1 lowered.ensures.others (lowered.ensures.one c.args.entry.item (sym c.expiry.ensures) (sym c.updated_at.ensures)))
 
 pub returns-clause-before : goal.returns-clause-before
 returns-clause-before c =

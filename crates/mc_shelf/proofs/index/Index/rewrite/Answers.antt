@@ -13,7 +13,7 @@ invariant_of-self c =
     let is = c.update.ensures at.entry at.there in
     let becomes : is.given ≡ record at.entry { item = made } = let met = is.called in search rules in
     let up = updated refl c.self.invariant.0 at is becomes refl refl in
-    (up.0, sooner_changed inside.soonest c.with-self-inside.result up.1 c.self.invariant.1 c.with-self-inside.ensures.others (c.with-self-inside.ensures.one made refl refl))
+    (up.0, sooner_changed inside.soonest c.note.new.self up.1 c.self.invariant.1 c.note.ensures.others (c.note.ensures.one made refl refl))
 
 pub returns : goal.returns
 returns c =
