@@ -11,7 +11,7 @@ ghost use Rattle.mc_guests.specs.Gathered.{over, whole, turned, IsFront, Flushes
 ghost use Rattle.mc_guests.specs.Gathered.{WaitsBelow};
 
 use crate::link::{Got, Link, LinkFault, Took};
-use mc_bytes::Queue;
+use mc_bytes::{FIRST_PIECE, Queue};
 use std::alloc::Global;
 use std::marker::Model;
 
@@ -177,7 +177,9 @@ impl<L: Link + Drop> Gathering<L> {
         ensures requested { self.new.requested ≡ self.old.requested }
     {
         let got = self.link.try_read(piece);
-        if let Ok(Got::Later) = got {
+        if let Ok(Got::Later) = got
+            && self.gathered.capacity() > FIRST_PIECE
+        {
             self.rest();
         }
         got

@@ -504,12 +504,16 @@ impl<L: Link + Drop> Weighed<L> {
 
     /// Keeps its memory for its next request, if it has neither input nor output, holds at most
     /// `KEPT`, and memory isn't tight. Otherwise it frees what it doesn't use.
+    ///
+    /// It does nothing if it holds no more than an idle guest may.
     fn keep_or_rest(&mut self, budget: &Budget)
         ensures { self.new ≡ self.old }
     {
-        self.keeps = self.guest.is_between_requests()
-            && self.guest.capacity() <= KEPT
-            && !budget.is_tight();
+        let reserved = self.guest.capacity();
+        if reserved <= IDLE {
+            return;
+        }
+        self.keeps = reserved <= KEPT && !budget.is_tight() && self.guest.is_between_requests();
         if !self.keeps {
             let _ = self.guest.rest();
         }
