@@ -1,20 +1,30 @@
 -- What is done at a place.
-use Rattle.std.proofs.Common.{◌≡◌, ◌∙◌, ℕ, ◌<◌, List, [], ◌∷◌, length, Option, MatchOption, slice_get, slice_index_or, subst, sym, ap, inl, inr, Bool, true, false, MatchBool, ◌-◌, arith}
+use Rattle.std.proofs.Common.{◌≡◌, ◌∙◌, ℕ, ◌+◌, ◌<◌, ◌-◌, List, [], ◌∷◌, length, Option, MatchOption, slice_get, slice_set, slice_index_or}
+use Rattle.std.proofs.Common.{refl, subst, sym, ap, inl, inr, Bool, true, false, MatchBool, arith}
 use Rattle.std.proofs.lemmas.Option.{slice_get_read, slice_get_cases}
 use Rattle.mio.specs.declared.event.event.Event.{Event}
 use Rattle.mio.specs.declared.token.Token.{Token}
 use Rattle.mio.specs.Event.{event_token}
+use Rattle.mc_sockets.specs.declared.place.Place.{Place}
 use Rattle.mc_sockets.specs.declared.readiness.Readiness.{Readiness}
 use Rattle.mc_sockets.specs.declared.readiness.Report.{Report}
 use Rattle.mc_sockets.specs.declared.seats.Seats.{Seats}
 use Rattle.mc_sockets.specs.Places.{Notes}
 use Rattle.mc_sockets.specs.Readiness.{report_of}
-use Rattle.mc_sockets.specs.Seats.{AreHeard, AtEach, Hears, IsFull, SendsAt, no_event, one_first}
+use Rattle.mc_sockets.specs.Seats.{Acts, AreHeard, AtEach, Hears, IsFull, SendsAt, no_event, none_yet, one_first, one_more}
 
 -- a record stands at this place, and that holds of it
 pub some_at : {P : Type 0} (places : List P) (n at : ℕ) (place : P) (N : Type 0) (Q : P → Type 0) → n ≡ length places → at < n
     → place ≡ slice_index_or places at place → Q place → MatchOption (slice_get places at) N Q
 some_at places n at place N Q len within is holds = subst (λ o. MatchOption o N Q) (sym (slice_get_read places n at place len within is)) holds
+
+-- that is done with the record of a place, and nothing else changes
+pub done_at : {F : Type 0} (N : Type 0) (act : Place F → Place F → List ℕ → List ℕ → Type 0) (n at : ℕ) (place left : Place F) (old new : Seats F)
+    → n ≡ length old.places.items → at < n → place ≡ slice_index_or old.places.items at place → act place left old.named.items new.named.items
+    → new.places.items ≡ slice_set old.places.items at left → new.given ≡ old.given
+    → MatchOption (slice_get old.places.items at) N (λ stood. Acts act at stood old new)
+done_at N act n at place left old new len within is acts places given =
+    some_at old.places.items n at place N (λ stood. Acts act at stood old new) len within is (record { left = left; acts = acts; places = places; given = given })
 
 -- no record stands at this place
 pub none_at : {P : Type 0} (places : List P) (n at : ℕ) (N : Type 0) (Q : P → Type 0) → n ≡ length places → (at < n → false ≡ true) → N
@@ -32,10 +42,18 @@ match_true b X Y is holds = subst (λ t. MatchBool t X Y) (sym is) holds
 pub match_false : (b : Bool) (X Y : Type 0) → b ≡ false → Y → MatchBool b X Y
 match_false b X Y is holds = subst (λ t. MatchBool t X Y) (sym is) holds
 
--- a step was made at each place
-pub at_all : {F : Type 0} (step : ℕ → Seats F → Seats F → Type 0) (made all : ℕ) (old new : Seats F) → made ≡ all → AtEach step made old new
-    → AtEach step all old new
-at_all step made all old new is steps = subst (λ n. AtEach step n old new) is steps
+module _ {F : Type 0} (step : ℕ → Seats F → Seats F → Type 0) where
+  -- a step was made at each place before this one
+  abbrev pub MadeBefore : ℕ → Seats F → Seats F → Type 0
+  MadeBefore at old new = (n : ℕ) → n ≡ at → AtEach step n old new
+
+  -- no place is before the first
+  pub made_none : (seats : Seats F) → MadeBefore 0 seats seats
+  made_none seats n is = subst (λ k. AtEach step k seats seats) (sym is) (none_yet seats)
+
+  -- the step was made at one more place
+  pub made_more : (at : ℕ) (old mid new : Seats F) → MadeBefore at old mid → step at mid new → MadeBefore (at + 1) old new
+  made_more at old mid new before made n is = subst (λ k. AtEach step k old new) (sym is) (one_more at old mid new (before at refl) made)
 
 -- an event of a link is heard at the place of its token
 pub hears_link : {F R : Type 0} (known : F → Option Readiness) (sends : R → ℕ → R → Type 0) (event : Event) (token : Token) (report : Report)

@@ -122,6 +122,8 @@ pub struct SocketLinks<'a, R: Wait + Clock> {
     ticks: u64,
     /// When a tick was last counted.
     ticked: Option<Instant>,
+    /// When the last poll returned.
+    polled: Option<Instant>,
     /// Finds connections that are to be tried again.
     unheard: Option<Watch>,
     counts: Arc<Counts>,
@@ -156,6 +158,7 @@ impl<'a, R: Wait + Clock> SocketLinks<'a, R> {
             quiet: Parting::Idle,
             ticks: 0,
             ticked: None,
+            polled: None,
             unheard: Watch::new(UNHEARD),
             counts,
         }
@@ -173,23 +176,28 @@ impl<'a, R: Wait + Clock> SocketLinks<'a, R> {
     }
 
     /// Polls the system for events, and waits at most `timeout` for the first.
+    ///
+    /// It reads the clock once. The poll reports all events up to the return of the poll before, so
+    /// a link that had none is idle until then.
     fn wait_for_events(&mut self, timeout: Duration) {
         self.asked = 0;
         if let Some(common) = &self.common {
             common.moved.set(0);
         }
-        // the poll reports all events before this moment
-        let before = Instant::now(self.rt).ok();
         let Some(heard) = self.hear_events(timeout) else {
             return;
         };
-        self.count_ticks();
+        let Ok(now) = Instant::now(self.rt) else {
+            return;
+        };
+        self.count_ticks(now);
+        let before = mem::replace(&mut self.polled, Some(now));
         // if there are fewer than one poll may return, there were no others
         if let Some(before) = before
             && heard < self.events.capacity()
         {
-            self.end_idle(before);
-            self.ask_unheard(before);
+            self.end_idle(before, now);
+            self.ask_unheard(before, now);
         }
     }
 
@@ -209,10 +217,7 @@ impl<'a, R: Wait + Clock> SocketLinks<'a, R> {
     }
 
     /// Counts the ticks that passed, at most two: a pause of the process counts no more.
-    fn count_ticks(&mut self) {
-        let Ok(now) = Instant::now(self.rt) else {
-            return;
-        };
+    fn count_ticks(&mut self, now: Instant) {
         let Some(ticked) = self.ticked else {
             self.ticked = Some(now);
             return;
@@ -226,11 +231,8 @@ impl<'a, R: Wait + Clock> SocketLinks<'a, R> {
     }
 
     /// Closes connections in turn that were idle for too long before the last poll.
-    fn end_idle(&mut self, before: Instant) {
+    fn end_idle(&mut self, before: Instant, now: Instant) {
         let Some(watch) = &mut self.watch else {
-            return;
-        };
-        let Ok(now) = Instant::now(self.rt) else {
             return;
         };
         let (places, quiet) = (self.seats.len(), self.quiet);
@@ -248,11 +250,8 @@ impl<'a, R: Wait + Clock> SocketLinks<'a, R> {
     /// Names links again, in turn, that had no event for long before the last poll.
     ///
     /// It closes those that have lingered for `LINGER`.
-    fn ask_unheard(&mut self, before: Instant) {
+    fn ask_unheard(&mut self, before: Instant, now: Instant) {
         let Some(watch) = &mut self.unheard else {
-            return;
-        };
-        let Ok(now) = Instant::now(self.rt) else {
             return;
         };
         let places = self.seats.len();
@@ -335,6 +334,13 @@ impl<'a, R: Wait + Clock> SocketLinks<'a, R> {
         self.asked >= ASKED || moved >= MOVED
     }
 
+    /// Returns whether this is the first call for a link since the last poll.
+    ///
+    /// A rest polls, and doesn't wait if a connection does. So newcomers wait no longer than events.
+    fn has_polled(&self) -> bool {
+        self.asked <= 1
+    }
+
     /// Ends all connections, and answers that no more links come.
     ///
     /// Right after a new link it answers `Later`, so that this link is visited before it ends.
@@ -359,6 +365,9 @@ impl<'a, R: Wait + Clock> Links<SocketLink> for SocketLinks<'a, R> {
             self.wait_for_events(Duration::ZERO);
         }
         let gave = mem::replace(&mut self.gave, false);
+        if !gave && !self.has_polled() {
+            return Next::Later;
+        }
         for _one in 0..PASSED {
             let Some(connection) = self.arrivals.pop(self.rt, &mut self.share) else {
                 if self.arrivals.is_over() {

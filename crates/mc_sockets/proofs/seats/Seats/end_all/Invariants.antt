@@ -1,8 +1,9 @@
 use Rattle.mc_sockets.specs.Places.{HappensTo}
 use Rattle.mc_sockets.specs.Readiness.{Ended}
-use Rattle.mc_sockets.specs.Seats.{ActsAt, AtEach, IsFull}
+use Rattle.mc_sockets.specs.Seats.{ActsAt, IsFull}
+use Rattle.mc_sockets.proofs.SeatLemmas.{MadeBefore}
 use Rattle.mc_sockets.proofs.seats.Seats.end_all.Given as goal
 
 abbrev pub invariant-loop-at : goal.invariant-loop-at
 invariant-loop-at g l =
-    AtEach (λ at mid. ActsAt (HappensTo g.F.ReadinessCell.known (Ended l.parting) (IsFull mid)) at mid) l.at l.fn.self l.self
+    MadeBefore (λ at mid. ActsAt (HappensTo g.F.ReadinessCell.known (Ended l.parting) (IsFull mid)) at mid) l.at l.fn.self l.self

@@ -1,0 +1,29 @@
+-- What a look at a place finds, and what is done then.
+use Rattle.std.proofs.Common.{◌≡◌, ◌∙◌, ◌||◌, ℕ, Bool, List, MatchBool, Option}
+use Rattle.mc_sockets.specs.Places.{AsksIfUnheard, AsksOrCloses, EndsIfIdle, Finds, HappensTo, Look, lingers, seen_waiting}
+use Rattle.mc_sockets.specs.Readiness.{AskedAgain, Ended}
+use Rattle.mc_sockets.specs.declared.connection.Parting.{Parting}
+use Rattle.mc_sockets.specs.declared.place.Place.{Place}
+use Rattle.mc_sockets.specs.declared.readiness.Readiness.{Readiness}
+
+module _ {F : Type 0} (known : F → Option Readiness) (look : Look) (IsFull : Type 0) (old new : Place F) (old_names new_names : List ℕ) (is_so : Bool) (seen : Place F)
+    (first : seen.number ≡ old.number) (then : new.number ≡ seen.number) where
+  -- nothing but the look is noted
+  abbrev IsNoted : Type 0
+  IsNoted = (new ≡ seen) × (new_names ≡ old_names)
+
+  -- a connection ends if its link has waited
+  pub ends_if_idle : (parting : Parting) → Finds (known old.readiness) look (λ stood. stood.waits) (λ stood. seen_waiting stood old.waits_since) is_so seen.waits_since
+      → MatchBool is_so (HappensTo known (Ended parting) IsFull seen new old_names new_names) IsNoted
+      → EndsIfIdle known look parting IsFull old new old_names new_names
+  ends_if_idle parting finds ends = record { has_waited = is_so; seen = seen; number = then ∙ first; finds = finds; ends = ends }
+
+  -- a link is asked again if nothing was heard of it
+  pub asks_if_unheard : Finds (known old.readiness) look (λ stood. stood.waits || stood.leaves) (λ _. old.asked_since) is_so seen.asked_since
+      → MatchBool is_so (HappensTo known AskedAgain IsFull seen new old_names new_names) IsNoted → AsksIfUnheard known look IsFull old new old_names new_names
+  asks_if_unheard finds asks = record { is_unheard = is_so; seen = seen; number = then ∙ first; finds = finds; asks = asks }
+
+  -- a connection is to be closed if it has lingered, and else its link is asked again if nothing was heard of it
+  pub asks_or_closes : (linger : Look) → Finds (known old.readiness) linger (λ stood. lingers stood) (λ _. old.lingers_since) is_so seen.lingers_since
+      → MatchBool is_so IsNoted (AsksIfUnheard known look IsFull seen new old_names new_names) → AsksOrCloses known linger look IsFull old new old_names new_names
+  asks_or_closes linger finds asks = record { has_lingered = is_so; seen = seen; number = then ∙ first; finds = finds; asks = asks }
