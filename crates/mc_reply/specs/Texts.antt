@@ -11,6 +11,7 @@ use Rattle.mc_protocol.specs.declared.reply.Reply.{Reply}
 use Rattle.mc_protocol.specs.declared.reply.Reply.TheVariants.{Stored, NotStored, Exists, NotFound, Miss, Hit, Touched, Deleted, Number, NotNumeric, TooLarge, NoChunk, Flushed}
 use Rattle.mc_protocol.specs.declared.fault.LineFault.{LineFault}
 use Rattle.mc_protocol.specs.declared.fault.LineFault.TheVariants.{Unknown, BadFormat, BadDelta, TooLarge as TooLargeLine, BadChunk}
+use Rattle.mc_reply.specs.declared.retrieval.HitFields.{HitFields}
 use Rattle.mc_reply.specs.declared.text.Text.{Text}
 use Rattle.mc_reply.specs.declared.text.Text.TheVariants.{First, Hit as FirstHit, Spent, Plain, Flaw, TooLong}
 
@@ -50,6 +51,10 @@ hit_text key with_unique flags unique block =
 abbrev pub hit_parts : (key numbers block rest : List ℕ) → List ℕ
 hit_parts key numbers block rest =
     codes "VALUE " ++ key ++ numbers ++ block ++ codes "\r\n" ++ rest
+
+-- the reply with the fields of a hit
+abbrev pub hit_reply : HitFields → Reply
+hit_reply hit = Hit hit.flags hit.unique (concat hit.parts.now)
 
 -- a retrieval's text for a key; a miss has none
 abbrev pub key_text : List ℕ → Bool → Reply → List ℕ

@@ -3,11 +3,19 @@
 ghost use Rattle.std.specs.Prelude.{◌≡◌, ◌++◌, ◌<◌, ◌≤◌, ◌+◌, take, length, min, OnOk, OnErr};
 ghost use Rattle.std.specs.Prelude.{vec_capacity};
 ghost use Rattle.std.specs.List.{concat};
-ghost use Rattle.mc_reply.specs.Texts.{retrieval_text, hit_parts, end_text, HasNoRoom};
+ghost use Rattle.mc_reply.specs.Texts.{retrieval_text, hit_reply, hit_parts, end_text, HasNoRoom};
 
 use crate::numbers::Numbers;
 use mc_protocol::{Bytes, Keys, Reply};
 use std::alloc::AllocError;
+
+/// The fields of a hit, whose block is in these parts one after another.
+#[derive(Clone, Copy)]
+pub(crate) struct HitFields<'a> {
+    pub flags: u32,
+    pub unique: u64,
+    pub parts: &'a [Bytes<'a>],
+}
 
 /// Appends a retrieval's text for key `at`, and `END` after the last key.
 ///
@@ -33,29 +41,37 @@ pub(crate) fn write_retrieval(
             block,
         } => {
             let parts = [Bytes::of(block.bytes())];
-            write_found(keys, with_unique, at, *flags, *unique, &parts, out)
+            let hit = HitFields {
+                flags: *flags,
+                unique: *unique,
+                parts: &parts,
+            };
+            write_found(keys, with_unique, at, &hit, out)
         }
         _ => out.extend_from_slice(end_of(keys.len(), at)),
     }
 }
 
-/// Appends a retrieval's text of a hit, whose block is the parts one after another.
+/// Appends a retrieval's text of a hit. It fails as `write` does.
 pub(crate) fn write_found(
     keys: &Keys<'_>,
     with_unique: bool,
     at: usize,
-    flags: u32,
-    unique: u64,
-    parts: &[Bytes<'_>],
+    hit: &HitFields<'_>,
     out: &mut Vec<u8>,
 ) -> Result<(), AllocError>
     requires { at < length keys.now }
     ensures ok { OnOk result (out.new.items ≡ out.old.items
-        ++ retrieval_text keys.now with_unique at (Reply.Hit flags unique (concat parts.now))) }
+        ++ retrieval_text keys.now with_unique at (hit_reply hit.now)) }
     ensures err { OnErr result (out.new.items ≡ out.old.items) }
     ensures full { OnErr result (HasNoRoom out.old
-        (retrieval_text keys.now with_unique at (Reply.Hit flags unique (concat parts.now)))) }
+        (retrieval_text keys.now with_unique at (hit_reply hit.now))) }
 {
+    let HitFields {
+        flags,
+        unique,
+        parts,
+    } = *hit;
     let end = end_of(keys.len(), at);
     let Some(key) = keys.get(at) else {
         unreachable!()

@@ -10,7 +10,7 @@ ghost use Rattle.mc_reply.specs.Texts.{reply_text, fault_text, plain_text, long_
 ghost use Rattle.mc_reply.specs.Texts.{lone_text, spent_text, said, HasNoRoom};
 
 use crate::numbers::Numbers;
-use crate::retrieval::{write_found, write_retrieval};
+use crate::retrieval::{HitFields, write_found, write_retrieval};
 use mc_protocol::{Bytes, Command, LineFault, Lone, Reply, is_quiet};
 use std::alloc::AllocError;
 
@@ -68,7 +68,14 @@ pub fn write_hit(
             keys,
             with_unique,
             ..
-        } => write_found(keys, *with_unique, at, flags, unique, parts, out),
+        } => {
+            let hit = HitFields {
+                flags,
+                unique,
+                parts,
+            };
+            write_found(keys, *with_unique, at, &hit, out)
+        }
         _ => Ok(()),
     }
 }

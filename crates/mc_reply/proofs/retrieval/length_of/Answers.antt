@@ -1,4 +1,4 @@
-use Rattle.std.proofs.Common.{◌≡◌, ◌+◌, ◌++◌, length, take, List, ℕ, ap, ◌∙◌, length-append, arith}
+use Rattle.std.proofs.Common.{◌≡◌, ◌+◌, length, take, List, ℕ, ap, ◌∙◌, length-append, arith}
 use Rattle.std.specs.List.{concat}
 use Rattle.mc_reply.proofs.PartLemmas.{concat-more}
 use Rattle.mc_reply.proofs.retrieval.length_of.Goals as goal
