@@ -70,16 +70,16 @@ impl Ahead {
     /// Returns the cursor before the first turn of the retrieval at the front.
     ///
     /// It is `None` if anything else is there.
-    pub fn cursor(&self, unread: &[u8]) -> Option<Cursor>
-        requires { (greatest : ℕ) × Knows greatest self.now unread.now }
-        ensures some { (greatest : ℕ) →
-            Knows greatest self.now unread.now → IsFirstCursor greatest result unread.now }
+    pub fn cursor(&self) -> Option<Cursor>
+        requires { (greatest : ℕ) × (unread : List ℕ) × Knows greatest self.now unread }
+        ensures some { (greatest : ℕ) (unread : List ℕ) →
+            Knows greatest self.now unread → IsFirstCursor greatest result unread }
         // Without a cursor the unit is whole after any number of turns.
-        ensures none { (greatest taken : ℕ) → Knows greatest self.now unread.now →
-            result ≡ None → StaysWhole greatest taken unread.now }
+        ensures none { (greatest taken : ℕ) (unread : List ℕ) → Knows greatest self.now unread →
+            result ≡ None → StaysWhole greatest taken unread }
     {
         match self {
-            Ahead::Line(note) => note.cursor(unread),
+            Ahead::Line(note) => note.cursor(),
             Ahead::Searched(_) => None,
         }
     }

@@ -280,6 +280,6 @@ impl Feed {
         ensures none { result ≡ None → StaysWhole self.now.greatest taken self.now.bytes }
     {
         let unread = self.unread.as_slice();
-        cursor_after(self.cursor, self.ahead.cursor(unread), unread, taken)
+        cursor_after(self.cursor, self.ahead.cursor(), unread, taken)
     }
 }

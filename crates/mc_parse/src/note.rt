@@ -245,13 +245,13 @@ impl Note {
     /// Returns the cursor before the first turn of the line's retrieval.
     ///
     /// It is `None` if the line is anything else.
-    pub fn cursor(&self, unread: &[u8]) -> Option<Cursor>
-        requires { (greatest : ℕ) × IsNoted greatest self.now unread.now }
-        ensures some { (greatest : ℕ) →
-            IsNoted greatest self.now unread.now → IsFirstCursor greatest result unread.now }
+    pub fn cursor(&self) -> Option<Cursor>
+        requires { (greatest : ℕ) × (unread : List ℕ) × IsNoted greatest self.now unread }
+        ensures some { (greatest : ℕ) (unread : List ℕ) →
+            IsNoted greatest self.now unread → IsFirstCursor greatest result unread }
         // Without a cursor the unit is whole after any number of turns.
-        ensures none { (greatest taken : ℕ) → IsNoted greatest self.now unread.now →
-            result ≡ None → StaysWhole greatest taken unread.now }
+        ensures none { (greatest taken : ℕ) (unread : List ℕ) → IsNoted greatest self.now unread →
+            result ≡ None → StaysWhole greatest taken unread }
     {
         let Ok(noted) = self.said else {
             return None;

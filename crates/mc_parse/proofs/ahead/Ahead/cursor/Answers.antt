@@ -5,4 +5,4 @@ use Rattle.mc_parse.proofs.ahead.Ahead.cursor.Goals as goal
 
 pub returns-in-Searched-clause-none : goal.returns-in-Searched-clause-none
 returns-in-Searched-clause-none c =
-    λ greatest taken knows _ unit len is. long_whole greatest c.args.unread.now unit len taken (subst (λ a. Knows greatest a c.args.unread.now) c.in-Searched.is knows).0 is
+    λ greatest taken unread knows _ unit len is. long_whole greatest unread unit len taken (subst (λ a. Knows greatest a unread) c.in-Searched.is knows).0 is
