@@ -7,25 +7,10 @@ ghost use Rattle.mc_protocol.specs.Numbers.{number_up_to};
 ghost use Rattle.mc_protocol.specs.declared.fault.LineFault.TheVariants.{Unknown, BadFormat};
 ghost use Rattle.mc_parse.specs.Exptimes.{exptime_of};
 ghost use Rattle.mc_parse.specs.Notes.{at, keys_at, said, FitIn, Fits};
-ghost use Rattle.mc_parse.specs.Lines.{
-  meaning,
-  formed,
-  key_formed,
-  keys_formed,
-  ending,
-  delete_ending,
-  fitting,
-  store_line,
-  cas_line,
-  get_line,
-  get_touch_line,
-  touch_line,
-  delete_line,
-  count_line,
-  flush_line,
-  lone_line,
-  is_key,
-};
+ghost use Rattle.mc_parse.specs.Lines.{meaning, formed, key_formed, keys_formed, ending};
+ghost use Rattle.mc_parse.specs.Lines.{delete_ending, fitting, store_line, cas_line, get_line};
+ghost use Rattle.mc_parse.specs.Lines.{get_touch_line, touch_line, delete_line, count_line};
+ghost use Rattle.mc_parse.specs.Lines.{flush_line, lone_line, is_key};
 
 use crate::exptime::{delay_of, exptime_of};
 use crate::name::{Name, name_of};
