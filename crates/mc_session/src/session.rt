@@ -325,13 +325,7 @@ fn first_key<'a>(command: &Command<'a>) -> Option<&'a [u8]>
 {
     match command {
         Command::Get { keys, .. } | Command::GetTouch { keys, .. } => keys.get(0),
-        Command::Store { .. }
-        | Command::Cas { .. }
-        | Command::Touch { .. }
-        | Command::Delete { .. }
-        | Command::Count { .. }
-        | Command::FlushAll { .. }
-        | Command::Lone(_) => None,
+        _ => None,
     }
 }
 
