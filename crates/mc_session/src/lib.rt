@@ -38,6 +38,6 @@ pub use laws::{
     a_run_takes_the_turns_of_its_stream, passing_over_early_does_not_matter,
     the_pieces_of_a_stream_do_not_matter,
 };
-pub use rounds::{WRITE_AT, piece_buffer, serve_endpoint, write_out};
+pub use rounds::{TurnContext, WRITE_AT, piece_buffer, serve_endpoint, write_out};
 pub use serving::{ServeFault, serve};
 pub use session::{Session, Turn, TurnFault};

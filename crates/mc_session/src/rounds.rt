@@ -22,6 +22,13 @@ const PIECE: usize = 16384;
 /// Output of this many bytes is written before the next turn.
 pub const WRITE_AT: usize = 65536;
 
+/// What the turns of a run are given: memory and moments.
+#[derive(Drop)]
+pub struct TurnContext<'a, C: Clock> {
+    pub alloc: Global,
+    pub clock: &'a C,
+}
+
 /// Returns a buffer for pieces of 16384 bytes. The only error is `NoMemory`.
 pub fn piece_buffer(alloc: Global) -> Result<Vec<u8>, ServeFault>
     ensures ok { IfOk result (λ buffer. length buffer.items ≡ longest_piece) }
@@ -42,28 +49,27 @@ pub fn piece_buffer(alloc: Global) -> Result<Vec<u8>, ServeFault>
 /// The error is `Read` if the reader fails and after 2^40 turns, `Write` if the writer fails or
 /// takes nothing, and `NoMemory` if memory is refused for a piece or a turn.
 pub fn serve_endpoint<R: Read, W: Write, S, E: Endpoint<S>, C: Clock>(
-    alloc: Global,
+    context: &TurnContext<'_, C>,
     reader: &mut R,
     writer: &mut W,
     endpoint: &mut E,
     store: &mut S,
-    clock: &C,
     piece: &mut [u8],
 ) -> Result<(), ServeFault>
     requires { 0 < length piece.old }
     ensures goes { result ≢ Err ServeFault.NoMemory →
-        Exchanges E.Endpoint (C.may_give clock.now) (2 ^ 40)
+        Exchanges E.Endpoint (C.may_give context.now.clock.now) (2 ^ 40)
         (scene endpoint.old store.old (R.remaining reader.old) (W.contents writer.old))
         (scene endpoint.new store.new (R.remaining reader.new) (W.contents writer.new)) }
     ensures ended { OnOk result
         (HasEnded E.Endpoint endpoint.new store.new (R.remaining reader.new)) }
     ensures memory { result ≡ Err ServeFault.NoMemory →
-        FallsShort E.Endpoint (C.may_give clock.now)
+        FallsShort E.Endpoint (C.may_give context.now.clock.now)
         (scene endpoint.old store.old (R.remaining reader.old) (W.contents writer.old))
         (scene endpoint.new store.new (R.remaining reader.new) (W.contents writer.new)) }
 {
     for _turn in 0..TURNS {
-        match round(alloc, reader, writer, endpoint, store, clock, piece) {
+        match round(context, reader, writer, endpoint, store, piece) {
             Ok(true) => return Ok(()),
             Ok(false) => {}
             Err(fault) => return Err(fault),
@@ -76,33 +82,32 @@ pub fn serve_endpoint<R: Read, W: Write, S, E: Endpoint<S>, C: Clock>(
 ///
 /// Returns whether nothing more is to come.
 fn round<R: Read, W: Write, S, E: Endpoint<S>, C: Clock>(
-    alloc: Global,
+    context: &TurnContext<'_, C>,
     reader: &mut R,
     writer: &mut W,
     endpoint: &mut E,
     store: &mut S,
-    clock: &C,
     piece: &mut [u8],
 ) -> Result<bool, ServeFault>
     requires { 0 < length piece.old }
     ensures goes { result ≢ Err ServeFault.NoMemory →
-        GoesOn E.Endpoint (C.may_give clock.now)
+        GoesOn E.Endpoint (C.may_give context.now.clock.now)
         (scene endpoint.old store.old (R.remaining reader.old) (W.contents writer.old))
         (scene endpoint.new store.new (R.remaining reader.new) (W.contents writer.new)) }
     ensures end { result ≡ Ok true →
         HasEnded E.Endpoint endpoint.new store.new (R.remaining reader.new) }
     ensures memory { result ≡ Err ServeFault.NoMemory →
-        IsRefused E.Endpoint (C.may_give clock.now)
+        IsRefused E.Endpoint (C.may_give context.now.clock.now)
         (scene endpoint.old store.old (R.remaining reader.old) (W.contents writer.old))
         (scene endpoint.new store.new (R.remaining reader.new) (W.contents writer.new)) }
 {
     write_much(writer, endpoint, store)?;
-    match endpoint.take_turn(alloc, store, clock.now()) {
+    match endpoint.take_turn(context.alloc, store, context.clock.now()) {
         Ok(Turn::Did) => Ok(false),
         Ok(Turn::Closed) => Ok(true),
         Ok(Turn::Idle) => {
             write_out(writer, endpoint, store)?;
-            read_piece(alloc, reader, endpoint, store, piece)
+            read_piece(context.alloc, reader, endpoint, store, piece)
         }
         Err(_) => Err(ServeFault::NoMemory),
     }

@@ -6,7 +6,7 @@
 ghost use Rattle.std.specs.Prelude.{◌≡◌, Ok, OnOk};
 ghost use Rattle.mc_session.specs.Serving.{Serves, ServesAll, ServesUntilRefused};
 
-use crate::rounds::{piece_buffer, serve_endpoint, write_out};
+use crate::rounds::{TurnContext, piece_buffer, serve_endpoint, write_out};
 use crate::session::Session;
 use mc_protocol::Steps;
 use mc_time::Clock;
@@ -67,7 +67,8 @@ pub fn serve<R: Read, W: Write, S: Steps, C: Clock>(
         Err(fault) => return Err(fault),
     };
     let piece = buffer.as_mut_slice();
-    match serve_endpoint(alloc, reader, writer, &mut session, store, clock, piece) {
+    let context = TurnContext { alloc, clock };
+    match serve_endpoint(&context, reader, writer, &mut session, store, piece) {
         Ok(()) => write_out(writer, &mut session, store),
         Err(fault) => Err(fault),
     }

@@ -14,7 +14,7 @@ use crate::event::Event;
 use crate::seat::Seat;
 use crate::world::World;
 use mc_hop::KeyHash;
-use mc_session::{ServeFault, piece_buffer, serve_endpoint, write_out};
+use mc_session::{ServeFault, TurnContext, piece_buffer, serve_endpoint, write_out};
 use mc_time::Clock;
 use std::alloc::Global;
 use std::io::{Read, Write};
@@ -57,7 +57,8 @@ pub fn serve_one<R: Read, W: Write, K: KeyHash + Drop, C: Clock>(
     };
     let mut seat = Seat { number, turns: 0 };
     let piece = buffer.as_mut_slice();
-    let ended = serve_endpoint(alloc, reader, writer, &mut seat, world, clock, piece);
+    let context = TurnContext { alloc, clock };
+    let ended = serve_endpoint(&context, reader, writer, &mut seat, world, piece);
     end(alloc, world, number);
     match ended {
         Ok(()) => write_out(writer, &mut seat, world),
