@@ -6,16 +6,9 @@ ghost use Rattle.std.specs.Prelude.{◌≡◌, IfOk, IfErr};
 ghost use Rattle.std.specs.List.{list_any};
 ghost use Rattle.mc_options.specs.declared.endpoints.Endpoint.{Endpoint};
 ghost use Rattle.mc_host.specs.Ends.{EndsUnbound, IsOneOf};
-ghost use Rattle.mc_host.specs.Covers.{
-  HasListeners,
-  all_of,
-  bound_among,
-  bound_of,
-  is_all_of_version_4,
-  is_all_of_version_6,
-  is_covered,
-  is_wide_at,
-};
+ghost use Rattle.mc_host.specs.Covers.{HasListeners, all_of, bound_among, bound_of};
+ghost use Rattle.mc_host.specs.Covers.{is_all_of_version_4, is_all_of_version_6};
+ghost use Rattle.mc_host.specs.Covers.{is_covered, is_wide_at};
 
 use crate::binding::{Listeners, bound_all};
 use crate::end::End;

@@ -7,19 +7,10 @@ ghost use Rattle.std.specs.Prelude.{◌≡◌, ◌≤◌, ◌==◌, ◌||◌, no
 ghost use Rattle.std.specs.List.{list_any, list_all, prefix_len};
 ghost use Rattle.std.specs.Str.{str_eq_ignore_ascii_case};
 ghost use Rattle.httparse.specs.Spans.{IsHeaderWithin, header_bytes};
-ghost use Rattle.mc_metrics.specs.Access.{
-  up_to,
-  is_one,
-  is_mapped_loopback,
-  is_loopback,
-  is_address_byte,
-  is_loopback_address,
-  is_loopback_name,
-  is_loopback_literal,
-  is_loopback_host,
-  is_foreign,
-  is_trusted,
-};
+ghost use Rattle.mc_metrics.specs.Access.{up_to, is_one, is_mapped_loopback, is_loopback};
+ghost use Rattle.mc_metrics.specs.Access.{is_address_byte, is_loopback_address};
+ghost use Rattle.mc_metrics.specs.Access.{is_loopback_name, is_loopback_literal};
+ghost use Rattle.mc_metrics.specs.Access.{is_loopback_host, is_foreign, is_trusted};
 
 use httparse::spans::HeaderSpan;
 use std::net::IpAddr;

@@ -1,14 +1,7 @@
 //! The answers over HTTP.
 ghost use Rattle.std.specs.Prelude.{◌≡◌, ◌++◌, IfOk, OnOk};
-ghost use Rattle.mc_metrics.specs.Scrapes.{
-  body_of,
-  methods_of,
-  response_text,
-  sent_of,
-  status_line_of,
-  type_of,
-  whole,
-};
+ghost use Rattle.mc_metrics.specs.Scrapes.{body_of, methods_of, response_text};
+ghost use Rattle.mc_metrics.specs.Scrapes.{sent_of, status_line_of, type_of, whole};
 
 use itoa::Buffer;
 use std::alloc::{AllocError, Global};

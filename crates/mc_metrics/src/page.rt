@@ -1,22 +1,9 @@
 //! The page of metrics, in the text format 0.0.4 of Prometheus.
 ghost use Rattle.std.specs.Prelude.{◌≡◌, ◌++◌, OnOk, IfOk};
-ghost use Rattle.mc_metrics.specs.Pages.{
-  head_text,
-  sample_text,
-  slab_text,
-  kind_name,
-  each_text,
-  slabs_text,
-  refused_text,
-  known_text,
-  fraction_text,
-  decimals_line,
-  hundredths_line,
-  hundredths_text,
-  samples_text,
-  family_text,
-  families_text,
-};
+ghost use Rattle.mc_metrics.specs.Pages.{head_text, sample_text, slab_text, kind_name, each_text};
+ghost use Rattle.mc_metrics.specs.Pages.{slabs_text, refused_text, known_text, fraction_text};
+ghost use Rattle.mc_metrics.specs.Pages.{decimals_line, hundredths_line, hundredths_text};
+ghost use Rattle.mc_metrics.specs.Pages.{samples_text, family_text, families_text};
 
 use crate::family::{Family, Kind, Samples};
 use crate::reading::{Figure, Reading, RefusedReading, SlabFigure, SlabReading};

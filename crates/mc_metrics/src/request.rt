@@ -7,20 +7,9 @@
 ghost use Rattle.std.specs.Prelude.{◌≡◌, ◌⊎◌, ◌↔◌, ◌≤◌, ℕ, List, length, IfSome, Some, None, if◌then◌else◌, codes, IsTrue};
 ghost use Rattle.httparse.specs.Grammar.{RequestHead, ReadsRequest, HasNoRequest};
 ghost use Rattle.httparse.specs.Spans.{RequestOverflows};
-ghost use Rattle.mc_metrics.specs.Scrapes.{
-  Ends,
-  IsAskedToEnd,
-  MayEnd,
-  answer_at,
-  is_head,
-  is_post,
-  most_fields,
-  page_at,
-  path_of,
-  quit_answer,
-  reply_to,
-  whole,
-};
+ghost use Rattle.mc_metrics.specs.Scrapes.{Ends, IsAskedToEnd, MayEnd, answer_at};
+ghost use Rattle.mc_metrics.specs.Scrapes.{is_head, is_post, most_fields, page_at};
+ghost use Rattle.mc_metrics.specs.Scrapes.{path_of, quit_answer, reply_to, whole};
 
 use crate::access::{is_trusted, up_to};
 use crate::answer::{Answer, Reply};

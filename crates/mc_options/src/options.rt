@@ -1,13 +1,7 @@
 //! The options of the command line.
 ghost use Rattle.std.specs.Prelude.{◌≡◌, ◌≤◌, ◌^◌, min, option_map, IfOk, IfSome, None, codes};
-ghost use Rattle.mc_options.specs.Asked.{
-  IsUpTo,
-  IsAskedFor,
-  IsTimeoutFor,
-  IsGreatestFor,
-  AsksNoShelfCount,
-  IsScrapePlaceFor,
-};
+ghost use Rattle.mc_options.specs.Asked.{IsUpTo, IsAskedFor, IsTimeoutFor, IsGreatestFor};
+ghost use Rattle.mc_options.specs.Asked.{AsksNoShelfCount, IsScrapePlaceFor};
 ghost use Rattle.mc_options.specs.Flags.{IsFlagOf};
 
 use crate::endpoints::{AskedAddress, Endpoint, Endpoints, address_of};
