@@ -17,7 +17,7 @@ pub struct Listeners {
 }
 
 /// What the system lacks for a start.
-#[derive(Debug, Drop)]
+#[derive(Drop)]
 pub enum Wanting {
     /// A descriptor.
     Descriptor(Obstacle),

@@ -13,7 +13,7 @@ use std::io::Stderr;
 use std::os::unix::fs::MetadataExt;
 
 /// The level of a line.
-#[derive(Clone, Copy, Debug)]
+#[derive(Clone, Copy)]
 pub enum Level {
     /// The program ends for it.
     Error,

@@ -12,7 +12,7 @@ use std::alloc::AllocError;
 use std::io;
 
 /// How the program ends.
-#[derive(Debug, Drop)]
+#[derive(Drop)]
 pub enum End {
     /// It served: one session to its end or a fault, or connections until the listener failed.
     ///
@@ -45,14 +45,14 @@ pub enum End {
 }
 
 /// The endpoint at which it can't listen, and why.
-#[derive(Clone, Copy, Debug, Drop)]
+#[derive(Clone, Copy, Drop)]
 pub struct Refusal {
     pub endpoint: Endpoint,
     pub why: Obstacle,
 }
 
 /// Why it can't listen.
-#[derive(Clone, Copy, Debug, Drop)]
+#[derive(Clone, Copy, Drop)]
 pub enum Obstacle {
     /// Something listens there already.
     Taken,
@@ -67,7 +67,7 @@ pub enum Obstacle {
 }
 
 /// The server that was asked to end and didn't accept, and why.
-#[derive(Clone, Copy, Debug, Drop)]
+#[derive(Clone, Copy, Drop)]
 pub struct Denial {
     /// Its port of metrics.
     pub endpoint: Endpoint,
@@ -75,7 +75,7 @@ pub struct Denial {
 }
 
 /// Why a server doesn't end.
-#[derive(Clone, Copy, Debug, Drop)]
+#[derive(Clone, Copy, Drop)]
 pub enum Denied {
     /// Nothing listens there, or nothing takes the request.
     Unreached,

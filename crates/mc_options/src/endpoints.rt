@@ -21,7 +21,7 @@ pub struct AskedAddress {
 }
 
 /// An address and a port at which to listen.
-#[derive(Clone, Copy, Debug, Drop)]
+#[derive(Clone, Copy, Drop)]
 pub struct Endpoint {
     pub address: IpAddr,
     /// The TCP port, 1 to 65535.
