@@ -20,7 +20,7 @@ const CLOSING: u64 = 5;
 const LOOKS: u64 = CLOSING * 1000 / PAUSE;
 
 /// Why no more connections are accepted.
-#[derive(Clone, Copy, Debug, Drop)]
+#[derive(Clone, Copy, Drop)]
 enum Stop {
     /// The listener failed.
     Failed,

@@ -20,7 +20,7 @@ use std::time::Clock;
 const TOO_MANY: &[u8] = b"ERROR Too many open connections\r\n";
 
 /// Why a connection is closed.
-#[derive(Clone, Copy, Debug)]
+#[derive(Clone, Copy)]
 pub enum Parting {
     /// The connection limit is reached.
     OneTooMany,

@@ -17,7 +17,7 @@ const PIECE: usize = 16_384;
 const PIECES: u32 = 128;
 
 /// Whether more is to be dropped.
-#[derive(Clone, Copy, Debug)]
+#[derive(Clone, Copy)]
 pub enum Drain {
     /// There may be more.
     Going,

@@ -5,7 +5,7 @@ ghost use Rattle.mc_sockets.specs.Phases.{phase_number, no_more_come, all_end, a
 use std::sync::atomic::{AtomicU32, Ordering};
 
 /// How far the program has gone with its connections.
-#[derive(Clone, Copy, Debug)]
+#[derive(Clone, Copy)]
 pub enum Phase {
     /// Connections are accepted.
     Open,

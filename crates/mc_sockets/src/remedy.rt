@@ -5,7 +5,7 @@ ghost use Rattle.mc_sockets.specs.Remedies.{remedy_of};
 use std::io;
 
 /// The remedy for an error of accept.
-#[derive(Clone, Copy, Debug)]
+#[derive(Clone, Copy)]
 pub enum Remedy {
     /// The call is made again. The error is of one connection, of the network or of the moment.
     Retry,

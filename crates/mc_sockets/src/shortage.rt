@@ -9,7 +9,7 @@ use std::sync::atomic::{AtomicU64, Ordering};
 const HEAD: u64 = 48;
 
 /// What a refused step needed.
-#[derive(Clone, Copy, Debug, PartialEq, Eq)]
+#[derive(Clone, Copy)]
 pub enum Wanted {
     /// A chunk for an item of this many bytes.
     Size(u64),

@@ -14,7 +14,7 @@ use std::io::{self, ErrorKind, IoSlice, Read, Write};
 const INTERRUPTIONS: u32 = 1000;
 
 /// Why a call moved no bytes.
-#[derive(Clone, Copy, Debug)]
+#[derive(Clone, Copy)]
 pub enum Hindrance {
     /// Nothing is there to be read, or nothing can be taken, now.
     WouldBlock,
@@ -25,7 +25,7 @@ pub enum Hindrance {
 }
 
 /// The answer to a read.
-#[derive(Clone, Copy, Debug)]
+#[derive(Clone, Copy)]
 pub enum Received {
     /// This many bytes, now at the front of the piece.
     Bytes(usize),
@@ -35,7 +35,7 @@ pub enum Received {
 }
 
 /// The answer to a write.
-#[derive(Clone, Copy, Debug)]
+#[derive(Clone, Copy)]
 pub enum Sent {
     /// This many bytes, from the first on.
     Bytes(usize),
