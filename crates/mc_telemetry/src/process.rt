@@ -7,14 +7,8 @@ ghost use Rattle.std.specs.List.{after_last, count_by};
 ghost use Rattle.std.specs.Option.{option_copied};
 ghost use Rattle.std.specs.Str.{byte};
 ghost use Rattle.mc_protocol.specs.Words.{words};
-ghost use Rattle.mc_telemetry.specs.Processes.{
-  cpu_of,
-  field_of,
-  figures_of,
-  names_in,
-  resident_of,
-  sum_of,
-};
+ghost use Rattle.mc_telemetry.specs.Processes.{cpu_of, field_of, figures_of};
+ghost use Rattle.mc_telemetry.specs.Processes.{names_in, resident_of, sum_of};
 
 use mc_metrics::ProcessReading;
 use mc_protocol::{first_word, number_up_to};
