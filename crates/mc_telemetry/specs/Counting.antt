@@ -24,23 +24,34 @@ ways_of (Delete key) = (DeleteHit, DeleteMiss)
 ways_of (Count key up by) = ways_of_count up
 ways_of (FlushStep delay) = (Flush, Flush)
 
--- as what counts what came out so, by the two ways; too large a step, and one on what is no number, count
--- as nothing
-abbrev pub counted_by : (ways : Counted × Counted) → Outcome → Option Counted
-counted_by ways outcome.Hit = Some ways.0
-counted_by ways outcome.Stored = Some ways.0
-counted_by ways outcome.Touched = Some ways.0
-counted_by ways outcome.Deleted = Some ways.0
-counted_by ways outcome.Number = Some ways.0
-counted_by ways outcome.Flushed = Some ways.0
-counted_by ways outcome.Miss = Some ways.1
-counted_by ways outcome.NotFound = Some ways.1
-counted_by ways outcome.NotStored = Some ways.1
-counted_by ways outcome.Exists = Some CasBadval
-counted_by ways outcome.NoChunk = Some Refused
-counted_by ways outcome.NotNumeric = None
-counted_by ways outcome.TooLarge = None
+-- as what a step counts that found its item changed; a cas alone asks for that
+abbrev pub badval_of : KeyStep → Option Counted
+badval_of (Store verb key flags exptime block) = None
+badval_of (Cas key flags exptime block unique) = Some CasBadval
+badval_of (Read key) = None
+badval_of (ReadTouch key exptime) = None
+badval_of (Touch key exptime) = None
+badval_of (Delete key) = None
+badval_of (Count key up by) = None
+badval_of (FlushStep delay) = None
+
+-- as what counts what came out so, by the two ways and as what it counts on a changed item; too large a step,
+-- and one on what is no number, count as nothing
+abbrev pub counted_by : (ways : Counted × Counted) (badval : Option Counted) → Outcome → Option Counted
+counted_by ways badval outcome.Hit = Some ways.0
+counted_by ways badval outcome.Stored = Some ways.0
+counted_by ways badval outcome.Touched = Some ways.0
+counted_by ways badval outcome.Deleted = Some ways.0
+counted_by ways badval outcome.Number = Some ways.0
+counted_by ways badval outcome.Flushed = Some ways.0
+counted_by ways badval outcome.Miss = Some ways.1
+counted_by ways badval outcome.NotFound = Some ways.1
+counted_by ways badval outcome.NotStored = Some ways.1
+counted_by ways badval outcome.Exists = badval
+counted_by ways badval outcome.NoChunk = Some Refused
+counted_by ways badval outcome.NotNumeric = None
+counted_by ways badval outcome.TooLarge = None
 
 -- as what a step counts that came out so
 abbrev pub counted_as : KeyStep → Outcome → Option Counted
-counted_as step out = counted_by (ways_of step) out
+counted_as step out = counted_by (ways_of step) (badval_of step) out

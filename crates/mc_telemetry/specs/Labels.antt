@@ -35,25 +35,30 @@ vain_of (step.Store verb key flags exptime block) = codes "hit"
 vain_of (step.Flush delay) = codes "hit"
 vain_of other = codes "miss"
 
--- what is shown of a step of this command, which may have been in vain; a cas alone comes out as Exists
-abbrev pub shown_by : (command vain : List ℕ) → Outcome → Option Label
-shown_by command vain outcome.Hit = Some (command, codes "hit")
-shown_by command vain outcome.Stored = Some (command, codes "hit")
-shown_by command vain outcome.Touched = Some (command, codes "hit")
-shown_by command vain outcome.Deleted = Some (command, codes "hit")
-shown_by command vain outcome.Number = Some (command, codes "hit")
-shown_by command vain outcome.Flushed = Some (command, codes "hit")
-shown_by command vain outcome.Miss = Some (command, vain)
-shown_by command vain outcome.NotFound = Some (command, vain)
-shown_by command vain outcome.NotStored = Some (command, vain)
-shown_by command vain outcome.Exists = Some (codes "cas", codes "badval")
-shown_by command vain outcome.NoChunk = None
-shown_by command vain outcome.NotNumeric = None
-shown_by command vain outcome.TooLarge = None
+-- what is shown of a step that found its item changed; a cas alone asks for that
+abbrev pub clash_of : KeyStep → Option Label
+clash_of (step.Cas key flags exptime block unique) = Some (codes "cas", codes "badval")
+clash_of other = None
+
+-- what is shown of a step of this command, which may have been in vain, or have found its item changed
+abbrev pub shown_by : (command vain : List ℕ) (clash : Option Label) → Outcome → Option Label
+shown_by command vain clash outcome.Hit = Some (command, codes "hit")
+shown_by command vain clash outcome.Stored = Some (command, codes "hit")
+shown_by command vain clash outcome.Touched = Some (command, codes "hit")
+shown_by command vain clash outcome.Deleted = Some (command, codes "hit")
+shown_by command vain clash outcome.Number = Some (command, codes "hit")
+shown_by command vain clash outcome.Flushed = Some (command, codes "hit")
+shown_by command vain clash outcome.Miss = Some (command, vain)
+shown_by command vain clash outcome.NotFound = Some (command, vain)
+shown_by command vain clash outcome.NotStored = Some (command, vain)
+shown_by command vain clash outcome.Exists = clash
+shown_by command vain clash outcome.NoChunk = None
+shown_by command vain clash outcome.NotNumeric = None
+shown_by command vain clash outcome.TooLarge = None
 
 -- the command and the result under which a step is shown that came out so
 abbrev pub shown_as : KeyStep → Outcome → Option Label
-shown_as taken out = shown_by (command_of taken) (vain_of taken) out
+shown_as taken out = shown_by (command_of taken) (vain_of taken) (clash_of taken) out
 
 -- the command and the result of the steps that a counter counts
 abbrev pub label_of : Counted → Option Label

@@ -1,6 +1,6 @@
 //! Which counter a step raises.
 ghost use Rattle.std.specs.Prelude.{◌≡◌};
-ghost use Rattle.mc_telemetry.specs.Counting.{counted_as, ways_of};
+ghost use Rattle.mc_telemetry.specs.Counting.{badval_of, counted_as, ways_of};
 
 use mc_guests::Outcome;
 use mc_metrics::Counted;
@@ -19,7 +19,7 @@ pub fn counted_as(step: &KeyStep<'_>, outcome: Outcome) -> Option<Counted>
         | Outcome::Number
         | Outcome::Flushed => Some(hit_of(step)),
         Outcome::Miss | Outcome::NotFound | Outcome::NotStored => Some(miss_of(step)),
-        Outcome::Exists => Some(Counted::CasBadval),
+        Outcome::Exists => badval_of(step),
         Outcome::NoChunk => Some(Counted::Refused),
         Outcome::NotNumeric | Outcome::TooLarge => None,
     }
@@ -38,6 +38,22 @@ fn hit_of(step: &KeyStep<'_>) -> Counted
         KeyStep::Count { up: true, .. } => Counted::IncrHit,
         KeyStep::Count { up: false, .. } => Counted::DecrHit,
         KeyStep::Flush { .. } => Counted::Flush,
+    }
+}
+
+/// Returns the counter of a step that found its item changed. A cas alone asks for that.
+fn badval_of(step: &KeyStep<'_>) -> Option<Counted>
+    ensures { result ≡ badval_of step.now }
+{
+    match step {
+        KeyStep::Cas { .. } => Some(Counted::CasBadval),
+        KeyStep::Store { .. }
+        | KeyStep::Read { .. }
+        | KeyStep::ReadTouch { .. }
+        | KeyStep::Touch { .. }
+        | KeyStep::Delete { .. }
+        | KeyStep::Count { .. }
+        | KeyStep::Flush { .. } => None,
     }
 }
 
