@@ -1,9 +1,8 @@
 //! A link that makes few large writes of many small ones.
 //!
 //! Output is gathered up to 64 KiB and sent before the next read, so a batch costs one receive and
-//! one send. A piece of 32 KiB or more is sent from where it lies, in one call with what was
-//! gathered, and one of 1 KiB or more if no request is at hand. A connection with unsent output
-//! isn't read.
+//! one send. A piece of 32 KiB or more, and the last answer of a batch, are sent from where they lie,
+//! in one call with what was gathered. A connection with unsent output isn't read.
 ghost use Rattle.mc_bytes.specs.Queues.{first_piece};
 ghost use Rattle.std.specs.Prelude.{◌≡◌, ◌≤◌, ◌↔◌, ◌-◌, ◌^◌, ◌++◌, [], length, Ok, IsTrue, IsFalse, true, false};
 ghost use Rattle.mc_guests.specs.Links.{Gives, IsWrite};
@@ -25,11 +24,6 @@ const HANDED_ON: usize = 32_768;
 
 /// The most bytes of such a text in one write, so that others needn't wait for long.
 const LONGEST: usize = 524_288;
-
-/// A text of at least this many bytes is written at once too if no request is at hand.
-///
-/// It costs the calls of the system that it would cost later, and isn't copied.
-const SENT_SOON: usize = 1024;
 
 /// A link over another, which gathers output.
 ///
@@ -125,22 +119,17 @@ impl<L: Link + Drop> Gathering<L> {
         }
     }
 
-    /// Gathers bytes if they are few, and there is room and memory. Returns whether it did.
+    /// Gathers bytes if they are few and may wait, and there is room and memory. Returns whether it
+    /// did.
     fn gather(&mut self, bytes: &[u8]) -> bool
         ensures yes { IsTrue result →
             self.new ≡ record self.old { gathered = self.old.gathered ++ bytes.now } }
         ensures no { IsFalse result → self.new ≡ self.old }
     {
-        bytes.len() < self.least_sent()
+        !self.is_soon
+            && bytes.len() < HANDED_ON
             && self.gathered.len() <= GATHERED - bytes.len()
             && self.gathered.push(bytes).is_ok()
-    }
-
-    /// Returns the length from which on a text isn't gathered.
-    fn least_sent(&self) -> usize
-        ensures { result ≤ 65536 }
-    {
-        if self.is_soon { SENT_SOON } else { HANDED_ON }
     }
 
     /// Writes the gathered bytes and then these to the link below once.

@@ -21,7 +21,9 @@ use mc_time::Moment;
 use std::alloc::{AllocError, Global};
 use std::marker::Model;
 
-/// The least output of which its link learns whether a request is at hand.
+/// The least output that is sent at once if the next request isn't whole.
+///
+/// To find that out costs more than to gather a shorter one.
 const LONG: usize = 1024;
 
 /// What a visit did.
@@ -144,11 +146,14 @@ impl<L: Link + Drop> Guest<L> {
         self.longest > FIRST_PIECE && self.session.is_empty() && self.unsent_bytes() == 0
     }
 
-    /// Notes at its link that no request is at hand, if so and its output is long.
+    /// Notes at its link that no request is at hand: nothing is unread, or what is isn't a whole
+    /// request and the output is long.
     fn hasten(&mut self)
         ensures { self.new ≡ self.old }
     {
-        if self.session.out().len() >= LONG && self.session.is_idle() {
+        if self.session.has_nothing_unread()
+            || (self.session.out().len() >= LONG && self.session.is_idle())
+        {
             self.tap.link.send_soon();
         }
     }

@@ -187,9 +187,10 @@ impl Session {
         }
     }
 
-    /// Returns whether no byte is unread, so that no turn is due.
-    fn has_nothing_unread(&self) -> bool
-        ensures { IsTrue result → NoTurnDue self.now }
+    /// Returns whether no byte is unread, so that no turn of an open session is due.
+    pub fn has_nothing_unread(&self) -> bool
+        ensures unread { IsTrue result ↔ (length self.now.unread.bytes ≡ 0) }
+        ensures due { IsTrue result → NoTurnDue self.now }
     {
         self.feed.held() == 0
     }
