@@ -126,6 +126,13 @@ impl<L: Link + Drop> Guests<L> {
         self.row.len() == 0
     }
 
+    /// Returns how many are awake.
+    pub fn awake(&self) -> usize
+        ensures { result ≡ self.now.awake }
+    {
+        self.awake
+    }
+
     /// Returns whether none is awake, and no waiting guest may be tried again.
     pub fn is_quiet(&self) -> bool
         ensures { result ≡ quiet self.now }

@@ -59,6 +59,12 @@ impl Links<Silent> for Crowd {
     fn rest(&mut self) {
         self.rests = self.rests.saturating_add(1);
     }
+
+    fn is_due(&self) -> bool {
+        false
+    }
+
+    fn look(&mut self) {}
 }
 
 /// What was admitted of a crowd before each of two rounds.

@@ -107,7 +107,7 @@ impl Inbox {
 ///
 /// No wake-up is lost: a worker sets `rests` before it checks for the last time whether a
 /// connection waits, and the acceptor reads `rests` after it appended one. A worker that doesn't
-/// rest checks after each poll, which comes after 16 rounds at the latest.
+/// rest checks between two series of rounds.
 #[derive(Drop)]
 pub struct Arrivals {
     inboxes: Vec<Inbox>,

@@ -59,6 +59,14 @@ impl<'a, R: Wait + Clock> Links<SocketLink> for ClosingLinks<'a, R> {
         self.links.ticks()
     }
 
+    fn is_due(&self) -> bool {
+        self.links.is_due()
+    }
+
+    fn look(&mut self) {
+        self.links.look()
+    }
+
     fn ask_again(&mut self, number: u64) {
         self.links.ask_again(number)
     }

@@ -28,12 +28,7 @@ pub const WAKER: Token = Token(0);
 /// The most events of one poll.
 pub const EVENTS: usize = 1024;
 
-/// After this many calls for the next link the system is polled, even if there is always work.
-///
-/// A worker calls once between two rounds, and once more after each new link.
-const ASKED: u32 = 16;
-
-/// After this many moved bytes it is polled too.
+/// After this many moved bytes the system is polled, even if there is always work.
 const MOVED: usize = 1_048_576;
 
 /// How long a tick is, in milliseconds.
@@ -110,8 +105,6 @@ pub struct SocketLinks<'a, R: Wait + Clock> {
     seats: Seats<SharedReadiness>,
     /// What the links share; `None` before the first link.
     common: Option<Common>,
-    /// The number of calls for a link since the last poll.
-    asked: u32,
     /// Whether the last call for a link returned one.
     gave: bool,
     /// Finds idle connections; `None` without an idle timeout.
@@ -152,7 +145,6 @@ impl<'a, R: Wait + Clock> SocketLinks<'a, R> {
             events,
             seats: Seats::new(alloc),
             common: None,
-            asked: 0,
             gave: false,
             watch: None,
             quiet: Parting::Idle,
@@ -180,7 +172,6 @@ impl<'a, R: Wait + Clock> SocketLinks<'a, R> {
     /// It reads the clock once. The poll reports all events up to the return of the poll before, so
     /// a link that had none is idle until then.
     fn wait_for_events(&mut self, timeout: Duration) {
-        self.asked = 0;
         if let Some(common) = &self.common {
             common.moved.set(0);
         }
@@ -325,22 +316,6 @@ impl<'a, R: Wait + Clock> SocketLinks<'a, R> {
         Some(common)
     }
 
-    /// Returns whether it is time to poll.
-    fn is_due(&self) -> bool {
-        let moved = match &self.common {
-            Some(common) => common.moved.get(),
-            None => 0,
-        };
-        self.asked >= ASKED || moved >= MOVED
-    }
-
-    /// Returns whether this is the first call for a link since the last poll.
-    ///
-    /// A rest polls, and doesn't wait if a connection does. So newcomers wait no longer than events.
-    fn has_polled(&self) -> bool {
-        self.asked <= 1
-    }
-
     /// Ends all connections, and answers that no more links come.
     ///
     /// Right after a new link it answers `Later`, so that this link is visited before it ends.
@@ -360,14 +335,7 @@ impl<'a, R: Wait + Clock> SocketLinks<'a, R> {
 
 impl<'a, R: Wait + Clock> Links<SocketLink> for SocketLinks<'a, R> {
     fn next(&mut self) -> Next<SocketLink> {
-        self.asked = self.asked.saturating_add(1);
-        if self.is_due() {
-            self.wait_for_events(Duration::ZERO);
-        }
         let gave = mem::replace(&mut self.gave, false);
-        if !gave && !self.has_polled() {
-            return Next::Later;
-        }
         for _one in 0..PASSED {
             let Some(connection) = self.arrivals.pop(self.rt, &mut self.share) else {
                 if self.arrivals.is_over() {
@@ -399,6 +367,18 @@ impl<'a, R: Wait + Clock> Links<SocketLink> for SocketLinks<'a, R> {
 
     fn ticks(&mut self) -> u64 {
         self.ticks
+    }
+
+    /// Returns whether they moved so much that others may have waited for long.
+    fn is_due(&self) -> bool {
+        match &self.common {
+            Some(common) => common.moved.get() >= MOVED,
+            None => false,
+        }
+    }
+
+    fn look(&mut self) {
+        self.wait_for_events(Duration::ZERO);
     }
 
     fn ask_again(&mut self, number: u64) {

@@ -1,10 +1,10 @@
 -- What a worker does, round by round.
-use Rattle.std.specs.Prelude.{◌≡◌, ◌<◌, ◌≤◌, ◌%◌, ℕ, List, Bool, true, false}
+use Rattle.std.specs.Prelude.{◌≡◌, ◌<◌, ◌≤◌, ◌%◌, ◌-◌, ℕ, List, Bool, true, false}
 use Rattle.mc_protocol.specs.declared.step.Steps.{Ghosts as Relations}
 use Rattle.mc_shelf.specs.Stores.{StoreState}
 use Rattle.mc_shared.specs.Shown.{CallerState}
 use Rattle.mc_shared.specs.Asking.{AskingState, AsksStep, AsksInVain}
-use Rattle.mc_guests.specs.Books.{BooksState, SettlesFrom, no_books}
+use Rattle.mc_guests.specs.Books.{BooksState, SettlesFrom, no_books, quiet}
 use Rattle.mc_guests.specs.Budgets.{unused}
 use Rattle.mc_guests.specs.Doors.{OpensForAll, shut}
 use Rattle.mc_guests.specs.Turns.{VisitsAll}
@@ -17,8 +17,8 @@ use Rattle.mc_guests.specs.declared.guests.WorkEnd.{WorkEnd}
 abbrev pub as_caller : {K : Type 0} → (K → List ℕ → ℕ) → Relations (AskingState K)
 as_caller hash_of = record { took = AsksStep hash_of; spent = AsksInVain hash_of; same = λ old new. new ≡ old }
 
--- what a worker has between two rounds: its caller, its guests, its door, what it counted, the shelf whose turn it is to be
--- tidied, modulo their number, and the moment of the round before
+-- what a worker has when its door was opened: its caller, its guests, its door, what it counted, the shelf whose turn it is
+-- to be tidied, modulo their number, and the moment of the rounds before
 pub record WorkState (K : Type 0) : Type 0 where
   pub asking : AskingState K
   pub books : BooksState
@@ -46,46 +46,60 @@ module _ {K : Type 0} (hash_of : K → List ℕ → ℕ) where
         → Tidied hash_of now (tidied_at_once old.began.settings.shelves) (turn % old.began.settings.shelves) next old new
     pub stands : now ≤ before → (new ≡ old) × (next ≡ turn)
 
-  -- dead items were dropped when the clock had risen, and then those that were awake were visited, at
-  -- one moment
-  pub record TidiesAndVisits (before now turn next : ℕ) (old new : AskingState K) (books later : BooksState) : Type 0 where
-    pub between : AskingState K
-    pub tidies : TidiesWhereRisen before now turn next old between
-    pub visits : VisitsAll (as_caller hash_of) now books later between new
-
-  -- One round, at a moment that the clock may give: tidying and visits, those that ended go, the slowest are judged, and the
-  -- door is opened for those that wait.
-  pub record WorksRound (may_give : ℕ → Type 0) (old new : WorkState K) (goes_on : Bool) : Type 0 where
-    pub given : may_give new.moment
+  -- one round: all that are awake are visited at a moment, and then those that ended go and those with nothing to do sleep
+  pub record VisitsAndSettles (now : ℕ) (old new : AskingState K) (books later : BooksState) (before after : WorkEnd) : Type 0 where
     pub visited : BooksState
+    pub visits : VisitsAll (as_caller hash_of) now books visited old new
+    pub settles : SettlesFrom 0 visited later before after
+
+  -- Rounds at a moment. So many of 64 visits are left, those to guests that were awake before each. Before each round
+  -- behind the first one was left, and somebody was awake.
+  pub data HaveRounds (now : ℕ) : (left : ℕ) (old new : AskingState K) (books later : BooksState) (before after : WorkEnd) → Type 0 where
+    one : {old new : AskingState K} {books later : BooksState} {before after : WorkEnd}
+        → VisitsAndSettles now old new books later before after → HaveRounds now (64 - books.awake) old new books later before after
+    and_one : {left : ℕ} {old between new : AskingState K} {books mid later : BooksState} {before counted after : WorkEnd}
+        → HaveRounds now left old between books mid before counted → 0 < left → quiet mid ≡ false
+        → VisitsAndSettles now between new mid later counted after
+        → HaveRounds now (left - mid.awake) old new books later before after
+
+  -- rounds at a moment
+  pub record MakesRounds (now : ℕ) (old new : AskingState K) (books later : BooksState) (before after : WorkEnd) : Type 0 where
+    pub left : ℕ
+    pub rounds : HaveRounds now left old new books later before after
+
+  -- From one opening of the door to the next, at a moment that the clock may give: dead items are dropped when the clock had
+  -- risen, rounds are made, the slowest are judged, and the door is opened for those that wait.
+  pub record WorksOnce (may_give : ℕ → Type 0) (old new : WorkState K) (goes_on : Bool) : Type 0 where
+    pub given : may_give new.moment
+    pub tidied : AskingState K
     pub settled : BooksState
     pub roomy : BooksState
     pub counted : WorkEnd
-    pub visits : TidiesAndVisits old.moment new.moment old.turn new.turn old.asking new.asking old.books visited
-    pub settles : SettlesFrom 0 visited settled old.end counted
+    pub tidies : TidiesWhereRisen old.moment new.moment old.turn new.turn old.asking tidied
+    pub rounds : MakesRounds new.moment tidied new.asking old.books settled old.end counted
     pub judges : MakesRoom settled roomy
     pub opens : OpensForAll old.door new.door roomy new.books counted new.end goes_on
 
-  -- rounds, one after another, each of which said that more can come
+  -- openings of the door, one after another, each of which said that more can come
   pub data Works (may_give : ℕ → Type 0) : (old new : WorkState K) → Type 0 where
     nothing : {state : WorkState K} → Works may_give state state
-    and_round : {old between new : WorkState K} → Works may_give old between → WorksRound may_give between new true
+    and_once : {old between new : WorkState K} → Works may_give old between → WorksOnce may_give between new true
         → Works may_give old new
 
-  -- from its beginning on it made rounds, and each said that more can come
+  -- from its beginning on it worked, and each opening said that more can come
   pub record WorksSince (may_give : ℕ → Type 0) (first share : ℕ) (began : StoreState K) (caller : CallerState)
       (state : WorkState K) : Type 0 where
     pub moment : ℕ
     pub given : may_give moment
-    pub rounds : Works may_give (begins first share began caller moment) state
+    pub works : Works may_give (begins first share began caller moment) state
 
-  -- It made rounds until one said that nothing can come any more, and gives back the caller that made them and what it
-  -- counted.
+  -- It worked until an opening said that nothing can come any more, and gives back the caller that took the steps and what
+  -- it counted.
   pub record WorksToEnd (may_give : ℕ → Type 0) (first share : ℕ) (began : StoreState K) (caller : CallerState)
       (given_back : CallerState × WorkEnd) : Type 0 where
     pub last : WorkState K
     pub final : WorkState K
-    pub rounds : WorksSince may_give first share began caller last
-    pub ends : WorksRound may_give last final false
+    pub since : WorksSince may_give first share began caller last
+    pub ends : WorksOnce may_give last final false
     pub past : given_back.0.past ≡ final.asking.past
     pub end : given_back.1 ≡ final.end

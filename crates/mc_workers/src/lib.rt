@@ -19,7 +19,6 @@
 #![tactic(auto)]
 
 mod counting;
-mod reading;
 mod tending;
 mod worker;
 

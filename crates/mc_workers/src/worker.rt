@@ -8,10 +8,9 @@ ghost use Rattle.mc_shared.specs.Asking.{GoesFurther, Further};
 ghost use Rattle.mc_shared.specs.History.{start_of};
 ghost use Rattle.mc_shared.specs.Steps.{Agrees};
 ghost use Rattle.mc_workers.specs.Room.{MakesRoom, JudgesUpTo};
-ghost use Rattle.mc_workers.specs.Rounds.{TidiesAndVisits, TidiesWhereRisen, WorksToEnd};
+ghost use Rattle.mc_workers.specs.Rounds.{MakesRounds, TidiesWhereRisen, VisitsAndSettles, WorksToEnd};
 
 use crate::counting::Counting;
-use crate::reading::Reading;
 use crate::tending::Tending;
 use mc_guests::{Budget, Door, Guests, Judged, Link, Links, NoTally, Tally, WorkEnd};
 use mc_hop::KeyHash;
@@ -19,6 +18,9 @@ use mc_shared::{Caller, Gate, Shared};
 use mc_time::{Clock, Moment};
 use std::alloc::Global;
 use std::sync::Wait;
+
+/// After this many visits the links look for events, even if a guest is awake.
+const VISITS: usize = 64;
 
 /// The settings of a worker's loop.
 #[derive(Drop)]
@@ -41,11 +43,11 @@ pub struct Worker<'a, G: Gate, T: Tally, C: Clock> {
 impl<'a, G: Gate, T: Tally, C: Clock> Worker<'a, G, T, C> {
     /// Serves links until no link comes any more and all sessions have ended.
     ///
-    /// It makes rounds of the guests that are awake. After each round it admits up to 32 new links.
-    /// Each step is followed by the growth of its key's shelf by 8 entries. When the clock has
-    /// risen, a round begins by dropping the dead items of the next shelf in turn; with more than
-    /// 64 shelves it takes several, so that 64 risings reach all shelves. A round has one moment for
-    /// all of its visits. The clock is read after each rest, and at the latest after 16 rounds.
+    /// It makes rounds of the guests that are awake until none is, or 64 visits were made, and then
+    /// admits up to 32 new links. The clock is read before these rounds, and all of their visits
+    /// have its moment. When it has risen, the dead items of the next shelf in turn are dropped
+    /// first; with more than 64 shelves it takes several, so that 64 risings reach all shelves. Each
+    /// step is followed by the growth of its key's shelf by 8 entries.
     ///
     /// The caller is returned with further calls in its past and nothing else, each at a moment
     /// that the clock may give; there is a legal history that keeps this past. A fault of one link,
@@ -74,13 +76,13 @@ impl<'a, G: Gate, T: Tally, C: Clock> Worker<'a, G, T, C> {
             broken: 0,
             refused: 0,
         };
-        let mut reading = Reading::of(self.clock);
-        let mut before = reading.now;
+        let mut before = self.clock.now();
         let mut turn = self.first;
         for _ in rt.forever() {
-            let now = reading.for_round(self.clock, door.talk.has_rested);
-            turn = make_round(alloc, &mut guests, &mut counting, turn, before, now);
-            guests.settle(&mut end);
+            let now = self.clock.now();
+            turn = tidy_if_risen(&mut counting, turn, before, now);
+            make_rounds(alloc, &mut guests, &mut counting, links, &mut end, now);
+            look_if_busy(&guests, links);
             guests.report(self.tally);
             make_room(&mut guests, links);
             if !door.open_for_all(alloc, links, &mut guests, &mut end) {
@@ -119,32 +121,62 @@ pub fn work<R: Wait, K: KeyHash + Drop, L: Link + Drop, Q: Links<L>, G: Gate, C:
     worker.work(rt, alloc, shared, caller, links)
 }
 
-/// Makes a round: tidies the next shelves if the clock has risen, then visits all awake guests.
+/// Makes a round at a moment, and further ones as long as a guest is awake, fewer than 64 visits
+/// were made, and the links aren't due.
 ///
-/// All visits are at one moment. Returns the shelf whose turn is next.
-///
-/// The clocks of all workers rise at once. A worker that tidies its own shelves first doesn't want
-/// a shelf that another tidies.
+/// A request takes four visits, and the links have nothing to add between them.
+fn make_rounds<R: Wait, K: KeyHash + Drop, L: Link + Drop, Q: Links<L>, G: Gate, T: Tally>(
+    alloc: Global,
+    guests: &mut Guests<L>,
+    counting: &mut Counting<'_, Tending<'_, R, K, G>, T>,
+    links: &Q,
+    end: &mut WorkEnd,
+    now: Moment,
+)
+    ensures further { GoesFurther (λ moment. moment ≡ now) counting.old counting.new }
+    ensures rounds { MakesRounds K.hash_of now counting.old counting.new guests.old guests.new
+        end.old end.new }
+{
+    let mut left = VISITS.saturating_sub(guests.awake());
+    make_round(alloc, guests, counting, end, now);
+    for _ in 0..VISITS {
+        if left == 0 || guests.is_quiet() || links.is_due() {
+            return;
+        }
+        left = left.saturating_sub(guests.awake());
+        make_round(alloc, guests, counting, end, now);
+    }
+}
+
+/// Lets the links look for events if a guest is awake. Otherwise they will rest.
+fn look_if_busy<L: Link + Drop, Q: Links<L>>(guests: &Guests<L>, links: &mut Q) {
+    if !guests.is_quiet() {
+        links.look();
+    }
+}
+
+/// Makes a round at a moment: visits all awake guests, drops those that ended, and puts idle ones to
+/// sleep.
+#[inline]
 fn make_round<R: Wait, K: KeyHash + Drop, L: Link + Drop, G: Gate, T: Tally>(
     alloc: Global,
     guests: &mut Guests<L>,
     counting: &mut Counting<'_, Tending<'_, R, K, G>, T>,
-    turn: u32,
-    before: Moment,
+    end: &mut WorkEnd,
     now: Moment,
-) -> u32
+)
     ensures further { GoesFurther (λ moment. moment ≡ now) counting.old counting.new }
-    ensures round { TidiesAndVisits K.hash_of before now turn result counting.old counting.new
-        guests.old guests.new }
+    ensures round { VisitsAndSettles K.hash_of now counting.old counting.new guests.old guests.new
+        end.old end.new }
 {
-    let next = tidy_if_risen(counting, turn, before, now);
     guests.visit_all(alloc, counting, now);
-    next
+    guests.settle(end);
 }
 
 /// Drops the dead items of the next shelves if the clock has risen.
 ///
-/// Returns the shelf whose turn is next.
+/// Returns the shelf whose turn is next. The clocks of all workers rise at once. A worker that
+/// tidies its own shelves first doesn't want a shelf that another tidies.
 fn tidy_if_risen<R: Wait, K: KeyHash + Drop, G: Gate, T: Tally>(
     counting: &mut Counting<'_, Tending<'_, R, K, G>, T>,
     turn: u32,

@@ -234,4 +234,10 @@ impl<'a> Links<HeldLink<'a>> for HeldLinks<'a> {
     }
 
     fn rest(&mut self) {}
+
+    fn is_due(&self) -> bool {
+        false
+    }
+
+    fn look(&mut self) {}
 }

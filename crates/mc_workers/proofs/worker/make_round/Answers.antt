@@ -9,13 +9,8 @@ at now moment = moment ≡ now
 
 pub returns-clause-further : goal.returns-clause-further
 returns-clause-further g c =
-    goes_both (at c.args.now) _ _ _ c.tidy_if_risen-next.ensures.further
-    (round_keeps _ c.args.now (GoesFurther (at c.args.now) {K = g.row.K.Denot}) (goes_none (at c.args.now)) (goes_same (at c.args.now))
-    (λ a step reply b asks. goes_once (at c.args.now) _ _ a b refl asks) (goes_both (at c.args.now)) _ _ c.visit_all.ensures.round)
+    round_keeps _ c.args.now (GoesFurther (at c.args.now) {K = g.row.K.Denot}) (goes_none (at c.args.now)) (goes_same (at c.args.now))
+    (λ a step reply b asks. goes_once (at c.args.now) _ _ a b refl asks) (goes_both (at c.args.now)) _ _ c.visit_all.ensures.round
 
 pub returns-clause-round : goal.returns-clause-round
-returns-clause-round g c = record {
-  between = c.tidy_if_risen-next.new.counting;
-  tidies = c.tidy_if_risen-next.ensures.tidies;
-  visits = c.visit_all.ensures.visits;
-}
+returns-clause-round g c = record { visited = c.visit_all.new.self; visits = c.visit_all.ensures.visits; settles = c.settle.ensures }

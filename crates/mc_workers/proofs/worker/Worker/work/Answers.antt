@@ -11,50 +11,50 @@ use Rattle.mc_workers.proofs.worker.Worker.work.Goals as goal
 pub loop-init : goal.loop-init
 loop-init g c = (
   goes_same _ _ _ (c.new-counting.ensures ∙ c.new-tending.ensures),
-  works_from g.K.KeyHash.hash_of (g.C.Clock.may_give c.args.self.now.clock.now) c.args.self.now.first c.args.self.now.share c.args.shared.now.began c.args.caller c.of-reading.result.now
-      c.new-counting.result c.new-guests.result c.new-door.result c.of-reading.ensures.given (c.new-counting.ensures ∙ c.new-tending.ensures)
+  works_from g.K.KeyHash.hash_of (g.C.Clock.may_give c.args.self.now.clock.now) c.args.self.now.first c.args.self.now.share c.args.shared.now.began c.args.caller c.now-before.result
+      c.new-counting.result c.new-guests.result c.new-door.result c.now-before.ensures (c.new-counting.ensures ∙ c.new-tending.ensures)
       c.greatest-2.result (c.new-guests.ensures ∙ ap (λ (b : Budget). no_books b) c.new.ensures) c.greatest-2.ensures
       c.greatest.result c.new-door.ensures c.greatest.ensures,
-  c.of-reading.ensures.given,
 )
 
 pub loop-preserved : goal.loop-preserved
 loop-preserved g c = (
-  goes_both _ _ _ _ c.loop.invariant.0 (goes_at _ _ (c.for_round-now.ensures.given c.loop.invariant.2) _ _ c.make_round-turn.ensures.further),
+  goes_both _ _ _ _ (goes_both _ _ _ _ c.loop.invariant.0 (goes_at _ _ c.now-now.ensures _ _ c.tidy_if_risen-turn.ensures.further))
+      (goes_at _ _ c.now-now.ensures _ _ c.make_rounds.ensures.further),
   works_on g.K.KeyHash.hash_of (g.C.Clock.may_give c.args.self.now.clock.now) c.args.self.now.first c.args.self.now.share c.args.shared.now.began c.args.caller _
       (record {
-        asking = c.make_round-turn.new.counting;
+        asking = c.make_rounds.new.counting;
         books = c.open_for_all.new.guests;
         door = c.open_for_all.new.self;
         end = c.open_for_all.new.end;
-        turn = c.make_round-turn.result;
-        moment = c.for_round-now.result;
+        turn = c.tidy_if_risen-turn.result;
+        moment = c.now-now.result;
       })
-      c.make_round-turn.new.guests c.settle.new.self c.make_room.new.guests c.settle.new.end c.open_for_all.result c.loop.invariant.1 (c.for_round-now.ensures.given c.loop.invariant.2)
-      c.make_round-turn.ensures.round
-      c.settle.ensures (subst (λ (b : BooksState). MakesRoom b c.make_room.new.guests) c.report.ensures c.make_room.ensures)
+      c.tidy_if_risen-turn.new.counting c.make_rounds.new.guests c.make_room.new.guests c.make_rounds.new.end c.open_for_all.result c.loop.invariant.1 c.now-now.ensures
+      c.tidy_if_risen-turn.ensures.tidies c.make_rounds.ensures.rounds
+      (subst (λ (b : BooksState). MakesRoom b c.make_room.new.guests) c.report.ensures c.make_room.ensures)
       c.open_for_all.ensures (cc),
-  subst (g.C.Clock.may_give c.args.self.now.clock.now) (sym c.for_round-now.ensures.kept) (c.for_round-now.ensures.given c.loop.invariant.2),
 )
 
 pub returns-then-not-open_for_all-clause-calls : goal.returns-then-not-open_for_all-clause-calls
 returns-then-not-open_for_all-clause-calls g c =
     subst (λ (p : Past). Further (g.C.Clock.may_give c.args.self.now.clock.now) c.args.caller.past p)
     (sym (c.into_caller.ensures.same.1 ∙ ap (λ (s : AskingState g.row.K.Denot). s.past) c.into_steps.ensures))
-    (goes_both _ _ _ _ c.loop.invariant.0 (goes_at _ _ (c.for_round-now.ensures.given c.loop.invariant.2) _ _ c.make_round-turn.ensures.further)).calls
+    (goes_both _ _ _ _ (goes_both _ _ _ _ c.loop.invariant.0 (goes_at _ _ c.now-now.ensures _ _ c.tidy_if_risen-turn.ensures.further))
+    (goes_at _ _ c.now-now.ensures _ _ c.make_rounds.ensures.further)).calls
 
 pub returns-then-not-open_for_all-clause-works : goal.returns-then-not-open_for_all-clause-works
 returns-then-not-open_for_all-clause-works g c =
     works_over g.K.KeyHash.hash_of (g.C.Clock.may_give c.args.self.now.clock.now) c.args.self.now.first c.args.self.now.share c.args.shared.now.began c.args.caller _
     (record {
-      asking = c.make_round-turn.new.counting;
+      asking = c.make_rounds.new.counting;
       books = c.open_for_all.new.guests;
       door = c.open_for_all.new.self;
       end = c.open_for_all.new.end;
-      turn = c.make_round-turn.result;
-      moment = c.for_round-now.result;
+      turn = c.tidy_if_risen-turn.result;
+      moment = c.now-now.result;
     })
-    c.make_round-turn.new.guests c.settle.new.self c.make_room.new.guests c.settle.new.end c.open_for_all.result _ c.loop.invariant.1 (c.for_round-now.ensures.given c.loop.invariant.2)
-    c.make_round-turn.ensures.round
-    c.settle.ensures (subst (λ (b : BooksState). MakesRoom b c.make_room.new.guests) c.report.ensures c.make_room.ensures) c.open_for_all.ensures (cc)
+    c.tidy_if_risen-turn.new.counting c.make_rounds.new.guests c.make_room.new.guests c.make_rounds.new.end c.open_for_all.result _ c.loop.invariant.1 c.now-now.ensures
+    c.tidy_if_risen-turn.ensures.tidies c.make_rounds.ensures.rounds
+    (subst (λ (b : BooksState). MakesRoom b c.make_room.new.guests) c.report.ensures c.make_room.ensures) c.open_for_all.ensures (cc)
     (c.into_caller.ensures.same.1 ∙ ap (λ (s : AskingState g.row.K.Denot). s.past) c.into_steps.ensures)

@@ -8,4 +8,3 @@ invariant-loop g l =
     (record { began = l.fn.shared.began; table = l.fn.caller.table; past = l.fn.caller.past }) l.counting
     × WorksSince g.K.KeyHash.hash_of (g.C.Clock.may_give l.fn.self.clock.now) l.fn.self.first l.fn.self.share l.fn.shared.began l.fn.caller
     (record { asking = l.counting; books = l.guests; door = l.door; end = l.end; turn = l.turn; moment = l.before })
-    × g.C.Clock.may_give l.fn.self.clock.now l.reading.now
