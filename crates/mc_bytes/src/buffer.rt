@@ -41,7 +41,7 @@ impl Model for Buffer {
 }
 
 impl Buffer {
-    ghost use Rattle.std.specs.Prelude.{◌≡◌, ◌+◌, ◌-◌, ◌<◌, ◌≤◌, [], ◌++◌, drop, length, max, IsTrue, IsFalse, OnOk, OnErr, IfOk};
+    ghost use Rattle.std.specs.Prelude.{◌≡◌, ◌+◌, ◌-◌, ◌<◌, ◌≤◌, [], ◌++◌, drop, take, length, max, IsTrue, IsFalse, OnOk, OnErr, IfOk};
     ghost use Rattle.mc_bytes.specs.Sources.{Brings};
     ghost use Rattle.mc_bytes.specs.Queues.{twice};
 
@@ -92,6 +92,14 @@ impl Buffer {
         tighten(&mut self.all, reserved, alloc)?;
         self.filled = self.all.len();
         Ok(())
+    }
+
+    /// Drops the bytes behind the first `n`.
+    pub fn truncate(&mut self, n: usize)
+        requires { n ≤ length self.old.bytes }
+        ensures { self.new ≡ record self.old { bytes = take n self.old.bytes } }
+    {
+        self.filled = n;
     }
 
     /// Appends a text, whose largest part has `bytes` bytes. An error leaves the bytes unchanged.

@@ -6,7 +6,8 @@
 //!
 //! A [`Buffer`] has bytes and room behind them. A [`Queue`] is a buffer with a count of consumed
 //! bytes. A [`Source`] writes into a queue's room, so a piece is read where it will stay. A text
-//! appends itself as a value of [`Append`]. [`Spares`] are large buffers between two uses.
+//! appends itself as a value of [`Append`]. [`Spares`] are large buffers between two uses. A
+//! [`Lent`] is a part of [`Large`] memory that is shared, and read where it stays.
 //!
 //! Contracts see a queue as the bytes that aren't consumed, the number of bytes in its memory, with
 //! consumed ones in front of them, and the number of bytes reserved. They promise exactly which
@@ -21,12 +22,18 @@
 
 mod append;
 mod buffer;
+mod large;
+mod lent;
+mod lents;
 mod queue;
 mod source;
 mod spares;
 
 pub use append::Append;
 pub use buffer::Buffer;
+pub use large::Large;
+pub use lent::Lent;
+pub use lents::Lents;
 pub use queue::{FIRST_PIECE, Queue};
 pub use source::Source;
 pub use spares::Spares;

@@ -54,7 +54,7 @@ impl<const KEPT: usize> Model for Queue<KEPT> {
 }
 
 impl<const KEPT: usize> Queue<KEPT> {
-    ghost use Rattle.std.specs.Prelude.{◌≡◌, ◌↔◌, ◌+◌, ◌*◌, ◌<◌, ◌≤◌, [], ◌++◌, drop, length, max, IsTrue, OnOk, OnErr, IfOk};
+    ghost use Rattle.std.specs.Prelude.{◌≡◌, ◌↔◌, ◌+◌, ◌*◌, ◌<◌, ◌≤◌, [], ◌++◌, drop, take, length, max, IsTrue, OnOk, OnErr, IfOk};
     ghost use Rattle.mc_bytes.specs.Sources.{Brings};
     ghost use Rattle.mc_bytes.specs.Queues.{nothing_held, first_piece, twice, begun};
     ghost use Rattle.mc_bytes.specs.Queues.{IsHalfFull, IsGrown, IsGrownForText};
@@ -230,6 +230,21 @@ impl<const KEPT: usize> Queue<KEPT> {
             self.clear();
         } else {
             self.taken += n;
+        }
+    }
+
+    /// Drops the bytes behind the first `n`, which were appended last.
+    pub fn truncate(&mut self, n: usize)
+        requires { n ≤ length self.old.bytes }
+        ensures bytes { self.new.bytes ≡ take n self.old.bytes }
+        ensures less { self.new.reserved ≤ self.old.reserved }
+    {
+        if n == 0 {
+            self.clear();
+        } else {
+            let behind = self.len() - n;
+            let kept = self.buffer.len() - behind;
+            self.buffer.truncate(kept);
         }
     }
 

@@ -1,0 +1,3 @@
+pub mod LentLemmas
+mod MatchLemmas
+mod PartLemmas

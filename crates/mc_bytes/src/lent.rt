@@ -1,0 +1,82 @@
+//! A part of memory that several owners read, and nobody writes.
+
+ghost use Rattle.std.specs.Prelude.{◌≡◌, ◌-◌, ◌≤◌, length, take, drop, IfSome};
+ghost use Rattle.std.specs.Arc.{arc_value};
+
+use crate::large::Large;
+use std::marker::Model;
+use std::sync::Arc;
+
+/// A part of memory, whose bytes stay as they are while it is there.
+///
+/// The memory is counted and not copied. It is freed when its last owner is dropped. Contracts see
+/// the bytes of the part.
+#[derive(Drop)]
+pub struct Lent {
+    memory: Arc<Large>,
+    from: usize,
+    to: usize,
+}
+
+impl Model for Lent {
+    ghost use Rattle.std.specs.Prelude.{◌≤◌, ◌-◌, List, ℕ, take, drop, length};
+    ghost use Rattle.std.specs.Arc.{arc_value};
+
+    ghost Value = { List ℕ };
+
+    ghost view = { λ l. take (l.to - l.from) (drop l.from (arc_value l.memory).bytes.items) };
+
+    ghost invariant = { λ l. (l.from ≤ l.to) × (l.to ≤ length (arc_value l.memory).bytes.items) };
+}
+
+impl Lent {
+    /// Lends the bytes of memory from one place up to another. It takes no memory.
+    pub fn of(memory: Arc<Large>, from: usize, to: usize) -> Lent
+        requires order { from ≤ to }
+        requires within { to ≤ length (arc_value memory).bytes.items }
+        ensures { result ≡ take (to - from) (drop from (arc_value memory).bytes.items) }
+    {
+        Lent { memory, from, to }
+    }
+
+    /// Returns the part once more: its memory has one more owner. It takes no memory.
+    ///
+    /// `None` if the memory has too many owners.
+    pub fn another(&self) -> Option<Lent>
+        ensures { IfSome result (λ lent. lent ≡ self.now) }
+    {
+        match Arc::try_clone(&self.memory) {
+            Ok(memory) => Some(Lent::of(memory, self.from, self.to)),
+            Err(_) => None,
+        }
+    }
+
+    /// Lends the bytes.
+    pub fn as_slice(&self) -> &[u8]
+        ensures { result.now ≡ self.now }
+    {
+        &self.memory.bytes.as_slice()[self.from..self.to]
+    }
+
+    /// Returns the number of bytes.
+    pub fn len(&self) -> usize
+        ensures { result ≡ length self.now }
+    {
+        self.to - self.from
+    }
+
+    /// Returns the number of bytes of its memory, which it keeps whole.
+    pub fn kept_bytes(&self) -> usize
+        ensures { length self.now ≤ result }
+    {
+        self.memory.bytes.len()
+    }
+
+    /// Leaves the first `count` bytes out from now on. The others are unchanged.
+    pub fn drop_front(&mut self, count: usize)
+        requires { count ≤ length self.old }
+        ensures { self.new ≡ drop count self.old }
+    {
+        self.from += count;
+    }
+}
