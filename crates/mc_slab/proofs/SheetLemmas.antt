@@ -1,5 +1,5 @@
 -- Chunks of a page that lie one after another: where a part is, and what writing one changes.
-use Rattle.std.proofs.Common.{◌≡◌, ℕ, ◌+◌, ◌-◌, ◌*◌, ◌≤◌, List, [], ◌∷◌, ◌++◌, length, take, drop, refl, sym, ap, subst, ◌∙◌, append_assoc, length-append, arith}
+use Rattle.std.proofs.Common.{◌≡◌, ℕ, ◌+◌, ◌-◌, ◌*◌, ◌≤◌, List, [], ◌∷◌, ◌++◌, length, take, drop, Option, IfSome, refl, sym, ap, subst, ◌∙◌, append_assoc, length-append, arith}
 use Rattle.std.proofs.lemmas.List.{take-append-le, drop-append-le, append-nil, take_all, take_at}
 use Rattle.std.proofs.Math.Seq.{take-append-add, drop-append-add, drop-length}
 use Rattle.mc_slab.specs.Chunks.{with_part}
@@ -10,6 +10,10 @@ first_here c r whole = sym (take_at c r 1048576 whole)
 
 pub first_alone : (c : List ℕ) → length c ≡ 1048576 → c ≡ take 1048576 c
 first_alone c whole = sym (take_all 1048576 c (omega arith))
+
+-- what is lent of bytes is lent of the same bytes
+pub lent_of : (lent : Option (List ℕ)) (from to : ℕ) (a b : List ℕ) → a ≡ b → IfSome lent (λ l. l ≡ take (to - from) (drop from a)) → IfSome lent (λ l. l ≡ take (to - from) (drop from b))
+lent_of lent from to a b same is = subst (λ (bytes : List ℕ). IfSome lent (λ l. l ≡ take (to - from) (drop from bytes))) same is
 
 -- what lies behind the first lies there one place less far
 pub place_behind : (c r : List ℕ) (at k : ℕ) → length c ≡ 1048576 → at ≡ k + 1 → drop (at * 1048576) (c ++ r) ≡ drop (k * 1048576) r

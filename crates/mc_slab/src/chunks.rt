@@ -3,7 +3,7 @@
 //! `Chunks` may be dropped. Dropped chunks stay counted as in use. A linear type would need a
 //! destructor by hand in each type that holds chunks.
 
-ghost use Rattle.std.specs.Prelude.{◌≡◌, ℕ, ◌+◌, ◌-◌, ◌<◌, ◌≤◌, length, take, IfOk};
+ghost use Rattle.std.specs.Prelude.{◌≡◌, ℕ, ◌+◌, ◌-◌, ◌<◌, ◌≤◌, length, take, drop, IfOk, IfSome};
 ghost use Rattle.mc_slab.specs.Chunks.{ChunksState, AreChunks, AreChunksOf, chunk_at, need_in, with_part};
 ghost use Rattle.mc_slab.specs.Classes.{IsClass, size_of};
 ghost use Rattle.mc_slab.specs.Helds.{chunks_in};
@@ -14,6 +14,7 @@ use crate::cut;
 use crate::held::{self, Held};
 use crate::need::Need;
 use crate::sheet::Sheet;
+use mc_bytes::Lent;
 use std::alloc::{AllocError, Global};
 use std::marker::Model;
 
@@ -22,7 +23,8 @@ use std::marker::Model;
 /// Contracts see the class, the count, and the bytes of the chunks one after another. Chunks are
 /// moved and never copied. Chunks that are dropped without being given back to their slab stay out
 /// in the slab's account for ever. Memory of a class below the last stays with the process until it
-/// ends, even if the chunk or its slab is dropped; memory of a page is freed.
+/// ends, even if the chunk or its slab is dropped; memory of a page is freed, once no part of it is
+/// lent.
 #[derive(Drop)]
 pub struct Chunks {
     held: Held,
@@ -71,6 +73,22 @@ impl Chunks {
             return held::first(&self.held);
         }
         held::sheet(&self.held).part(at)
+    }
+
+    /// Lends bytes of the chunk at a place, the first at 0, for as long as the result is there.
+    ///
+    /// `from` and `to` are places within that chunk. The bytes that are lent stay as they are, even
+    /// if the chunk is written again or dropped. It walks from chunk to chunk, and takes no memory.
+    /// `None` for a class below the last, and for chunks whose memory can't be lent.
+    pub fn lend(&self, at: usize, from: usize, to: usize) -> Option<Lent>
+        requires place { at < self.now.count }
+        requires order { from ≤ to }
+        requires within { to ≤ size_of self.now.class }
+        ensures value { IfSome result (λ lent. lent
+            ≡ take (to - from) (drop from (chunk_at self.now at))) }
+        ensures are { AreChunks self.now }
+    {
+        held::lend(&self.held, at, from, to)
     }
 
     /// Copies `part` to the place `at` of the bytes, counted from 0 over all chunks.

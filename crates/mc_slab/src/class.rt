@@ -12,12 +12,55 @@ pub(crate) const PAGE: u32 = 1 << 20;
 /// The number of classes.
 pub(crate) const CLASSES: u8 = 40;
 
+/// Calls a macro with classes below the last: each one's number, variant of `Held`, and bytes of a
+/// chunk.
+///
+/// What else the macro takes stands in front of them. They are all classes, or those that one
+/// function of `cut.rt` cuts. The last of those stands behind a semicolon.
+macro_rules! each_class {
+    (tiny $to:ident! $($given:tt)*) => {
+        $to! { $($given)*
+            1 C1 96, 2 C2 120, 3 C3 152, 4 C4 192,
+            5 C5 240, 6 C6 304, 7 C7 384; 8 C8 480, }
+    };
+    (small $to:ident! $($given:tt)*) => {
+        $to! { $($given)*
+            9 C9 600, 10 C10 752, 11 C11 944, 12 C12 1184,
+            13 C13 1480, 14 C14 1856, 15 C15 2320; 16 C16 2904, }
+    };
+    (middle $to:ident! $($given:tt)*) => {
+        $to! { $($given)*
+            17 C17 3632, 18 C18 4544, 19 C19 5680, 20 C20 7104,
+            21 C21 8880, 22 C22 11104, 23 C23 13880; 24 C24 17352, }
+    };
+    (large $to:ident! $($given:tt)*) => {
+        $to! { $($given)*
+            25 C25 21696, 26 C26 27120, 27 C27 33904, 28 C28 42384,
+            29 C29 52984, 30 C30 66232, 31 C31 82792; 32 C32 103496, }
+    };
+    (great $to:ident! $($given:tt)*) => {
+        $to! { $($given)*
+            33 C33 129376, 34 C34 161720, 35 C35 202152, 36 C36 252696,
+            37 C37 315872, 38 C38 394840; 39 C39 493552, }
+    };
+    // Each part is handed back to this macro, which puts the next part behind it.
+    (all $to:ident! $($given:tt)*) => {
+        each_class! { tiny each_class! small each_class! middle each_class! large each_class!
+            great $to! $($given)* }
+    };
+}
+
+pub(crate) use each_class;
+
+/// Lists the bytes of a chunk of each class, with those of the last, which is a page.
+macro_rules! sizes {
+    ($($number:literal $variant:ident $size:literal $end:tt)*) => {
+        [$($size,)* 1048576]
+    };
+}
+
 /// Bytes of a chunk of each class, class 1 first.
-static SIZES: [u32; 40] = [
-    96, 120, 152, 192, 240, 304, 384, 480, 600, 752, 944, 1184, 1480, 1856, 2320, 2904, 3632, 4544,
-    5680, 7104, 8880, 11104, 13880, 17352, 21696, 27120, 33904, 42384, 52984, 66232, 82792, 103496,
-    129376, 161720, 202152, 252696, 315872, 394840, 493552, 1048576,
-];
+static SIZES: [u32; 40] = each_class!(all sizes!);
 
 /// A class of chunks of one size. Contracts see it as its number, from 1 to 40.
 #[derive(Debug, PartialEq, Eq)]

@@ -6,16 +6,20 @@
 //! constant compile to a jump table. A chunk is written by `write_at` and lends no mutable slice: a
 //! method that lends one isn't proved if its length is an invariant.
 
-ghost use Rattle.std.specs.Prelude.{◌≡◌, ◌+◌, ◌<◌, ◌≤◌, length, take, drop};
-ghost use Rattle.mc_slab.specs.Chunks.{ChunksState, AreChunks, need_in, with_part};
+ghost use Rattle.std.specs.Prelude.{◌≡◌, ◌+◌, ◌-◌, ◌<◌, ◌≤◌, length, take, drop, IfSome};
+ghost use Rattle.mc_slab.specs.Chunks.{ChunksState, AreChunks, chunk_at, need_in, with_part};
 ghost use Rattle.mc_slab.specs.Classes.{size_of};
 ghost use Rattle.mc_slab.specs.Helds.{chunks_in, first_in};
 
-use crate::class::{CLASSES, Class};
+use crate::class::{CLASSES, Class, each_class};
 use crate::need::Need;
 use crate::sheet::Sheet;
+use mc_bytes::Lent;
 
 /// One chunk of a class below the last, or the chunks of the last class.
+///
+/// `each_class!` has the same variants and sizes. They stand here again, because no macro may write
+/// a type.
 #[derive(Drop)]
 pub(crate) enum Held {
     C1(&'static mut [u8; 96]),
@@ -60,52 +64,32 @@ pub(crate) enum Held {
     Sheets(Box<Sheet>),
 }
 
+/// Matches on where chunks lie. Each arm gives the class.
+macro_rules! match_class {
+    ($held:ident $($number:literal $variant:ident $size:literal $end:tt)*) => {
+        match $held {
+            $(Held::$variant(_) => Class::of($number),)*
+            Held::Sheets(_) => Class::of(CLASSES),
+        }
+    };
+}
+
+/// Matches on where chunks lie. The classes below the last share one arm, which sees the bytes.
+macro_rules! match_bytes {
+    ($held:ident { $bytes:ident => $one:expr, $sheets:pat => $last:expr, }
+        $($number:literal $variant:ident $size:literal $end:tt)*) => {
+        match $held {
+            $(Held::$variant($bytes) => $one,)*
+            $sheets => $last,
+        }
+    };
+}
+
 /// Returns their class.
 pub(crate) fn class(held: &Held) -> Class
     ensures { result ≡ (chunks_in held.now).class }
 {
-    match held {
-        Held::C1(_) => Class::of(1),
-        Held::C2(_) => Class::of(2),
-        Held::C3(_) => Class::of(3),
-        Held::C4(_) => Class::of(4),
-        Held::C5(_) => Class::of(5),
-        Held::C6(_) => Class::of(6),
-        Held::C7(_) => Class::of(7),
-        Held::C8(_) => Class::of(8),
-        Held::C9(_) => Class::of(9),
-        Held::C10(_) => Class::of(10),
-        Held::C11(_) => Class::of(11),
-        Held::C12(_) => Class::of(12),
-        Held::C13(_) => Class::of(13),
-        Held::C14(_) => Class::of(14),
-        Held::C15(_) => Class::of(15),
-        Held::C16(_) => Class::of(16),
-        Held::C17(_) => Class::of(17),
-        Held::C18(_) => Class::of(18),
-        Held::C19(_) => Class::of(19),
-        Held::C20(_) => Class::of(20),
-        Held::C21(_) => Class::of(21),
-        Held::C22(_) => Class::of(22),
-        Held::C23(_) => Class::of(23),
-        Held::C24(_) => Class::of(24),
-        Held::C25(_) => Class::of(25),
-        Held::C26(_) => Class::of(26),
-        Held::C27(_) => Class::of(27),
-        Held::C28(_) => Class::of(28),
-        Held::C29(_) => Class::of(29),
-        Held::C30(_) => Class::of(30),
-        Held::C31(_) => Class::of(31),
-        Held::C32(_) => Class::of(32),
-        Held::C33(_) => Class::of(33),
-        Held::C34(_) => Class::of(34),
-        Held::C35(_) => Class::of(35),
-        Held::C36(_) => Class::of(36),
-        Held::C37(_) => Class::of(37),
-        Held::C38(_) => Class::of(38),
-        Held::C39(_) => Class::of(39),
-        Held::Sheets(_) => Class::of(CLASSES),
-    }
+    each_class!(all match_class! held)
 }
 
 /// Returns the need that they serve.
@@ -137,47 +121,25 @@ fn whole(held: &Held) -> &[u8]
     requires { 1 ≤ (chunks_in held.now).count }
     ensures { result.now ≡ first_in held.now }
 {
-    match held {
-        Held::C1(bytes) => &bytes[..],
-        Held::C2(bytes) => &bytes[..],
-        Held::C3(bytes) => &bytes[..],
-        Held::C4(bytes) => &bytes[..],
-        Held::C5(bytes) => &bytes[..],
-        Held::C6(bytes) => &bytes[..],
-        Held::C7(bytes) => &bytes[..],
-        Held::C8(bytes) => &bytes[..],
-        Held::C9(bytes) => &bytes[..],
-        Held::C10(bytes) => &bytes[..],
-        Held::C11(bytes) => &bytes[..],
-        Held::C12(bytes) => &bytes[..],
-        Held::C13(bytes) => &bytes[..],
-        Held::C14(bytes) => &bytes[..],
-        Held::C15(bytes) => &bytes[..],
-        Held::C16(bytes) => &bytes[..],
-        Held::C17(bytes) => &bytes[..],
-        Held::C18(bytes) => &bytes[..],
-        Held::C19(bytes) => &bytes[..],
-        Held::C20(bytes) => &bytes[..],
-        Held::C21(bytes) => &bytes[..],
-        Held::C22(bytes) => &bytes[..],
-        Held::C23(bytes) => &bytes[..],
-        Held::C24(bytes) => &bytes[..],
-        Held::C25(bytes) => &bytes[..],
-        Held::C26(bytes) => &bytes[..],
-        Held::C27(bytes) => &bytes[..],
-        Held::C28(bytes) => &bytes[..],
-        Held::C29(bytes) => &bytes[..],
-        Held::C30(bytes) => &bytes[..],
-        Held::C31(bytes) => &bytes[..],
-        Held::C32(bytes) => &bytes[..],
-        Held::C33(bytes) => &bytes[..],
-        Held::C34(bytes) => &bytes[..],
-        Held::C35(bytes) => &bytes[..],
-        Held::C36(bytes) => &bytes[..],
-        Held::C37(bytes) => &bytes[..],
-        Held::C38(bytes) => &bytes[..],
-        Held::C39(bytes) => &bytes[..],
+    each_class!(all match_bytes! held {
+        bytes => &bytes[..],
         Held::Sheets(sheet) => sheet.first(),
+    })
+}
+
+/// Lends bytes of the chunk at a place, the first at 0, for as long as the result is there.
+///
+/// `None` for a class below the last, and for memory that can't be lent.
+pub(crate) fn lend(held: &Held, at: usize, from: usize, to: usize) -> Option<Lent>
+    requires place { at < (chunks_in held.now).count }
+    requires order { from ≤ to }
+    requires within { to ≤ size_of (chunks_in held.now).class }
+    ensures { IfSome result (λ lent. lent
+        ≡ take (to - from) (drop from (chunk_at (chunks_in held.now) at))) }
+{
+    match held {
+        Held::Sheets(sheet) => sheet.lend(at, from, to),
+        _ => None,
     }
 }
 
@@ -207,48 +169,10 @@ fn write_one(held: &mut Held, at: usize, part: &[u8])
       bytes = with_part (chunks_in held.old).bytes at part.now;
     } }
 {
-    match held {
-        Held::C1(bytes) => write_part(&mut bytes[..], at, part),
-        Held::C2(bytes) => write_part(&mut bytes[..], at, part),
-        Held::C3(bytes) => write_part(&mut bytes[..], at, part),
-        Held::C4(bytes) => write_part(&mut bytes[..], at, part),
-        Held::C5(bytes) => write_part(&mut bytes[..], at, part),
-        Held::C6(bytes) => write_part(&mut bytes[..], at, part),
-        Held::C7(bytes) => write_part(&mut bytes[..], at, part),
-        Held::C8(bytes) => write_part(&mut bytes[..], at, part),
-        Held::C9(bytes) => write_part(&mut bytes[..], at, part),
-        Held::C10(bytes) => write_part(&mut bytes[..], at, part),
-        Held::C11(bytes) => write_part(&mut bytes[..], at, part),
-        Held::C12(bytes) => write_part(&mut bytes[..], at, part),
-        Held::C13(bytes) => write_part(&mut bytes[..], at, part),
-        Held::C14(bytes) => write_part(&mut bytes[..], at, part),
-        Held::C15(bytes) => write_part(&mut bytes[..], at, part),
-        Held::C16(bytes) => write_part(&mut bytes[..], at, part),
-        Held::C17(bytes) => write_part(&mut bytes[..], at, part),
-        Held::C18(bytes) => write_part(&mut bytes[..], at, part),
-        Held::C19(bytes) => write_part(&mut bytes[..], at, part),
-        Held::C20(bytes) => write_part(&mut bytes[..], at, part),
-        Held::C21(bytes) => write_part(&mut bytes[..], at, part),
-        Held::C22(bytes) => write_part(&mut bytes[..], at, part),
-        Held::C23(bytes) => write_part(&mut bytes[..], at, part),
-        Held::C24(bytes) => write_part(&mut bytes[..], at, part),
-        Held::C25(bytes) => write_part(&mut bytes[..], at, part),
-        Held::C26(bytes) => write_part(&mut bytes[..], at, part),
-        Held::C27(bytes) => write_part(&mut bytes[..], at, part),
-        Held::C28(bytes) => write_part(&mut bytes[..], at, part),
-        Held::C29(bytes) => write_part(&mut bytes[..], at, part),
-        Held::C30(bytes) => write_part(&mut bytes[..], at, part),
-        Held::C31(bytes) => write_part(&mut bytes[..], at, part),
-        Held::C32(bytes) => write_part(&mut bytes[..], at, part),
-        Held::C33(bytes) => write_part(&mut bytes[..], at, part),
-        Held::C34(bytes) => write_part(&mut bytes[..], at, part),
-        Held::C35(bytes) => write_part(&mut bytes[..], at, part),
-        Held::C36(bytes) => write_part(&mut bytes[..], at, part),
-        Held::C37(bytes) => write_part(&mut bytes[..], at, part),
-        Held::C38(bytes) => write_part(&mut bytes[..], at, part),
-        Held::C39(bytes) => write_part(&mut bytes[..], at, part),
+    each_class!(all match_bytes! held {
+        bytes => write_part(&mut bytes[..], at, part),
         Held::Sheets(_) => unreachable!(),
-    }
+    })
 }
 
 /// Copies `part` to the place `at` of `bytes`.

@@ -1,10 +1,11 @@
 //! A chunk of a page's size, and the chunks that are linked behind it.
 
-ghost use Rattle.std.specs.Prelude.{◌≡◌, ◌+◌, ◌*◌, ◌<◌, ◌≤◌, List, [], ◌++◌, length, take, drop, ℕ, IfOk};
+ghost use Rattle.std.specs.Prelude.{◌≡◌, ◌+◌, ◌-◌, ◌*◌, ◌<◌, ◌≤◌, List, [], ◌++◌, length, take, drop, ℕ, IfOk, IfSome};
 ghost use Rattle.mc_slab.specs.Chunks.{with_part};
 ghost use Rattle.mc_slab.specs.Sheets.{sheets_in};
 
 use crate::whole::{WHOLE, Whole};
+use mc_bytes::Lent;
 use std::alloc::{AllocError, Global};
 use std::marker::Model;
 use std::mem;
@@ -101,6 +102,45 @@ impl Sheet {
                 behind.part(at - 1)
             }
             Node::Last(_) | Node::Hollow => unreachable!(),
+        }
+    }
+
+    /// Lends bytes of the chunk at a place, the first at 0, for as long as the result is there.
+    ///
+    /// `from` and `to` are places within that chunk. It walks from chunk to chunk, and takes no
+    /// memory. `None` if the chunk lies in memory that can't be lent.
+    #[inline(never)]
+    pub(crate) fn lend(&self, at: usize, from: usize, to: usize) -> Option<Lent>
+        requires place { at < self.now.0 }
+        requires order { from ≤ to }
+        requires within { to ≤ 1048576 }
+        ensures { IfSome result (λ lent. lent
+            ≡ take (to - from) (drop from (take 1048576 (drop (at * 1048576) self.now.1)))) }
+    {
+        if at == 0 {
+            return self.lend_first(from, to);
+        }
+        match &self.node {
+            Node::Before(whole, behind) => {
+                whole.is_whole();
+                behind.lend(at - 1, from, to)
+            }
+            Node::Last(_) | Node::Hollow => unreachable!(),
+        }
+    }
+
+    /// Lends bytes of the first chunk for as long as the result is there.
+    fn lend_first(&self, from: usize, to: usize) -> Option<Lent>
+        requires place { 1 ≤ self.now.0 }
+        requires order { from ≤ to }
+        requires within { to ≤ 1048576 }
+        ensures { IfSome result (λ lent. lent
+            ≡ take (to - from) (drop from (take 1048576 self.now.1))) }
+    {
+        match &self.node {
+            Node::Last(whole) => whole.lend(from, to),
+            Node::Before(whole, _) => whole.lend(from, to),
+            Node::Hollow => unreachable!(),
         }
     }
 
