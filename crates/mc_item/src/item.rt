@@ -10,6 +10,7 @@ ghost use Rattle.std.specs.Prelude.{
   length,
   decimal,
   Some,
+  IfSome,
   slice_get,
   OnOk,
   OnErr,
@@ -33,9 +34,10 @@ use crate::header::{
     updated_in,
 };
 use crate::run::{
-    append_reserved, front, length_in, part_of, write_behind, write_block, write_expiry,
+    append_reserved, front, lend_part, length_in, part_of, write_behind, write_block, write_expiry,
     write_head, write_item, write_number,
 };
+use mc_bytes::Lent;
 use mc_slab::{Chunks, Class, Need};
 use mc_time::{Expiry, Moment};
 use std::alloc::AllocError;
@@ -281,6 +283,19 @@ impl Item {
         ensures is_item { IsItem self.now }
     {
         part_of(&self.chunks, at)
+    }
+
+    /// Lends the part of its block in the chunk at a place for as long as the result is there.
+    ///
+    /// The bytes that are lent stay as they are, even if the item is written again or dropped. It
+    /// takes no memory. `None` for a class below the last, and for chunks whose memory can't be
+    /// lent.
+    pub fn lend(&self, at: usize) -> Option<Lent>
+        requires { at < self.now.count }
+        ensures value { IfSome result (λ lent. slice_get (parts_of self.now) at ≡ Some lent) }
+        ensures is_item { IsItem self.now }
+    {
+        lend_part(&self.chunks, at)
     }
 
     /// Returns the length of its block, 0 to 8388560 bytes.

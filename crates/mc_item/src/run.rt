@@ -1,8 +1,24 @@
 //! Writes an item's run of bytes.
 
-ghost use Rattle.std.specs.Prelude.{◌≡◌, ◌+◌, ◌<◌, ◌≤◌, ◌^◌, ◌++◌, length, take, drop, decimal, Some, slice_get, vec_capacity};
+ghost use Rattle.std.specs.Prelude.{
+  ◌≡◌,
+  ◌+◌,
+  ◌-◌,
+  ◌<◌,
+  ◌≤◌,
+  ◌^◌,
+  ◌++◌,
+  length,
+  take,
+  drop,
+  decimal,
+  Some,
+  IfSome,
+  slice_get,
+  vec_capacity,
+};
 ghost use Rattle.mc_slab.specs.Classes.{size_of};
-ghost use Rattle.mc_slab.specs.Chunks.{AreChunks, need_in, with_part};
+ghost use Rattle.mc_slab.specs.Chunks.{AreChunks, chunk_at, need_in, with_part};
 ghost use Rattle.mc_item.specs.Items.{header_size, longest_key, parts_of};
 ghost use Rattle.mc_item.specs.Layout.{
   block_in,
@@ -17,6 +33,7 @@ ghost use Rattle.mc_item.specs.Layout.{
 
 use crate::header::{HEADER, Header, block_length_in, key_length_in};
 use itoa::Buffer;
+use mc_bytes::Lent;
 use mc_slab::Chunks;
 use mc_time::{Expiry, Moment};
 
@@ -244,6 +261,39 @@ pub(crate) fn part_of(chunks: &Chunks, at: usize) -> &[u8]
     let chunk = chunks.part(at);
     let left = end.saturating_sub(at * chunk.len());
     &chunk[..usize::min(left, chunk.len())]
+}
+
+/// Lends the part of the item's block in the chunk at a place for as long as the result is there.
+///
+/// `None` if the chunk can't be lent so.
+pub(crate) fn lend_part(chunks: &Chunks, at: usize) -> Option<Lent>
+    requires item { HoldsItem chunks.now }
+    requires place { at < chunks.now.count }
+    ensures { IfSome result (λ lent. slice_get (parts_of (item_in chunks.now)) at ≡ Some lent) }
+{
+    let (from, to) = ends_of_part(chunks, at);
+    chunks.lend(at, from, to)
+}
+
+/// Returns where the part of the item's block in the chunk at a place begins and ends.
+///
+/// Both are places within that chunk.
+fn ends_of_part(chunks: &Chunks, at: usize) -> (usize, usize)
+    requires item { HoldsItem chunks.now }
+    requires place { at < chunks.now.count }
+    ensures order { result.0 ≤ result.1 }
+    ensures within { result.1 ≤ size_of chunks.now.class }
+    ensures value { slice_get (parts_of (item_in chunks.now)) at
+        ≡ Some (take (result.1 - result.0) (drop result.0 (chunk_at chunks.now at))) }
+{
+    let first = front(chunks);
+    let size = first.len();
+    let from = HEADER + key_length_in(first) as usize;
+    let to = from + block_length_in(first) as usize;
+    if at == 0 {
+        return (from, usize::min(to, size));
+    }
+    (0, usize::min(to.saturating_sub(at * size), size))
 }
 
 /// Appends bytes to a vector that has room for them.
