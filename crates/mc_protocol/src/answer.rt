@@ -20,6 +20,7 @@ pub trait Answer {
 
     /// Takes a hit; its block is lent where it lies, in parts one after another.
     ///
+    /// A part may lie in shared memory (`Bytes::lent`), which can be kept in place of a copy.
     /// The only error is a refused allocation, and the answer is then unchanged.
     fn hit(&mut self, flags: u32, unique: u64, parts: &[Bytes<'_>]) -> Result<(), AllocError>
         ensures told { OnOk result (told self.old (Reply.Hit flags unique (concat parts.now))
