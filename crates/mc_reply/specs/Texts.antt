@@ -40,12 +40,21 @@ abbrev pub unique_text : Bool → ℕ → List ℕ
 unique_text true unique = codes " " ++ decimal unique
 unique_text false unique = []
 
--- VALUE <key> <flags> <bytes> [<cas unique>], and the block
+-- <flags> <bytes> [<cas unique>], each behind a space, and the end of the line
+abbrev pub numbers_text : Bool → (flags unique len : ℕ) → List ℕ
+numbers_text with_unique flags unique len =
+    codes " " ++ decimal flags ++ codes " " ++ decimal len ++ unique_text with_unique unique
+    ++ codes "\r\n"
+
+-- VALUE <key> <flags> <bytes> [<cas unique>]
+abbrev pub hit_line : List ℕ → Bool → (flags unique len : ℕ) → List ℕ
+hit_line key with_unique flags unique len =
+    codes "VALUE " ++ key ++ numbers_text with_unique flags unique len
+
+-- that line, and the block
 abbrev pub hit_text : List ℕ → Bool → (flags unique : ℕ) → List ℕ → List ℕ
 hit_text key with_unique flags unique block =
-    codes "VALUE " ++ key ++ codes " " ++ decimal flags ++ codes " " ++ decimal (length block)
-    ++ unique_text with_unique unique ++ codes "\r\n"
-    ++ block ++ codes "\r\n"
+    hit_line key with_unique flags unique (length block) ++ block ++ codes "\r\n"
 
 -- the parts of a hit: its key, the end of its first line, its block, and what comes behind it
 abbrev pub hit_parts : (key numbers block rest : List ℕ) → List ℕ
@@ -101,6 +110,46 @@ reply_text_by (Alone lone) at reply = []
 -- the text of the reply to step `at` of a command
 abbrev pub reply_text : Command → ℕ → Reply → List ℕ
 reply_text command at reply = reply_text_by (shape command) at reply
+
+-- a command of a shape is a retrieval
+abbrev pub IsRetrievalBy : Shape → Type 0
+IsRetrievalBy (Single step has_block quiet) = ⊥
+IsRetrievalBy (Retrieval exptime keys with_unique) = Unit {0}
+IsRetrievalBy (Alone lone) = ⊥
+
+-- a command is a retrieval
+abbrev pub IsRetrieval : Command → Type 0
+IsRetrieval command = IsRetrievalBy (shape command)
+
+-- it is one that takes a step
+abbrev pub AsksFirst : Command → Type 0
+AsksFirst command = IsRetrieval command × (0 < length (steps command))
+
+-- the first line of a hit of the key at a place, if there is one
+abbrev pub asked_line : Option (List ℕ) → Bool → (flags unique len : ℕ) → List ℕ
+asked_line None with_unique flags unique len = []
+asked_line (Some key) with_unique flags unique len = hit_line key with_unique flags unique len
+
+-- what is in front of the block of a hit, the reply to the first step of a command of a shape
+abbrev pub front_by : Shape → (flags unique len : ℕ) → List ℕ
+front_by (Single step has_block quiet) flags unique len = []
+front_by (Retrieval exptime keys with_unique) flags unique len =
+    asked_line (slice_get keys 0) with_unique flags unique len
+front_by (Alone lone) flags unique len = []
+
+-- what is in front of the block of a hit, the reply to the first step of a command
+abbrev pub front_text : Command → (flags unique len : ℕ) → List ℕ
+front_text command flags unique len = front_by (shape command) flags unique len
+
+-- what is behind that block
+abbrev pub back_by : Shape → List ℕ
+back_by (Single step has_block quiet) = []
+back_by (Retrieval exptime keys with_unique) = codes "\r\n" ++ end_text (length keys) 0
+back_by (Alone lone) = []
+
+-- what is behind that block, for a command
+abbrev pub back_text : Command → List ℕ
+back_text command = back_by (shape command)
 
 -- the text of a command that is only a name
 abbrev pub lone_text : Lone → List ℕ
