@@ -7,3 +7,5 @@ pub mod ExchangeLemmas
 pub mod ServeLemmas
 pub mod StreamLemmas
 pub mod KeyLemmas
+pub mod StateLemmas
+pub mod LendingLemmas

@@ -11,7 +11,7 @@ ghost use Rattle.mc_session.specs.Turns.{Answers, turn_count};
 ghost use Rattle.mc_reply.specs.Texts.{fault_text, long_text};
 
 use crate::after_turn::AfterTurn;
-use crate::output::Output;
+use crate::output::Outgoing;
 use crate::session::TurnFault;
 use crate::teller::{Asked, Teller};
 use mc_parse::Peek;
@@ -24,20 +24,20 @@ use std::alloc::Global;
 ///
 /// It does nothing if there is no unit. After an error the output is unchanged, and `decided` is
 /// whether the store took the step.
-pub fn answer<S: Steps>(
+pub fn answer<S: Steps, O: Outgoing>(
     alloc: Global,
     found: Peek<'_>,
     store: &mut S,
     now: Moment,
-    out: &mut Output,
+    out: &mut O,
 ) -> Result<Option<AfterTurn>, TurnFault>
     requires { (command : Command) (len : ℕ) → unit_of found ≡ Some (Request command, len) →
         HasShortKeys command }
     ensures none { result ≡ Ok None → (unit_of found.entry ≡ None) × (out.new ≡ out.old)
         × (store.new ≡ store.old) }
     ensures some { IfOk result (λ told. IfSome told
-        (λ next. Tells S.Steps now (unit_of found.entry) next store.old store.new out.old
-        out.new)) }
+        (λ next. Tells S.Steps now (unit_of found.entry) next store.old store.new (O.bytes out.old)
+        (O.bytes out.new))) }
     ensures err { OnErr result (out.new ≡ out.old) }
     ensures undecided { IfErr result (λ fault. IsFalse fault.decided →
         S.same store.old store.new) }
@@ -56,9 +56,9 @@ pub fn answer<S: Steps>(
 }
 
 /// Appends the text of a line that is too long.
-fn answer_too_long(out: &mut Output) -> Result<AfterTurn, TurnFault>
+fn answer_too_long<O: Outgoing>(out: &mut O) -> Result<AfterTurn, TurnFault>
     ensures ok { IfOk result (λ next. (next ≡ next_of LongLine 0 65537)
-        × (out.new ≡ out.old ++ long_text)) }
+        × (O.bytes out.new ≡ O.bytes out.old ++ long_text)) }
     ensures err { OnErr result (out.new ≡ out.old) }
     ensures undecided { IfErr result (λ fault. IsFalse fault.decided) }
 {
@@ -67,9 +67,13 @@ fn answer_too_long(out: &mut Output) -> Result<AfterTurn, TurnFault>
 }
 
 /// Appends the text of a line's fault.
-fn answer_fault(fault: LineFault, len: usize, out: &mut Output) -> Result<AfterTurn, TurnFault>
+fn answer_fault<O: Outgoing>(
+    fault: LineFault,
+    len: usize,
+    out: &mut O,
+) -> Result<AfterTurn, TurnFault>
     ensures ok { IfOk result (λ next. (next ≡ next_of (Fault fault) 0 len)
-        × (out.new ≡ out.old ++ fault_text fault)) }
+        × (O.bytes out.new ≡ O.bytes out.old ++ fault_text fault)) }
     ensures err { OnErr result (out.new ≡ out.old) }
     ensures undecided { IfErr result (λ fault. IsFalse fault.decided) }
 {
@@ -82,17 +86,17 @@ fn answer_fault(fault: LineFault, len: usize, out: &mut Output) -> Result<AfterT
 }
 
 /// Takes the first turn of a command of `len` bytes, and appends its text.
-fn answer_command<S: Steps>(
+fn answer_command<S: Steps, O: Outgoing>(
     alloc: Global,
     command: &Command<'_>,
     len: usize,
     store: &mut S,
     now: Moment,
-    out: &mut Output,
+    out: &mut O,
 ) -> Result<AfterTurn, TurnFault>
     requires { HasShortKeys command.now }
     ensures ok { IfOk result (λ next. Tells S.Steps now (Some (Request command.now, len)) next
-        store.old store.new out.old out.new) }
+        store.old store.new (O.bytes out.old) (O.bytes out.new)) }
     ensures err { OnErr result (out.new ≡ out.old) }
     ensures undecided { IfErr result (λ fault. IsFalse fault.decided →
         S.same store.old store.new) }
@@ -133,16 +137,16 @@ fn is_quit(command: &Command<'_>) -> bool
 }
 
 /// Takes the first step of a command, and appends the text of its reply.
-fn answer_step<S: Steps>(
+fn answer_step<S: Steps, O: Outgoing>(
     alloc: Global,
     command: &Command<'_>,
     store: &mut S,
     now: Moment,
-    out: &mut Output,
+    out: &mut O,
 ) -> Result<(), TurnFault>
     requires steps { 0 < length (steps command.now) }
     requires keys { HasShortKeys command.now }
-    ensures ok { OnOk result ((text : List ℕ) × (out.new ≡ out.old ++ text)
+    ensures ok { OnOk result ((text : List ℕ) × (O.bytes out.new ≡ O.bytes out.old ++ text)
         × Answers S.Steps (Request command.now) 0 now store.old store.new text) }
     ensures err { OnErr result (out.new ≡ out.old) }
     ensures undecided { IfErr result (λ fault. IsFalse fault.decided →
@@ -152,7 +156,11 @@ fn answer_step<S: Steps>(
 {
     let step = step_at(command, 0);
     let asked = Asked { command };
-    let mut teller = Teller { asked: &asked, out };
+    let mut teller = Teller {
+        alloc,
+        asked: &asked,
+        out,
+    };
     match store.step_telling(alloc, &step, now, &mut teller) {
         Ok(()) => Ok(()),
         Err(Unanswered::NumbersSpent) => Ok(out.append(&Text::Spent(command))?),

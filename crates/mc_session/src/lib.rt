@@ -7,7 +7,9 @@
 //! callers are a world, a worker, and the loop of this crate.
 //!
 //! A [`Session`] is a feed of `mc_parse`, the number of turns taken of its first unit, and the
-//! output. Its `turn` works over any store that takes steps (`mc_protocol`'s `Steps`). [`Endpoint`]
+//! output. Its `turn` works over any store that takes steps (`mc_protocol`'s `Steps`), and over any
+//! [`Outgoing`] output: an [`Output`] lies in one part of memory, and a [`LentOutput`] has parts that
+//! are lent and not copied. A [`Session`] has an [`Output`]; others are a [`SessionOf`]. [`Endpoint`]
 //! is one end of a connection as the loop [`serve_endpoint`] sees it: a session, or a session of a
 //! world. [`serve`] serves one session over a reader and a writer. It writes when nothing more is
 //! due, and before a turn once there are [`WRITE_AT`] bytes of output.
@@ -25,8 +27,10 @@
 
 mod after_turn;
 mod answer;
+mod copying;
 mod endpoint;
 mod laws;
+mod lent_output;
 mod output;
 mod rounds;
 mod serving;
@@ -38,6 +42,8 @@ pub use laws::{
     a_run_takes_the_turns_of_its_stream, passing_over_early_does_not_matter,
     the_pieces_of_a_stream_do_not_matter,
 };
+pub use lent_output::LentOutput;
+pub use output::{Outgoing, Output};
 pub use rounds::{TurnContext, WRITE_AT, piece_buffer, serve_endpoint, write_out};
 pub use serving::{ServeFault, serve};
-pub use session::{Session, Turn, TurnFault};
+pub use session::{Session, SessionOf, Turn, TurnFault};

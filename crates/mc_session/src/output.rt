@@ -1,8 +1,91 @@
 //! The output of a session.
 
-use mc_bytes::{Append, Queue, Spares};
+use crate::copying::append_copy;
+use mc_bytes::{Append, Lents, Queue, Spares};
 use std::alloc::{AllocError, Global};
 use std::marker::Model;
+
+/// The output of a session: texts are appended at its end, and what is written is dropped at its
+/// front.
+///
+/// Its bytes may lie in several parts of memory, of which it lends the first.
+pub trait Outgoing {
+    ghost use Rattle.std.specs.Prelude.{◌≡◌, ◌≤◌, ◌++◌, ◌↔◌, ℕ, List, [], drop, length, IsTrue, OnOk, OnErr};
+    ghost use Rattle.mc_bytes.specs.Queues.{first_piece};
+    ghost use Rattle.mc_bytes.specs.Parts.{IsFront};
+
+    /// The bytes that aren't written yet.
+    ghost bytes: { Self → List ℕ };
+
+    /// Makes an empty output, which takes the memory of large texts from these spares. It takes no
+    /// memory.
+    fn new(alloc: Global, spares: Option<Spares>) -> Self
+        ensures { bytes result ≡ [] };
+
+    /// Lends the first bytes that aren't written: none only if all are.
+    fn front(&self) -> &[u8]
+        ensures { IsFront (bytes self.now) result.now };
+
+    /// Returns the number of bytes that aren't written.
+    fn len(&self) -> usize
+        ensures { result ≡ length (bytes self.now) };
+
+    /// Returns whether the bytes that aren't written are these.
+    fn is(&self, text: &[u8]) -> bool
+        ensures { IsTrue result ↔ (bytes self.now ≡ text.now) };
+
+    /// Appends a text. An error leaves the output unchanged.
+    fn append<T: Append>(&mut self, text: &T) -> Result<(), AllocError>
+        requires { T.can_append text.now }
+        ensures ok { OnOk result (bytes self.new ≡ bytes self.old ++ T.bytes text.now) }
+        ensures err { OnErr result (self.new ≡ self.old) };
+
+    /// Appends a text as `append` does, into a spare if it is large and there is one of its size.
+    ///
+    /// `largest` is the size of the text's largest part.
+    fn append_sized<T: Append>(&mut self, text: &T, largest: usize) -> Result<(), AllocError>
+        requires { T.can_append text.now }
+        ensures ok { OnOk result (bytes self.new ≡ bytes self.old ++ T.bytes text.now) }
+        ensures err { OnErr result (self.new ≡ self.old) };
+
+    /// Appends a text, parts that are lent, and a text behind them. An error leaves the output
+    /// unchanged.
+    ///
+    /// An output may append a copy of the parts.
+    fn append_lent<T: Append, U: Append>(
+        &mut self,
+        front: &T,
+        parts: Lents,
+        back: &U,
+    ) -> Result<(), AllocError>
+        requires front { T.can_append front.now }
+        requires back { U.can_append back.now }
+        ensures ok { OnOk result
+            (bytes self.new ≡ bytes self.old ++ T.bytes front.now ++ parts ++ U.bytes back.now) }
+        ensures err { OnErr result (self.new ≡ self.old) };
+
+    /// Drops the first `n` bytes, which were written.
+    fn consume(&mut self, n: usize)
+        requires { n ≤ length (bytes self.old) }
+        ensures { bytes self.new ≡ drop n (bytes self.old) };
+
+    /// Returns how many bytes are in memory: those not written, and written ones before them.
+    fn filled_bytes(&self) -> usize
+        ensures least { length (bytes self.now) ≤ result }
+        ensures empty { bytes self.now ≡ [] → result ≡ 0 };
+
+    /// Returns the number of reserved bytes.
+    fn capacity(&self) -> usize
+        ensures filled { length (bytes self.now) ≤ result }
+        ensures empty { bytes self.now ≡ [] → result ≤ 131072 };
+
+    /// Frees memory beyond that of a first piece, if there are no bytes.
+    ///
+    /// Returns the number of reserved bytes afterwards.
+    fn rest(&mut self) -> usize
+        ensures same { bytes self.new ≡ bytes self.old }
+        ensures empty { bytes self.new ≡ [] → result ≤ first_piece };
+}
 
 /// The texts that aren't written yet. An empty output keeps at most 131072 bytes of memory.
 ///
@@ -22,18 +105,7 @@ impl Model for Output {
 }
 
 impl Output {
-    ghost use Rattle.std.specs.Prelude.{◌≡◌, ◌≤◌, [], ◌++◌, drop, length, OnOk, OnErr};
-    ghost use Rattle.mc_bytes.specs.Queues.{first_piece};
-
-    /// Makes an empty output, which takes the memory of large texts from these spares. It takes no
-    /// memory.
-    pub fn new(alloc: Global, spares: Option<Spares>) -> Output
-        ensures { result ≡ [] }
-    {
-        Output {
-            queue: Queue::with_spares(alloc, spares),
-        }
-    }
+    ghost use Rattle.std.specs.Prelude.{◌≡◌};
 
     /// Lends the bytes that aren't written.
     #[inline]
@@ -42,61 +114,66 @@ impl Output {
     {
         self.queue.as_slice()
     }
+}
 
-    /// Appends a text. An error leaves the output unchanged.
+impl Outgoing for Output {
+    ghost bytes = { λ o. o };
+
+    fn new(alloc: Global, spares: Option<Spares>) -> Output {
+        Output {
+            queue: Queue::with_spares(alloc, spares),
+        }
+    }
+
     #[inline]
-    pub fn append<T: Append>(&mut self, text: &T) -> Result<(), AllocError>
-        requires { T.can_append text.now }
-        ensures ok { OnOk result (self.new ≡ self.old ++ T.bytes text.now) }
-        ensures err { OnErr result (self.new ≡ self.old) }
-    {
+    fn front(&self) -> &[u8] {
+        self.queue.as_slice()
+    }
+
+    #[inline]
+    fn len(&self) -> usize {
+        self.queue.len()
+    }
+
+    fn is(&self, text: &[u8]) -> bool {
+        self.queue.as_slice() == text
+    }
+
+    #[inline]
+    fn append<T: Append>(&mut self, text: &T) -> Result<(), AllocError> {
         self.queue.append(text)
     }
 
-    /// Appends a text as `append` does, into a spare if it is large and there is one of its size.
-    ///
-    /// `bytes` is the size of the text's largest part.
     #[inline]
-    pub fn append_sized<T: Append>(&mut self, text: &T, bytes: usize) -> Result<(), AllocError>
-        requires { T.can_append text.now }
-        ensures ok { OnOk result (self.new ≡ self.old ++ T.bytes text.now) }
-        ensures err { OnErr result (self.new ≡ self.old) }
-    {
-        self.queue.append_sized(text, bytes)
+    fn append_sized<T: Append>(&mut self, text: &T, largest: usize) -> Result<(), AllocError> {
+        self.queue.append_sized(text, largest)
+    }
+
+    /// Appends a text, a copy of parts that are lent, and a text behind them.
+    fn append_lent<T: Append, U: Append>(
+        &mut self,
+        front: &T,
+        parts: Lents,
+        back: &U,
+    ) -> Result<(), AllocError> {
+        append_copy(&mut self.queue, front, parts, back)
     }
 
     /// Drops the first `n` bytes, which were written. It moves nothing.
     #[inline]
-    pub fn consume(&mut self, n: usize)
-        requires { n ≤ length self.old }
-        ensures { self.new ≡ drop n self.old }
-    {
+    fn consume(&mut self, n: usize) {
         self.queue.consume(n);
     }
 
-    /// Returns how many bytes are in memory: those not written, and written ones before them.
-    pub fn filled_bytes(&self) -> usize
-        ensures least { length self.now ≤ result }
-        ensures empty { self.now ≡ [] → result ≡ 0 }
-    {
+    fn filled_bytes(&self) -> usize {
         self.queue.filled_bytes()
     }
 
-    /// Returns the number of reserved bytes.
-    pub fn capacity(&self) -> usize
-        ensures filled { length self.now ≤ result }
-        ensures empty { self.now ≡ [] → result ≤ 131072 }
-    {
+    fn capacity(&self) -> usize {
         self.queue.capacity()
     }
 
-    /// Frees memory beyond that of a first piece, if there are no bytes.
-    ///
-    /// Returns the number of reserved bytes afterwards.
-    pub fn rest(&mut self) -> usize
-        ensures same { self.new ≡ self.old }
-        ensures empty { self.new ≡ [] → result ≤ first_piece }
-    {
+    fn rest(&mut self) -> usize {
         self.queue.rest()
     }
 }

@@ -8,7 +8,7 @@ ghost use Rattle.mc_session.specs.Turns.{SessionState};
 
 use crate::after_turn::AfterTurn;
 use crate::answer::answer;
-use crate::output::Output;
+use crate::output::{Outgoing, Output};
 use mc_bytes::{Source, Spares};
 use mc_parse::{Feed, Peek};
 use mc_protocol::{Command, Steps};
@@ -46,20 +46,23 @@ impl From<AllocError> for TurnFault {
     }
 }
 
-/// The turns of one connection.
+/// The turns of one connection, whose texts are appended to an output of this type.
 ///
 /// Contracts see the unread part of its stream, the number of turns taken of its first unit, the
 /// output that isn't written yet, and whether it is open.
 #[derive(Drop)]
-pub struct Session {
+pub struct SessionOf<O: Outgoing + Drop> {
     feed: Feed,
     /// The number of turns taken of the first unit.
     taken: usize,
-    out: Output,
+    out: O,
     is_open: bool,
 }
 
-impl Model for Session {
+/// A session whose output lies in one part of memory.
+pub type Session = SessionOf<Output>;
+
+impl<O: Outgoing + Drop> Model for SessionOf<O> {
     ghost use Rattle.mc_session.specs.Turns.{SessionState};
     ghost use Rattle.mc_session.specs.Answers.{IsWithinUnit};
 
@@ -68,14 +71,14 @@ impl Model for Session {
     ghost view = { λ s. record {
       unread = s.feed;
       taken = s.taken;
-      out = s.out;
+      out = O.bytes s.out;
       is_open = s.is_open;
     } };
 
     ghost invariant = { λ s. IsWithinUnit s.feed s.taken };
 }
 
-impl Session {
+impl<O: Outgoing + Drop> SessionOf<O> {
     ghost use Rattle.std.specs.Prelude.{◌≡◌, ◌≤◌, ◌↔◌, ℕ, List, [], length, option_copied, IsTrue, IsFalse, OnOk, OnErr, IfOk, IfErr, Ok, Some, IfSome};
     ghost use Rattle.mc_protocol.specs.Commands.{longest_key};
     ghost use Rattle.mc_bytes.specs.Sources.{Brings};
@@ -84,27 +87,28 @@ impl Session {
     ghost use Rattle.mc_session.specs.Answers.{gone_on, MayGoOn};
     ghost use Rattle.mc_session.specs.Resting.{resting, kept_empty};
     ghost use Rattle.mc_session.specs.Reading.{ReadsNext};
+    ghost use Rattle.mc_bytes.specs.Parts.{IsFront};
 
     /// Makes a session without bytes, whose storage commands may charge at most `greatest` bytes.
     ///
     /// It takes no memory.
-    pub fn new(alloc: Global, greatest: u64) -> Session
+    pub fn new(alloc: Global, greatest: u64) -> SessionOf<O>
         ensures { result ≡ opened greatest }
     {
-        Session::with_spares(alloc, greatest, None)
+        SessionOf::with_spares(alloc, greatest, None)
     }
 
     /// Makes a session that takes the memory of large blocks and texts from these spares, and gives
     /// it back to them.
     ///
     /// It takes no memory.
-    pub fn with_spares(alloc: Global, greatest: u64, spares: Option<&Spares>) -> Session
+    pub fn with_spares(alloc: Global, greatest: u64, spares: Option<&Spares>) -> SessionOf<O>
         ensures { result ≡ opened greatest }
     {
-        Session {
+        SessionOf {
             feed: Feed::with_spares(alloc, greatest, Spares::another(spares)),
             taken: 0,
-            out: Output::new(alloc, Spares::another(spares)),
+            out: O::new(alloc, Spares::another(spares)),
             is_open: true,
         }
     }
@@ -233,7 +237,7 @@ impl Session {
         ensures out { IsTrue result → length self.now.out ≡ 0 }
         ensures all { length self.now.unread.bytes ≡ 0 → length self.now.out ≡ 0 → IsTrue result }
     {
-        let (unread, unsent) = (self.feed.held(), self.out.as_slice().len());
+        let (unread, unsent) = (self.feed.held(), self.out.len());
         unread == 0 && unsent == 0
     }
 
@@ -291,16 +295,33 @@ impl Session {
         }
     }
 
-    /// Lends the output that isn't written yet.
-    pub fn out(&self) -> &[u8]
-        ensures { result.now ≡ self.now.out }
+    /// Lends the first bytes of the output that isn't written yet: none only if there are none.
+    #[inline]
+    pub fn front(&self) -> &[u8]
+        ensures { IsFront self.now.out result.now }
     {
-        self.out.as_slice()
+        self.out.front()
+    }
+
+    /// Returns the number of bytes of output that isn't written yet.
+    #[inline]
+    pub fn out_len(&self) -> usize
+        ensures { result ≡ length self.now.out }
+    {
+        self.out.len()
+    }
+
+    /// Returns whether the output that isn't written yet is this text.
+    pub fn out_is(&self, text: &[u8]) -> bool
+        ensures { IsTrue result ↔ (self.now.out ≡ text.now) }
+    {
+        self.out.is(text)
     }
 
     /// Drops the first `n` bytes of the output, which were written.
     ///
     /// It moves nothing: the next text that is appended does, if at least half are written.
+    #[inline]
     pub fn sent(&mut self, n: usize)
         requires { n ≤ length self.old.out }
         ensures { self.new ≡ sent self.old n }
@@ -315,6 +336,17 @@ impl Session {
         self.is_open = false;
         self.taken = 0;
         self.feed.clear();
+    }
+}
+
+impl SessionOf<Output> {
+    ghost use Rattle.std.specs.Prelude.{◌≡◌};
+
+    /// Lends the output that isn't written yet.
+    pub fn out(&self) -> &[u8]
+        ensures { result.now ≡ self.now.out }
+    {
+        self.out.as_slice()
     }
 }
 
