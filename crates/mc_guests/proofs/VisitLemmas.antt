@@ -5,25 +5,38 @@ use Rattle.std.proofs.Math.ListN.{set}
 use Rattle.std.proofs.lemmas.List.{take_more, take_more_set, get_or-drop, drop-set-lt}
 use Rattle.std.proofs.lemmas.Grind.{drop_more_same}
 use Rattle.mc_protocol.specs.declared.step.Steps.{Ghosts as Relations}
-use Rattle.std.proofs.lemmas.List.{take-append-drop, length-take-le, append-nil}
+use Rattle.std.proofs.lemmas.List.{take-append-drop, take-append-le, length-append, length-take-le, append-nil}
+use Rattle.mc_bytes.specs.Parts.{IsFront}
 use Rattle.mc_session.specs.Turns.{SessionState, DecidesStep, TurnIsDue, FedPiece, sent, closed}
 use Rattle.mc_guests.specs.Links.{LinkState, IsRoom, asked, grown, gave, took, failed, ended}
-use Rattle.mc_guests.specs.Guests.{GuestState, IsWaiting}
+use Rattle.mc_guests.specs.Guests.{GuestState, IsWaiting, IsOffer}
 use Rattle.mc_guests.specs.Visits.{WritesFront, ReadsPiece, WaitsForLink, EndsServed, EndsBroken, RefusesPiece, RefusesTurn, Reads, Does, Visited, GoesRound, next}
 use Rattle.mc_guests.specs.declared.guest.Visit.{Visit}
 use Rattle.mc_guests.specs.declared.guest.Visit.TheVariants.{Wrote, Turned, Read, Later, Served, Broken, Refused}
 
-pub writes_front : (old new : GuestState) (n : ℕ) (bytes : List ℕ) → bytes ≡ old.session.out → 0 < n → n ≤ length bytes
-    → new.session ≡ sent old.session n → new.link ≡ took (asked false new.link.requested old.link) (take n bytes)
-    → new.link.requested ≡ length bytes → WritesFront old new
-writes_front old new n bytes is some low s l offered = record {
-  part = take n bytes;
-  some = let e = length-take-le n bytes low in subst (λ k. 0 < k) (sym e) some;
-  parts = subst (λ (t : SessionState). old.session.out ≡ take n bytes ++ t.out) (sym s)
-      (subst (λ (b : List ℕ). old.session.out ≡ take n b ++ drop n old.session.out) (sym is) (sym (take-append-drop n old.session.out)));
-  session = subst (λ (t : SessionState). t ≡ record old.session { out = t.out }) (sym s) refl;
-  link = l ∙ ap (λ (k : ℕ). took (asked false k old.link) (take n bytes)) (offered ∙ ap length is);
-}
+-- a front of what isn't empty
+is_offer : (all front : List ℕ) → IsFront all front → (all ≡ [] → ⊥) → IsOffer (length front) (length all)
+is_offer all [] is some = absurd (some (is.some refl))
+is_offer all (byte ∷ front) is some =
+    let long = ap length is.parts ∙ length-append (byte ∷ front) is.rest in
+    (omega arith, omega (arith, long))
+
+pub writes_front : (old new : GuestState) (n : ℕ) (front : List ℕ) → IsFront old.session.out front → (old.session.out ≡ [] → ⊥) → 0 < n → n ≤ length front
+    → new.session ≡ sent old.session n → new.link ≡ took (asked false new.link.requested old.link) (take n front)
+    → new.link.requested ≡ length front → WritesFront old new
+writes_front old new n front is has some low s l offered =
+    let long : length (take n front) ≡ n = length-take-le n front low in
+    let same : take n old.session.out ≡ take n front = ap (take n) is.parts ∙ take-append-le n front is.rest low in
+    record {
+      part = take n front;
+      some = subst (λ k. 0 < k) (sym long) some;
+      parts = subst (λ (t : SessionState). old.session.out ≡ take n front ++ t.out) (sym s)
+          (sym (take-append-drop n old.session.out) ∙ ap (λ l. l ++ drop n old.session.out) same);
+      session = subst (λ (t : SessionState). t ≡ record old.session { out = t.out }) (sym s) refl;
+      link = l;
+      offered = subst (λ k. IsOffer k (length old.session.out)) (sym offered) (is_offer old.session.out front is has);
+      within = omega (arith, long, low, offered);
+    }
 
 pub round_more : {S : Type 0} (relations : Relations S) (now : ℕ) (olds news : List GuestState) (i : ℕ)
     (x y : GuestState) (before between after : S) (answer : Visit) → length news ≡ length olds

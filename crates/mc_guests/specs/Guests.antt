@@ -1,6 +1,6 @@
 -- What contracts see of a guest.
 use mathlib.Core.Logic.{inl, inr}
-use Rattle.std.specs.Prelude.{◌≡◌, ◌⊎◌, ◌||◌, ◌&&◌, ◌-◌, ℕ, Bool, true, false, List, [], length, Option, Some, None, IsTrue}
+use Rattle.std.specs.Prelude.{◌≡◌, ◌⊎◌, ◌||◌, ◌&&◌, ◌-◌, ◌<◌, ◌≤◌, ℕ, Bool, true, false, List, [], length, Option, Some, None, IsTrue}
 use Rattle.mc_session.specs.Turns.{SessionState, NoTurnDue, TurnIsDue, opened}
 use Rattle.mc_guests.specs.Links.{LinkState, IsRoom, grown}
 use Rattle.mc_guests.specs.Paces.{begun}
@@ -55,9 +55,13 @@ abbrev pub wants : {session : SessionState} → AwaitsLink session → Bool
 wants (inl has_output) = false
 wants (inr is_waiting) = true
 
--- how many bytes its link is asked for: it is offered all of the output, or is lent room
+-- a front of the output that isn't empty has this number of bytes
+abbrev pub IsOffer : (bytes all : ℕ) → Type 0
+IsOffer bytes all = (0 < bytes) × (bytes ≤ all)
+
+-- how many bytes its link is asked for: it is offered a front of the output, or is lent room
 abbrev pub IsDemand : (session : SessionState) → AwaitsLink session → (bytes : ℕ) → Type 0
-IsDemand session (inl has_output) bytes = bytes ≡ length session.out
+IsDemand session (inl has_output) bytes = IsOffer bytes (length session.out)
 IsDemand session (inr is_waiting) bytes = IsRoom bytes
 
 -- the bytes that its link took, and those that wait for it

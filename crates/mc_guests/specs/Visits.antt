@@ -1,19 +1,21 @@
 -- What a visit does.
-use Rattle.std.specs.Prelude.{◌≡◌, ◌⊎◌, ◌<◌, ℕ, true, false, List, [], ◌∷◌, ◌++◌, length, Some, IsTrue, IsFalse}
+use Rattle.std.specs.Prelude.{◌≡◌, ◌⊎◌, ◌<◌, ◌≤◌, ℕ, true, false, List, [], ◌∷◌, ◌++◌, length, Some, IsTrue, IsFalse}
 use Rattle.mc_protocol.specs.declared.step.Steps.{Ghosts as Relations}
 use Rattle.mc_session.specs.Turns.{TakesTurn, DecidesStep, closed, fed}
 use Rattle.mc_guests.specs.Links.{IsRoom, asked, gave, took, failed, ended}
-use Rattle.mc_guests.specs.Guests.{GuestState, ends, has_ended, IsTurnDue, IsWaiting, AwaitsLink, wants, IsDemand}
+use Rattle.mc_guests.specs.Guests.{GuestState, ends, has_ended, IsTurnDue, IsWaiting, AwaitsLink, wants, IsOffer, IsDemand}
 use Rattle.mc_guests.specs.declared.guest.Visit.{Visit}
 use Rattle.mc_guests.specs.declared.guest.Visit.TheVariants.{Wrote, Turned, Read, Later, Served, Broken, Refused}
 
--- the link was offered all of the output and took a front of it, which leaves it
+-- the link was offered a front of the output and took a front of that, which leaves the output
 pub record WritesFront (old new : GuestState) : Type 0 where
   pub part : List ℕ
   pub some : 0 < length part
   pub parts : old.session.out ≡ part ++ new.session.out
   pub session : new.session ≡ record old.session { out = new.session.out }
-  pub link : new.link ≡ took (asked false (length old.session.out) old.link) part
+  pub link : new.link ≡ took (asked false new.link.requested old.link) part
+  pub offered : IsOffer new.link.requested (length old.session.out)
+  pub within : length part ≤ new.link.requested
 
 -- the link was lent room and gave a piece of at least one byte, which was fed
 pub record ReadsPiece (old new : GuestState) : Type 0 where

@@ -23,7 +23,7 @@ const GATHERED: usize = 65_536;
 const HANDED_ON: usize = 32_768;
 
 /// The most bytes of such a text in one write, so that others needn't wait for long.
-const LONGEST: usize = 524_288;
+const LONGEST: usize = 1_048_576;
 
 /// A link over another, which gathers output.
 ///

@@ -16,7 +16,7 @@ use crate::measure::Naming;
 use crate::tap::{LONGEST_PIECE, Tap, Tapped};
 use mc_bytes::{FIRST_PIECE, Spares};
 use mc_protocol::Steps;
-use mc_session::{Session, Turn};
+use mc_session::{LentOutput, SessionOf, Turn};
 use mc_time::Moment;
 use std::alloc::{AllocError, Global};
 use std::marker::Model;
@@ -48,7 +48,7 @@ pub enum Visit {
 /// A session with its link. Contracts see both, and the answer of the last visit.
 #[derive(Drop)]
 pub struct Guest<L: Link + Drop> {
-    session: Session,
+    session: SessionOf<LentOutput>,
     tap: Tap<L>,
     /// The most bytes of the next read.
     longest: usize,
@@ -81,7 +81,7 @@ impl<L: Link + Drop> Guest<L> {
         ensures { result ≡ welcomed greatest (L.shown link) }
     {
         Guest {
-            session: Session::with_spares(alloc, greatest, spares),
+            session: SessionOf::with_spares(alloc, greatest, spares),
             tap: Tap { link },
             longest: FIRST_PIECE,
             moved: 0,
@@ -98,15 +98,15 @@ impl<L: Link + Drop> Guest<L> {
 
     /// Does the one thing that is due: writes output, else takes a turn, else reads, or ends.
     ///
-    /// A write offers the link all of the output, and a read lends it room for 1 to 16384 bytes. A
-    /// guest that has ended does nothing, and answers what ended it.
+    /// A write offers the link a front of the output, and a read lends it room for 1 to 16384 bytes.
+    /// A guest that has ended does nothing, and answers what ended it.
     pub fn visit<S: Steps>(&mut self, alloc: Global, store: &mut S, now: Moment) -> Visit
         ensures { Visited S.Steps now result self.old self.new store.old store.new }
     {
         if let Some(answer) = self.ending() {
             return answer;
         }
-        let answer = if self.session.out().is_empty() {
+        let answer = if self.is_written() {
             self.turn_or_read(alloc, store, now)
         } else {
             self.hasten();
@@ -148,19 +148,43 @@ impl<L: Link + Drop> Guest<L> {
 
     /// Notes at its link that no request is at hand: nothing is unread, or what is isn't a whole
     /// request and the output is long.
+    ///
+    /// It does so only if the link is offered all of the output: a short text is sent with the part
+    /// behind it.
     fn hasten(&mut self)
         ensures { self.new ≡ self.old }
     {
-        if self.session.has_nothing_unread()
-            || (self.session.out().len() >= LONG && self.session.is_idle())
-        {
+        let Some(out) = self.lone_out() else {
+            return;
+        };
+        let is_long = out.len() >= LONG;
+        if self.session.has_nothing_unread() || (is_long && self.session.is_idle()) {
             self.tap.link.send_soon();
+        }
+    }
+
+    /// Returns whether all output was written.
+    fn is_written(&self) -> bool
+        ensures { IsTrue result ↔ (self.now.session.out ≡ []) }
+    {
+        self.session.out_len() == 0
+    }
+
+    /// Lends the output if it lies in one part of memory.
+    fn lone_out(&self) -> Option<&[u8]>
+        ensures { IfSome result (λ out. out.now ≡ self.now.session.out) }
+    {
+        let front = self.session.front();
+        if front.len() == self.session.out_len() {
+            Some(front)
+        } else {
+            None
         }
     }
 
     /// Returns whether its output was written, and a request came whole or it is closed.
     pub(crate) fn is_turn_due(&self) -> bool {
-        self.session.out().is_empty() && !self.session.is_idle()
+        self.is_written() && !self.session.is_idle()
     }
 
     /// Returns the bytes reserved for output that its link still has, beyond a first piece.
@@ -181,7 +205,7 @@ impl<L: Link + Drop> Guest<L> {
     /// Drops the unread bytes and the output, and frees their memory.
     pub(crate) fn give_up(&mut self) {
         self.session.close();
-        let waiting = self.session.out().len();
+        let waiting = self.session.out_len();
         self.session.sent(waiting);
     }
 
@@ -220,7 +244,7 @@ impl<L: Link + Drop> Guest<L> {
         ensures unread { self.now.session.unread.bytes ≡ [] → result ≡ 0 }
         ensures out { (self.now.session.out ≡ [] → ⊥) → result ≡ 0 }
     {
-        if self.session.out().is_empty() {
+        if self.is_written() {
             self.session.announced_bytes()
         } else {
             0
@@ -247,7 +271,8 @@ impl<L: Link + Drop> Guest<L> {
     pub(crate) fn is_told_too_large(&self) -> bool
         ensures { IsTrue result ↔ (self.now.session.out ≡ too_large) }
     {
-        self.session.out() == b"SERVER_ERROR object too large for cache\r\n".as_slice()
+        self.session
+            .out_is(b"SERVER_ERROR object too large for cache\r\n".as_slice())
     }
 
     /// Returns what ended it.
@@ -262,7 +287,7 @@ impl<L: Link + Drop> Guest<L> {
         }
     }
 
-    /// Offers the output to the link, which takes a front of it.
+    /// Offers a front of the output to the link, which takes a front of that.
     ///
     /// A write of 0 bytes answers `Later`.
     fn write_out(&mut self) -> Visit
@@ -270,7 +295,7 @@ impl<L: Link + Drop> Guest<L> {
         ensures last { self.new.last ≡ self.old.last }
         ensures writes { Writes result self.old self.new }
     {
-        match self.tap.link.try_write(self.session.out()) {
+        match self.tap.link.try_write(self.session.front()) {
             Ok(Took::Bytes(taken)) => {
                 if taken == 0 {
                     return Visit::Later;
@@ -364,7 +389,7 @@ impl<L: Link + Drop> Naming for Guest<L> {
             option_copied result ≡ Some key }
         ensures short { IfSome result (λ key. length key.now ≤ longest_key) }
     {
-        if !self.session.out().is_empty() {
+        if !self.is_written() {
             return None;
         }
         self.session.key()
