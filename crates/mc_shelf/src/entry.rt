@@ -1,6 +1,6 @@
 //! An item as an entry of an index.
 
-ghost use Rattle.std.specs.Prelude.{◌≡◌, ◌+◌, ◌<◌, ◌≤◌, ◌++◌, length, drop, slice_get, Some, OnOk, OnErr};
+ghost use Rattle.std.specs.Prelude.{◌≡◌, ◌+◌, ◌<◌, ◌≤◌, ◌++◌, length, drop, slice_get, Some, IfSome, OnOk, OnErr};
 ghost use Rattle.std.specs.List.{concat, list_all};
 ghost use Rattle.mc_slab.specs.Needs.{IsNeed, need_for};
 ghost use Rattle.mc_slab.specs.Chunks.{need_in, with_part};
@@ -8,6 +8,7 @@ ghost use Rattle.mc_protocol.specs.Words.{is_space};
 ghost use Rattle.mc_protocol.specs.Plain.{charge, item_need, number_of};
 ghost use Rattle.mc_shelf.specs.States.{charge_in, entry_in, entry_with, parts_of};
 
+use mc_bytes::Lent;
 use mc_hop::Keyed;
 use mc_item::{Head, Item, Parts};
 use mc_protocol::{Standing, number_of};
@@ -202,6 +203,18 @@ impl Entry {
             → result.now ≡ self.now.item.block }
     {
         self.item.part(at)
+    }
+
+    /// Lends a part of its block for as long as the result is there, the first at 0.
+    ///
+    /// The bytes that are lent stay as they are, even if the item is written again or deleted. It
+    /// takes no memory. `None` if the part's memory can't be lent, as in classes below the last.
+    pub(crate) fn lend(&self, at: usize) -> Option<Lent>
+        requires { at < (item_need self.now.key self.now.item).count }
+        ensures { IfSome result (λ lent.
+            slice_get (parts_of self.now.key self.now.item) at ≡ Some lent) }
+    {
+        self.item.lend(at)
     }
 
     /// Appends its block to a vector.

@@ -1,6 +1,6 @@
 //! Reads that lend the item they find in place, so that no block is copied.
 
-ghost use Rattle.std.specs.Prelude.{◌≡◌, ◌<◌, ◌≤◌, length, slice_get, Some, true, false};
+ghost use Rattle.std.specs.Prelude.{◌≡◌, ◌<◌, ◌≤◌, length, slice_get, Some, IfSome, true, false};
 ghost use Rattle.std.specs.List.{concat};
 ghost use Rattle.std.specs.FinMap.{get};
 ghost use Rattle.mc_protocol.specs.Commands.{key_of};
@@ -12,11 +12,14 @@ ghost use Rattle.mc_shelf.specs.Hits.{found_of, is_read, read_expiry};
 use crate::entry::Entry;
 use crate::index::Place;
 use crate::shelf::Shelf;
+use mc_bytes::Lent;
 use mc_protocol::{KeyStep, Standing};
 use mc_time::{Expiry, Moment, expiry_of, is_dead};
 use std::marker::Model;
 
 /// An item under a key, lent in place. Contracts see the key and the item.
+///
+/// The parts of a large block can be lent beyond it ([`Hit::lend`]), where they stay as they are.
 #[derive(Drop)]
 pub struct Hit<'a> {
     entry: &'a Entry,
@@ -75,6 +78,18 @@ impl<'a> Hit<'a> {
             → result.now ≡ self.now.item.block }
     {
         self.entry.part(at)
+    }
+
+    /// Lends a part of the item's block for as long as the result is there, the first at 0.
+    ///
+    /// The bytes that are lent stay as they are, even if the item is written again or deleted. It
+    /// takes no memory. `None` if the part's memory can't be lent, as in classes below the last.
+    pub fn lend(&self, at: usize) -> Option<Lent>
+        requires { at < (item_need self.now.key self.now.item).count }
+        ensures { IfSome result (λ lent.
+            slice_get (parts_of self.now.key self.now.item) at ≡ Some lent) }
+    {
+        self.entry.lend(at)
     }
 
     /// Returns the item's place, for `Shelf::settle_read`.

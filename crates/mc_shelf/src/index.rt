@@ -30,7 +30,6 @@ ghost use Rattle.mc_shelf.specs.Places.{
 
 use crate::counts::ShelfCounts;
 use crate::entry::Entry;
-use crate::plan::is_gone;
 use crate::soonest::Soonest;
 use crate::write::Write;
 pub(crate) use mc_grow::Place;

@@ -41,7 +41,6 @@ ghost use Rattle.mc_shelf.specs.Plans.{
   finished,
   gives_way_to,
   has_no_number,
-  is_gone,
   item_in,
   next_of,
   row_at,
@@ -56,7 +55,7 @@ use crate::desk::{Desk, Wanted};
 use crate::entry::Entry;
 use crate::exchange::Brought;
 use crate::index::{Index, Place};
-use crate::plan::{Next, Plan, is_gone, next_of};
+use crate::plan::{Next, Plan, next_of};
 use crate::soonest::Soonest;
 use crate::write::{Write, dead_chunks, gives_way};
 use mc_protocol::{Bytes, KeyStep, Reply, StepFault};
