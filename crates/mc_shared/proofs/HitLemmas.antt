@@ -12,6 +12,7 @@ use Rattle.mc_shelf.specs.Hits.{found_of, is_read}
 use Rattle.mc_protocol.specs.Laws.{IsOnKey}
 use Rattle.mc_protocol.specs.declared.step.KeyStep.{KeyStep}
 use Rattle.mc_protocol.specs.declared.step.KeyStep.TheVariants.{Read, ReadTouch, Store, Cas, Touch, Delete, Count, Flush}
+use Rattle.mc_shared.specs.Telling.{AreLentParts, IsLentPart}
 use Rattle.mc_shelf.specs.declared.hit.Found.{Found}
 use Rattle.mc_shelf.specs.declared.hit.Found.TheVariants.{Nothing, Dead, Standing}
 
@@ -73,6 +74,21 @@ pub none_behind : (parts : List (List ℕ)) (at : ℕ) → length parts ≤ at �
 none_behind [] at behind = refl
 none_behind (x ∷ parts) zero behind = absurd (omega arith)
 none_behind (x ∷ parts) (suc at) behind = none_behind parts at (omega arith)
+
+-- eight parts that were lent are each the one at its place
+pub lent-eight : (parts : List (List ℕ)) (a b c d e f g h : Option (List ℕ))
+    → IsLentPart parts 0 a → IsLentPart parts 1 b → IsLentPart parts 2 c → IsLentPart parts 3 d
+    → IsLentPart parts 4 e → IsLentPart parts 5 f → IsLentPart parts 6 g → IsLentPart parts 7 h
+    → AreLentParts parts (a ∷ b ∷ c ∷ d ∷ e ∷ f ∷ g ∷ h ∷ [])
+lent-eight parts a b c d e f g h pa pb pc pd pe pf pg ph zero = pa
+lent-eight parts a b c d e f g h pa pb pc pd pe pf pg ph (suc zero) = pb
+lent-eight parts a b c d e f g h pa pb pc pd pe pf pg ph (suc (suc zero)) = pc
+lent-eight parts a b c d e f g h pa pb pc pd pe pf pg ph (suc (suc (suc zero))) = pd
+lent-eight parts a b c d e f g h pa pb pc pd pe pf pg ph (suc (suc (suc (suc zero)))) = pe
+lent-eight parts a b c d e f g h pa pb pc pd pe pf pg ph (suc (suc (suc (suc (suc zero))))) = pf
+lent-eight parts a b c d e f g h pa pb pc pd pe pf pg ph (suc (suc (suc (suc (suc (suc zero)))))) = pg
+lent-eight parts a b c d e f g h pa pb pc pd pe pf pg ph (suc (suc (suc (suc (suc (suc (suc zero))))))) = ph
+lent-eight parts a b c d e f g h pa pb pc pd pe pf pg ph (suc (suc (suc (suc (suc (suc (suc (suc at)))))))) = tt
 
 -- eight places have all of them
 pub concat-eight : (parts : List (List ℕ)) → length parts ≤ 8

@@ -1,5 +1,5 @@
 -- Steps that deliver their reply to an `Answer`.
-use Rattle.std.specs.Prelude.{◌≡◌, ℕ, Result, Err, OnOk, OnErr, Some, None, true}
+use Rattle.std.specs.Prelude.{◌≡◌, ℕ, List, Option, Result, Err, OnOk, OnErr, IfSome, Some, None, get_or, slice_get, true}
 use Rattle.std.specs.FinMap.{get}
 use Rattle.mc_protocol.specs.declared.step.KeyStep.{KeyStep}
 use Rattle.mc_protocol.specs.declared.reply.Reply.{Reply}
@@ -18,6 +18,14 @@ use Rattle.mc_protocol.specs.declared.answer.Unanswered.{Unanswered}
 use Rattle.mc_protocol.specs.declared.answer.Unanswered.TheVariants.{NoMemory, NumbersSpent, Untold}
 use Rattle.mc_shared.specs.declared.telling.Sought.{Sought}
 use Rattle.mc_shared.specs.declared.telling.Sought.TheVariants.{Told, Nothing, Deferred}
+
+-- a lent part, if there is one, is the part at a place
+abbrev pub IsLentPart : (parts : List (List ℕ)) → (at : ℕ) → Option (List ℕ) → Type 0
+IsLentPart parts at lent = IfSome lent (λ part. slice_get parts at ≡ Some part)
+
+-- each lent part is the part at its place
+abbrev pub AreLentParts : (parts : List (List ℕ)) → List (Option (List ℕ)) → Type 0
+AreLentParts parts lents = (at : ℕ) → IsLentPart parts at (get_or lents at None)
 
 -- a shelf has an item under a step's key that isn't dead
 abbrev pub ItemStands : ShelfContent → KeyStep → (now : ℕ) → Type 0

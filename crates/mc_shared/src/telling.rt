@@ -1,12 +1,15 @@
 //! Steps that deliver their reply to an `Answer`.
 //!
-//! A hit is delivered while its item is in place, any other reply once the step is taken.
+//! A hit is delivered while its item is in place, any other reply once the step is taken. The parts
+//! of a large block are handed as shared memory, where they can be lent, so that the answer may keep
+//! them for as long as it wants. A block of one part with fewer than 32768 bytes is handed in place,
+//! to be copied.
 ghost use Rattle.std.specs.Prelude.{◌≡◌, [], true, false, Ok, Err, Some, IfOk, OnOk, OnErr};
-ghost use Rattle.std.specs.Prelude.{◌≤◌, get_or, length};
+ghost use Rattle.std.specs.Prelude.{◌<◌, ◌≤◌, get_or, length, slice_get};
 ghost use Rattle.std.specs.List.{concat};
 ghost use Rattle.std.specs.FinMap.{get};
 ghost use Rattle.mc_protocol.specs.Commands.{key_of};
-ghost use Rattle.mc_protocol.specs.Plain.{hit_of};
+ghost use Rattle.mc_protocol.specs.Plain.{hit_of, item_need};
 ghost use Rattle.mc_protocol.specs.declared.reply.Reply.{Reply as Told};
 ghost use Rattle.mc_shelf.specs.States.{IsHash, parts_of};
 ghost use Rattle.mc_shelf.specs.Hits.{is_read};
@@ -16,7 +19,7 @@ ghost use Rattle.mc_shared.specs.Steps.{Agrees};
 ghost use Rattle.mc_shared.specs.Store.{HasCalled, MayFailAfter};
 ghost use Rattle.mc_shared.specs.Seats.{IsFree};
 ghost use Rattle.mc_shared.specs.Holds.{HoldsShelf, IsAsked};
-ghost use Rattle.mc_shared.specs.Telling.{CameOfRead, IsSought, IsTold, ItemStands};
+ghost use Rattle.mc_shared.specs.Telling.{AreLentParts, CameOfRead, IsLentPart, IsSought, IsTold, ItemStands};
 
 use crate::ask::Ask;
 use crate::bay::Bay;
@@ -27,10 +30,10 @@ use crate::rule::Seat;
 use crate::step::{growing_shelf, is_read};
 use crate::steps::decide;
 use crate::store::{Caller, Shared};
+use mc_bytes::Lent;
 use mc_hop::KeyHash;
-use mc_protocol::{Answer, Bytes, KeyStep, Reply, StepFault, Unanswered};
+use mc_protocol::{Answer, Bytes, Reply, StepFault, Unanswered};
 use mc_shelf::{Found, Hit, Place, Shelf};
-use mc_time::Moment;
 use std::alloc::{AllocError, Global};
 use std::snapshot::Snapshot;
 use std::sync::Wait;
@@ -49,44 +52,118 @@ pub(crate) enum Sought {
 /// The most parts of an item's block.
 const MOST_PARTS: usize = 8;
 
-/// Lends a part of an item's block. Parts behind the last are empty.
-fn part_at<'a>(hit: &'a Hit<'_>, at: usize) -> Bytes<'a>
+/// The least block that is lent: a shorter one is copied sooner.
+const LARGE: usize = 32_768;
+
+/// Lends a part of an item's block as shared memory. `None` if it can't be lent, or isn't there.
+fn lend_at(hit: &Hit<'_>, at: usize) -> Option<Lent>
+    ensures { IsLentPart (parts_of hit.now.key hit.now.item) at result }
+{
+    if at < hit.parts() { hit.lend(at) } else { None }
+}
+
+/// Lends the parts of an item's block as shared memory, with `None` behind the last.
+///
+/// A part that can't be lent is `None`, too. It takes no memory.
+fn lend_parts(hit: &Hit<'_>) -> [Option<Lent>; MOST_PARTS]
+    ensures { AreLentParts (parts_of hit.now.key hit.now.item) result }
+{
+    [
+        lend_at(hit, 0),
+        lend_at(hit, 1),
+        lend_at(hit, 2),
+        lend_at(hit, 3),
+        lend_at(hit, 4),
+        lend_at(hit, 5),
+        lend_at(hit, 6),
+        lend_at(hit, 7),
+    ]
+}
+
+/// Returns a part of an item's block, which lies in shared memory if that was lent.
+fn shown<'a>(hit: &'a Hit<'_>, lent: &'a Option<Lent>, at: usize) -> Bytes<'a>
+    requires place { at < (item_need hit.now.key hit.now.item).count }
+    requires lent { IsLentPart (parts_of hit.now.key hit.now.item) at lent.now }
+    ensures { slice_get (parts_of hit.now.key hit.now.item) at ≡ Some result }
+{
+    match lent {
+        Some(part) => Bytes::of_lent(part),
+        None => Bytes::of(hit.part(at)),
+    }
+}
+
+/// Returns a part of an item's block, from what was lent of it. Parts behind the last are empty.
+fn part_at<'a>(hit: &'a Hit<'_>, lents: &'a [Option<Lent>; MOST_PARTS], at: usize) -> Bytes<'a>
+    requires place { at < 8 }
+    requires lent { AreLentParts (parts_of hit.now.key hit.now.item) lents.now }
     ensures value { result ≡ get_or (parts_of hit.now.key hit.now.item) at [] }
     ensures joined { concat (parts_of hit.now.key hit.now.item) ≡ hit.now.item.block }
     ensures few { length (parts_of hit.now.key hit.now.item) ≤ 8 }
 {
     if at < hit.parts() {
-        Bytes::of(hit.part(at))
+        shown(hit, &lents[at], at)
     } else {
         Bytes::of(b"".as_slice())
     }
 }
 
-/// Lends the parts of an item's block, with empty ones behind the last. It takes no memory.
-fn parts_of<'a>(hit: &'a Hit<'_>) -> [Bytes<'a>; MOST_PARTS]
+/// Returns the parts of an item's block, from what was lent of them. It takes no memory.
+///
+/// Parts behind the last are empty.
+fn parts_of<'a>(hit: &'a Hit<'_>, lents: &'a [Option<Lent>; MOST_PARTS]) -> [Bytes<'a>; MOST_PARTS]
+    requires { AreLentParts (parts_of hit.now.key hit.now.item) lents.now }
     ensures { concat result ≡ hit.now.item.block }
 {
     [
-        part_at(hit, 0),
-        part_at(hit, 1),
-        part_at(hit, 2),
-        part_at(hit, 3),
-        part_at(hit, 4),
-        part_at(hit, 5),
-        part_at(hit, 6),
-        part_at(hit, 7),
+        part_at(hit, lents, 0),
+        part_at(hit, lents, 1),
+        part_at(hit, lents, 2),
+        part_at(hit, lents, 3),
+        part_at(hit, lents, 4),
+        part_at(hit, lents, 5),
+        part_at(hit, lents, 6),
+        part_at(hit, lents, 7),
     ]
 }
 
+/// Delivers a hit of an item whose block is one large part, which is lent if its memory can be.
+#[inline(never)]
+fn tell_large<A: Answer>(hit: &Hit<'_>, answer: &mut A) -> Result<(), AllocError>
+    requires place { 0 < (item_need hit.now.key hit.now.item).count }
+    requires lone { slice_get (parts_of hit.now.key hit.now.item) 0 ≡ Some hit.now.item.block }
+    ensures told { OnOk result (A.told answer.old (hit_of (Some hit.now.item)) answer.new) }
+    ensures err { OnErr result (answer.new ≡ answer.old) }
+{
+    let lent = hit.lend(0);
+    answer.hit(hit.flags(), hit.unique(), &[shown(hit, &lent, 0)])
+}
+
+/// Delivers a hit of an item in its parts, which are lent where their memory can be.
+#[inline(never)]
+fn tell_parts<A: Answer>(hit: &Hit<'_>, answer: &mut A) -> Result<(), AllocError>
+    ensures told { OnOk result (A.told answer.old (hit_of (Some hit.now.item)) answer.new) }
+    ensures err { OnErr result (answer.new ≡ answer.old) }
+{
+    let lents = lend_parts(hit);
+    answer.hit(hit.flags(), hit.unique(), &parts_of(hit, &lents))
+}
+
 /// Delivers a hit of an item in its parts, without copying its block.
+///
+/// The parts of a large block are lent as shared memory, where they can be, so that the answer may
+/// keep them.
 fn tell_item<A: Answer>(hit: &Hit<'_>, answer: &mut A) -> Result<(), AllocError>
     ensures told { OnOk result (A.told answer.old (hit_of (Some hit.now.item)) answer.new) }
     ensures err { OnErr result (answer.new ≡ answer.old) }
 {
     if hit.parts() == 1 {
-        return answer.hit(hit.flags(), hit.unique(), &[Bytes::of(hit.part(0))]);
+        let part = hit.part(0);
+        if part.len() < LARGE {
+            return answer.hit(hit.flags(), hit.unique(), &[Bytes::of(part)]);
+        }
+        return tell_large(hit, answer);
     }
-    answer.hit(hit.flags(), hit.unique(), &parts_of(hit))
+    tell_parts(hit, answer)
 }
 
 /// Searches the item of a read in its shelf, and delivers a hit of it in place.

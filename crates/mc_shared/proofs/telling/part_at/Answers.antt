@@ -18,7 +18,7 @@ returns-else-at-parts-clause-value c =
     let range = c.parts.ensures.range in
     let as_many = length-parts_of hit.key hit.item (omega arith) in
     let behind = c.if-at-parts.false in
-    c.of-else-at-parts.ensures ∙ c.as_slice.ensures ∙ sym (none_behind (parts_of hit.key hit.item) c.args.at (omega arith))
+    c.of.ensures ∙ c.as_slice.ensures ∙ sym (none_behind (parts_of hit.key hit.item) c.args.at (omega arith))
 
 pub returns-else-at-parts-clause-few : goal.returns-else-at-parts-clause-few
 returns-else-at-parts-clause-few c =
