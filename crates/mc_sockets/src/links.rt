@@ -29,7 +29,7 @@ pub const WAKER: Token = Token(0);
 pub const EVENTS: usize = 1024;
 
 /// After this many moved bytes the system is polled, even if there is always work.
-const MOVED: usize = 1_048_576;
+const MOVED: usize = 2_097_152;
 
 /// How long a tick is, in milliseconds.
 const TICK: u64 = 250;
