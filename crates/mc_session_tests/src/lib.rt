@@ -1,8 +1,8 @@
 //! Tests of the protocol: the plain store, lines and feeds, texts, sessions and guests.
 //!
-//! They test `mc_command`'s plain store, the queues of `mc_bytes`, the lines and feeds of
+//! They test `mc_command`'s plain store, the queues and lent parts of `mc_bytes`, the lines and feeds of
 //! `mc_parse`, the texts of `mc_reply`, the sessions of `mc_session`, the guests of `mc_guests`,
-//! and the rows of `mc_rows` over the plain store.
+//! and the rows of `mc_testing` over the plain store.
 //!
 //! It is a crate of its own so that no library is proved a second time with its tests. Tests use
 //! only public calls. No program uses this crate.
@@ -19,6 +19,8 @@ mod door_tests;
 mod gathering_tests;
 #[cfg(test)]
 mod hit_tests;
+#[cfg(test)]
+mod lent_tests;
 #[cfg(test)]
 mod parse_line_tests;
 #[cfg(test)]

@@ -23,6 +23,8 @@ mod join_tests;
 #[cfg(test)]
 mod law_tests;
 #[cfg(test)]
+mod lent_tests;
+#[cfg(test)]
 mod presence_tests;
 mod sole;
 #[cfg(test)]

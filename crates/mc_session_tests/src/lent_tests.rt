@@ -1,0 +1,242 @@
+//! Outputs that lend parts of memory in place of a copy, and a session with one.
+
+ghost use Rattle.std.specs.Prelude.{◌≡◌, IfOk};
+
+use mc_bytes::{Append, Large, Lent, Lents};
+use mc_protocol::{Answer, Bytes, KeyStep, Reply, StepFault, Steps, Unanswered};
+use mc_session::{LentOutput, Outgoing, SessionOf, Turn, TurnFault};
+use mc_time::Moment;
+use std::alloc::{AllocError, Global};
+use std::process::Abort;
+use std::sync::Arc;
+use std::test::Fail;
+
+/// A text of these bytes.
+#[derive(Drop)]
+struct Line<'a> {
+    bytes: &'a [u8],
+}
+
+impl<'a> Append for Line<'a> {
+    ghost can_append = { λ _. Unit {0} };
+
+    ghost bytes = { λ line. line.bytes.now };
+
+    fn append_to(&self, buffer: &mut Vec<u8>) -> Result<(), AllocError> {
+        buffer.extend_from_slice(self.bytes)
+    }
+}
+
+/// Returns a text of these bytes.
+fn text_of(bytes: &[u8]) -> Line<'_> {
+    Line { bytes }
+}
+
+/// Returns a copy of bytes in shared memory.
+fn shared(alloc: Global, bytes: &[u8]) -> Result<Lent, AllocError>
+    ensures { IfOk result (λ lent. lent ≡ bytes.now) }
+{
+    let mut memory = Large {
+        bytes: Vec::new(alloc),
+    };
+    memory.bytes.extend_from_slice(bytes)?;
+    match Arc::new(alloc, memory) {
+        Ok(memory) => Ok(Lent::of(memory, 0, bytes.len())),
+        Err(_) => Err(AllocError),
+    }
+}
+
+/// Returns the parts `abcd` and `efgh`.
+fn two_parts(alloc: Global) -> Result<Lents, AllocError> {
+    let mut parts = Lents::of(alloc, shared(alloc, b"abcd")?);
+    parts.push(shared(alloc, b"efgh")?)?;
+    Ok(parts)
+}
+
+/// Appends a text, two parts that are lent, and a text, once more if memory is refused.
+///
+/// A refusal leaves the output as it was.
+fn append_parts(rt: &impl Abort, alloc: Global, out: &mut LentOutput) -> Result<(), AllocError> {
+    let before = out.len();
+    let parts = two_parts(alloc)?;
+    if out
+        .append_lent(&text_of(b"b "), parts, &text_of(b" c"))
+        .is_err()
+    {
+        assert_eq!(rt; out.len(), before);
+        let parts = two_parts(alloc)?;
+        out.append_lent(&text_of(b"b "), parts, &text_of(b" c"))?;
+    }
+    Ok(())
+}
+
+/// Checks that an output lends these bytes in pieces of these lengths, and drops them.
+fn has_pieces(rt: &impl Abort, out: &mut LentOutput, bytes: &[u8], lengths: &[usize]) {
+    assert_eq!(rt; out.len(), bytes.len());
+    let mut left = bytes;
+    for length in lengths {
+        let (piece, rest) = left.split_at(left.len().min(*length));
+        assert_eq!(rt; out.front(), piece);
+        assert!(rt; piece.len() <= out.len());
+        out.consume(piece.len());
+        left = rest;
+    }
+    assert!(rt; left.is_empty() && out.front().is_empty());
+}
+
+/// Checks an output of texts with two parts between them.
+fn parts_stand_between_texts(
+    rt: &impl Abort,
+    alloc: Global,
+    out: &mut LentOutput,
+) -> Result<(), AllocError> {
+    out.append(&text_of(b"a "))?;
+    append_parts(rt, alloc, out)?;
+    out.append(&text_of(b" d"))?;
+    assert!(rt; out.len() == 16 && out.capacity() >= 16);
+    out.consume(5);
+    has_pieces(rt, out, b"bcdefgh c d", &[3, 4, 4]);
+    Ok(())
+}
+
+/// Checks that further parts are copied while others are lent, and lent once these are written.
+fn further_parts_are_copied(
+    rt: &impl Abort,
+    alloc: Global,
+    out: &mut LentOutput,
+) -> Result<(), AllocError> {
+    append_parts(rt, alloc, out)?;
+    append_parts(rt, alloc, out)?;
+    has_pieces(rt, out, b"b abcdefgh cb abcdefgh c", &[2, 4, 4, 14]);
+    append_parts(rt, alloc, out)?;
+    has_pieces(rt, out, b"b abcdefgh c", &[2, 4, 4, 2]);
+    Ok(())
+}
+
+#[test]
+fn parts_are_lent_between_texts(rt: HostRuntime) -> Result<(), Fail> {
+    let alloc = rt.alloc();
+    if parts_stand_between_texts(&rt, alloc, &mut LentOutput::new(alloc, None)).is_err() {
+        parts_stand_between_texts(&rt, alloc, &mut LentOutput::new(alloc, None))?;
+    }
+    Ok(())
+}
+
+#[test]
+fn parts_behind_lent_ones_are_copied(rt: HostRuntime) -> Result<(), Fail> {
+    let alloc = rt.alloc();
+    if further_parts_are_copied(&rt, alloc, &mut LentOutput::new(alloc, None)).is_err() {
+        further_parts_are_copied(&rt, alloc, &mut LentOutput::new(alloc, None))?;
+    }
+    Ok(())
+}
+
+/// A store that has one block under each key, and delivers it in two parts of shared memory.
+#[derive(Drop)]
+struct Sharing {
+    front: Lent,
+    back: Lent,
+}
+
+impl Sharing {
+    fn new(alloc: Global) -> Result<Sharing, AllocError> {
+        Ok(Sharing {
+            front: shared(alloc, b"abcd")?,
+            back: shared(alloc, b"efgh")?,
+        })
+    }
+}
+
+impl Steps for Sharing {
+    ghost use Rattle.std.specs.Prelude.{◌≡◌, refl};
+
+    ghost took = { λ old step now reply new. old ≡ old };
+
+    ghost spent = { λ old step now. old ≡ old };
+
+    ghost same = { λ old new. old ≡ old };
+
+    ghost holds_itself = { λ _. refl };
+
+    fn step(
+        &mut self,
+        _alloc: Global,
+        _step: &KeyStep<'_>,
+        _now: Moment,
+    ) -> Result<Reply, StepFault> {
+        Ok(Reply::Miss)
+    }
+
+    fn step_telling<A: Answer>(
+        &mut self,
+        _alloc: Global,
+        _step: &KeyStep<'_>,
+        _now: Moment,
+        answer: &mut A,
+    ) -> Result<(), Unanswered> {
+        let parts = [
+            Bytes::of_lent(&self.front),
+            Bytes::of(b"".as_slice()),
+            Bytes::of_lent(&self.back),
+        ];
+        match answer.hit(5, 7, &parts) {
+            Ok(()) => Ok(()),
+            Err(_) => Err(Unanswered::NoMemory),
+        }
+    }
+}
+
+/// Checks that a session lends these bytes in pieces of these lengths, and drops them.
+fn writes_pieces(
+    rt: &impl Abort,
+    session: &mut SessionOf<LentOutput>,
+    bytes: &[u8],
+    lengths: &[usize],
+) {
+    assert_eq!(rt; session.out_len(), bytes.len());
+    let mut left = bytes;
+    for length in lengths {
+        let (piece, rest) = left.split_at(left.len().min(*length));
+        assert_eq!(rt; session.front(), piece);
+        assert!(rt; piece.len() <= session.out_len());
+        session.sent(piece.len());
+        left = rest;
+    }
+    assert!(rt; left.is_empty() && session.is_empty());
+}
+
+/// Checks that a hit in two parts of shared memory is lent, and its text written round it.
+///
+/// A turn that is refused memory leaves no output.
+fn hit_is_lent(
+    rt: &impl Abort,
+    alloc: Global,
+    session: &mut SessionOf<LentOutput>,
+    store: &mut Sharing,
+) -> Result<(), TurnFault> {
+    session.feed(b"gets k\r\n")?;
+    match session.turn(alloc, store, Moment::from_seconds(1000)) {
+        Ok(turn) => assert!(rt; turn == Turn::Did),
+        Err(fault) => {
+            assert!(rt; session.is_empty() && session.is_closed() && !fault.decided);
+            return Err(fault);
+        }
+    }
+    let text = b"VALUE k 5 8 7\r\nabcdefgh\r\nEND\r\n";
+    writes_pieces(rt, session, text, &[15, 4, 4, 7]);
+    Ok(())
+}
+
+/// The same in a new session.
+fn a_session_lends(rt: &impl Abort, alloc: Global) -> Result<(), TurnFault> {
+    let mut store = Sharing::new(alloc)?;
+    hit_is_lent(rt, alloc, &mut SessionOf::new(alloc, 100), &mut store)
+}
+
+#[test]
+fn a_hit_in_shared_memory_is_lent(rt: HostRuntime) -> Result<(), Fail> {
+    if a_session_lends(&rt, rt.alloc()).is_err() {
+        a_session_lends(&rt, rt.alloc())?;
+    }
+    Ok(())
+}

@@ -1,0 +1,147 @@
+//! Blocks that are delivered in shared memory: a reader keeps them as they were.
+
+use crate::stores::{LARGE, shared_store};
+use mc_bytes::Lent;
+use mc_hop::Fnv;
+use mc_protocol::{Answer, Bytes, Reply, StepFault, Steps};
+use mc_shared::{Asking, NoGate};
+use mc_testing::{Ask, Row, Want, first_unlike, set, step_of};
+use mc_time::Moment;
+use std::alloc::{AllocError, Global};
+use std::process::Abort;
+use std::sync::Wait;
+use std::test::Fail;
+
+/// The bytes of a block that takes a page.
+const PAGE: usize = 600_000;
+
+/// The bytes of a block that takes three pages.
+const PAGES: usize = 2_500_000;
+
+/// Keeps the first part of a hit, and counts the parts that have bytes.
+#[derive(Drop)]
+struct Reader {
+    first: Option<Lent>,
+    parts: usize,
+    /// The number of parts in shared memory.
+    lent: usize,
+}
+
+impl Answer for Reader {
+    ghost told = { λ old reply new. Unit {0} };
+
+    fn hit(&mut self, _flags: u32, _unique: u64, parts: &[Bytes<'_>]) -> Result<(), AllocError> {
+        for part in parts {
+            if !part.as_slice().is_empty() {
+                self.parts = self.parts.saturating_add(1);
+                self.keep(part.lent());
+            }
+        }
+        Ok(())
+    }
+
+    fn reply(&mut self, _reply: &Reply) -> Result<(), AllocError> {
+        Err(AllocError)
+    }
+}
+
+impl Reader {
+    fn new() -> Reader {
+        Reader {
+            first: None,
+            parts: 0,
+            lent: 0,
+        }
+    }
+
+    /// Counts a part of shared memory, and keeps the first.
+    fn keep(&mut self, part: Option<&Lent>) {
+        if let Some(part) = part {
+            self.lent = self.lent.saturating_add(1);
+            if self.first.is_none() {
+                self.first = part.another();
+            }
+        }
+    }
+
+    /// Returns whether it has a first part of as many bytes, which are all the same.
+    fn has(&self, len: usize, byte: u8) -> bool {
+        match &self.first {
+            Some(part) => part.len() == len && part.as_slice().iter().all(|it| *it == byte),
+            None => false,
+        }
+    }
+}
+
+/// Reads a key.
+fn read<R: Wait>(asking: &mut Asking<'_, R, Fnv, NoGate>, alloc: Global, key: u8) -> Reader {
+    let mut reader = Reader::new();
+    let key = [key];
+    let step = step_of(&key, Ask::Get);
+    let now = Moment::from_seconds_at_most(1000);
+    let _ = asking.step_telling(alloc, &step, now, &mut reader);
+    reader
+}
+
+/// Sets `a` to `len` bytes, all the same, and returns whether it was stored.
+fn is_set<R: Wait>(
+    asking: &mut Asking<'_, R, Fnv, NoGate>,
+    alloc: Global,
+    len: usize,
+    byte: u8,
+) -> Result<bool, StepFault> {
+    let block = vec![in alloc; byte; len]?;
+    let rows: &[Row<'_>] = &[set(1000, b"a", 0, block.as_slice(), "stored")];
+    Ok(first_unlike(asking, alloc, rows)?.is_none())
+}
+
+/// Checks that a block of a page is lent, and stays where the item is set, changed and deleted.
+fn block_stays<R: Wait + Abort>(
+    rt: &R,
+    asking: &mut Asking<'_, R, Fnv, NoGate>,
+    alloc: Global,
+) -> Result<(), StepFault> {
+    assert!(rt; is_set(asking, alloc, PAGE, b'x')?);
+    let old = read(asking, alloc, b'a');
+    assert!(rt; (old.parts, old.lent) == (1, 1) && old.has(PAGE, b'x'));
+    assert!(rt; is_set(asking, alloc, PAGE, b'y')?);
+    let new = read(asking, alloc, b'a');
+    assert!(rt; old.has(PAGE, b'x') && new.has(PAGE, b'y'));
+    let rows: &[Row<'_>] = &[
+        (1000, b"a", Ask::Touch(5), Want::Told("touched")),
+        (1000, b"a", Ask::Delete, Want::Told("deleted")),
+    ];
+    assert_eq!(rt; first_unlike(asking, alloc, rows)?, None);
+    assert!(rt; is_set(asking, alloc, PAGE, b'z')?);
+    assert!(rt; old.has(PAGE, b'x') && new.has(PAGE, b'y'));
+    assert!(rt; read(asking, alloc, b'a').has(PAGE, b'z'));
+    Ok(())
+}
+
+#[test]
+fn a_block_that_is_lent_stays(rt: HostRuntime) -> Result<(), Fail> {
+    let (shared, caller) = shared_store(rt.alloc(), LARGE)?;
+    let mut asking = Asking::new(&rt, &shared, caller, &NoGate);
+    Ok(block_stays(&rt, &mut asking, rt.alloc())?)
+}
+
+/// Checks that each page of a block is lent, and that a small block isn't.
+fn pages_are_lent<R: Wait + Abort>(
+    rt: &R,
+    asking: &mut Asking<'_, R, Fnv, NoGate>,
+    alloc: Global,
+) -> Result<(), StepFault> {
+    assert!(rt; is_set(asking, alloc, PAGES, b'x')?);
+    let reader = read(asking, alloc, b'a');
+    assert!(rt; (reader.parts, reader.lent) == (3, 3));
+    let reader = read(asking, alloc, b'k');
+    assert!(rt; (reader.parts, reader.lent) == (1, 0));
+    Ok(())
+}
+
+#[test]
+fn each_page_of_a_block_is_lent(rt: HostRuntime) -> Result<(), Fail> {
+    let (shared, caller) = shared_store(rt.alloc(), LARGE)?;
+    let mut asking = Asking::new(&rt, &shared, caller, &NoGate);
+    Ok(pages_are_lent(&rt, &mut asking, rt.alloc())?)
+}
