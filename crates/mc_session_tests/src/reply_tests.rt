@@ -307,8 +307,7 @@ fn each_appends(
 }
 
 #[test]
-fn faults_and_plain_commands_have_their_texts(rt: HostRuntime) -> Result<(), Fail> {
-    let command = store(false);
+fn faults_have_their_texts(rt: HostRuntime) -> Result<(), Fail> {
     let calls = [
         (Call::Fault(LineFault::Unknown), "ERROR\r\n"),
         (
@@ -328,15 +327,30 @@ fn faults_and_plain_commands_have_their_texts(rt: HostRuntime) -> Result<(), Fai
             "CLIENT_ERROR bad data chunk\r\n",
         ),
         (Call::TooLong, "CLIENT_ERROR line too long\r\n"),
+    ];
+    each_appends(&rt, rt.alloc(), &calls)
+}
+
+#[test]
+fn plain_commands_have_their_texts(rt: HostRuntime) -> Result<(), Fail> {
+    let calls = [
         (
             Call::Plain(&Command::Lone(Lone::Version)),
             "VERSION 1.6.0\r\n",
         ),
         (Call::Plain(&Command::Lone(Lone::Quit)), ""),
-        (
-            Call::Spent(&command),
-            "SERVER_ERROR out of unique numbers\r\n",
-        ),
     ];
     each_appends(&rt, rt.alloc(), &calls)
+}
+
+#[test]
+fn spent_numbers_have_their_text(rt: HostRuntime) -> Result<(), Fail> {
+    let command = store(false);
+    let call = Call::Spent(&command);
+    expect(
+        &rt,
+        rt.alloc(),
+        &call,
+        "SERVER_ERROR out of unique numbers\r\n",
+    )
 }
