@@ -6,7 +6,7 @@ ghost use Rattle.std.specs.Prelude.{◌≤◌};
 
 use mc_command::PlainStore;
 use mc_protocol::{StepFault, Steps, Verb};
-use mc_rows::{
+use mc_testing::{
     Ask, Row, Want, ask_step, filled_block, first_unlike, is_wanted, set, step_of, told_of,
 };
 use mc_time::Moment;

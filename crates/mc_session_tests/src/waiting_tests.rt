@@ -5,7 +5,7 @@
 use crate::counting::Counting;
 use mc_guests::{Budget, Got, Guests, Link, LinkFault, Took, WorkEnd};
 use mc_protocol::Verb;
-use mc_rows::{Ask, ask_step, filled_block, step_of};
+use mc_testing::{Ask, ask_step, filled_block, step_of};
 use mc_time::Moment;
 use std::alloc::{AllocError, Global};
 use std::cell::Cell;

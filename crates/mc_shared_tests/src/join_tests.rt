@@ -2,8 +2,8 @@
 
 use crate::trial::Trial;
 use mc_protocol::{StepFault, Verb};
-use mc_rows::{Ask, Row, Want, filled_block, first_unlike, set};
 use mc_shelf::Settings;
+use mc_testing::{Ask, Row, Want, filled_block, first_unlike, set};
 use std::alloc::{AllocError, Global};
 use std::sync::Wait;
 use std::test::*;

@@ -4,7 +4,7 @@
 
 use crate::trial::Trial;
 use mc_protocol::Verb;
-use mc_rows::{Ask, ask_step, step_of, told_of};
+use mc_testing::{Ask, ask_step, step_of, told_of};
 use mc_time::Moment;
 use std::alloc::Global;
 use std::sync::Wait;

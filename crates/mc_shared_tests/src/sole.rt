@@ -5,9 +5,9 @@
 use crate::stores::empty_store;
 use mc_hop::KeyHash;
 use mc_protocol::{Reply, StepFault, Verb};
-use mc_rows::{Ask, step_of, told_of};
 use mc_shared::{Caller, Shared};
 use mc_shelf::Settings;
+use mc_testing::{Ask, step_of, told_of};
 use mc_time::Moment;
 use std::alloc::{AllocError, Global};
 use std::marker::Model;

@@ -2,7 +2,7 @@
 
 use crate::trial::Trial;
 use mc_protocol::{Steps, Verb};
-use mc_rows::{Ask, Row, Want, ask_step, first_unlike, is_wanted, step_of};
+use mc_testing::{Ask, Row, Want, ask_step, first_unlike, is_wanted, step_of};
 use mc_time::Moment;
 use std::alloc::Global;
 use std::sync::Wait;

@@ -5,9 +5,9 @@ ghost use Rattle.mc_protocol.specs.Commands.{key_of};
 
 use mc_hop::{Fnv, KeyHash};
 use mc_protocol::{KeyStep, Reply, StepFault, Verb};
-use mc_rows::{Ask, ask_step, step_of};
 use mc_shared::{Caller, CloseFault, Shared};
 use mc_shelf::{Settings, Store};
+use mc_testing::{Ask, ask_step, step_of};
 use mc_time::Moment;
 use std::alloc::{AllocError, Global};
 use std::sync::Wait;

@@ -3,8 +3,8 @@
 use crate::stores::{LARGE, SOME, shared_store};
 use mc_hop::Fnv;
 use mc_protocol::{Answer, Block, Bytes, KeyStep, Reply, StepFault, Steps, Unanswered, Verb};
-use mc_rows::{Ask, Row, Want, filled_block, first_unlike, set, step_of};
 use mc_shared::{Asking, NoGate};
+use mc_testing::{Ask, Row, Want, filled_block, first_unlike, set, step_of};
 use mc_time::Moment;
 use std::alloc::{AllocError, Global};
 use std::marker::Model;

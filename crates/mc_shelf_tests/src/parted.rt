@@ -10,8 +10,8 @@ use crate::seen::account_at;
 use crate::stores::set_up;
 use mc_hop::{Fnv, KeyHash};
 use mc_protocol::{KeyStep, Reply, StepFault, Steps};
-use mc_rows::{Row, ask_step, is_wanted, step_of};
 use mc_shelf::{Begun, Brought, Desk, Settings, Shelf, Store, StoreParts};
+use mc_testing::{Row, ask_step, is_wanted, step_of};
 use mc_time::Moment;
 use std::alloc::{AllocError, Global};
 

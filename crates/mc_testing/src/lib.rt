@@ -1,4 +1,5 @@
-//! Readers, writers, dice, session texts and table entries that tests of several crates share.
+//! Readers, writers, dice, session texts, table entries and rows of steps that tests of several
+//! crates share.
 //!
 //! No program uses this crate. Contracts don't promise that a call succeeds, what it costs, or what
 //! a device did, so tests check these. What they share is here, so that a test is a table of data.
@@ -9,22 +10,31 @@
 //! [`SESSIONS`] are inputs with their outputs. A [`Mark`] is an entry with a hash and a key, for
 //! tables and indexes.
 //!
-//! It has hardly any contracts, and is proved safe as all else is. It uses only mc_hop; rows of
-//! steps over a store are in `mc_rows`.
+//! A [`Row`] is a step at a moment with its expected answer. [`first_unlike`] takes the steps of
+//! rows over any store (`mc_protocol`'s `Steps`), and returns the first whose answer differs. So
+//! every store is tested with the same rows.
 //!
-//! Begin with `src/streams.rt` and `src/marks.rt`.
+//! It has hardly any contracts, and is proved safe as all else is. It uses only mc_time, mc_hop and
+//! mc_protocol, so that tests of every store can use it. The rows of the plain store are in
+//! `mc_session_tests` (`src/rows_tests.rt`).
 //!
-//! Tests: mc_grow_tests, src/stream_tests.rt.
+//! Begin with `src/streams.rt`, `src/marks.rt` and `src/steps.rt`.
+//!
+//! Tests: mc_grow_tests, src/stream_tests.rt; mc_session_tests, src/rows_tests.rt.
 #![tactic(auto)]
 
 mod calls;
 mod dice;
 mod marks;
 mod sessions;
+mod steps;
 mod streams;
 
 pub use calls::{Call, Calls};
 pub use dice::Dice;
 pub use marks::{Mark, add_mark, fill_marks, marks_table};
 pub use sessions::SESSIONS;
+pub use steps::{
+    Ask, Row, Want, ask_step, filled_block, first_unlike, is_same, is_wanted, set, step_of, told_of,
+};
 pub use streams::{Drip, Sip};
