@@ -19,12 +19,14 @@ class Late(AssertionError):
 class Peer:
     """A connection that sends and waits. Each wait is bounded."""
 
-    def __init__(self, port, seconds=SECONDS, receives=None):
+    def __init__(self, port, seconds=SECONDS, receives=None, segment=None):
         self.seconds, self.got = seconds, b""
         self.socket = socket.socket()
         self.socket.settimeout(seconds)
         if receives:
             self.socket.setsockopt(socket.SOL_SOCKET, socket.SO_RCVBUF, receives)
+        if segment:
+            self.socket.setsockopt(socket.IPPROTO_TCP, socket.TCP_MAXSEG, segment)
         try:
             self.socket.connect((HOST, port))
             self.socket.setsockopt(socket.IPPROTO_TCP, socket.TCP_NODELAY, 1)

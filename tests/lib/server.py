@@ -127,6 +127,11 @@ class Started:
             line = next((line for line in it if line.startswith(which)), "- 0")
         return int(line.split()[1]) * 1024
 
+    def faults(self):
+        """How many page faults it has met that no device had to serve."""
+        with open(f"/proc/{self.pid}/stat") as it:
+            return int(it.read().rpartition(")")[2].split()[7])
+
     def descriptors(self):
         return len(os.listdir(f"/proc/{self.pid}/fd"))
 

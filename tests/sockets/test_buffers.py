@@ -31,12 +31,6 @@ def limited(most):
     return Server(args=["-I", most, "--buffer-limit", str(LIMIT), "-c", "2000"])
 
 
-def faults_of(pid):
-    """How many page faults a process has met that no device had to serve."""
-    with open(f"/proc/{pid}/stat", encoding="ascii") as file:
-        return int(file.read().rpartition(")")[2].split()[7])
-
-
 class Buffers(ProgramCase):
     def others_are_served(self, server, block):
         """Fails unless a large block comes through both ways."""
@@ -98,10 +92,10 @@ class Buffers(ProgramCase):
                 block = b"w" * length
                 for number in range(FIRST + COUNTED):
                     if number == FIRST:
-                        before = faults_of(server.pid)
+                        before = server.faults()
                     peer.asks(b"set whole 0 0 %d\r\n%s\r\n" % (length, block), b"STORED\r\n")
                     peer.asks(b"get whole\r\n", b"VALUE whole 0 %d\r\n%s\r\nEND\r\n" % (length, block))
-                self.assertLess((faults_of(server.pid) - before) / (2 * COUNTED), FAULTS)
+                self.assertLess((server.faults() - before) / (2 * COUNTED), FAULTS)
 
     def test_joins_give_pages_back(self):
         """Clients append to items until these have seven pages, twenty times: pages that are brought in exchange for an item's come back."""

@@ -2,7 +2,7 @@
 """A slow stand-in for the server: the model behind sockets. It shows that the tests over sockets can fail (test_lies.py).
 
 The environment's LIE says in which way it is wrong; without it, it is right. Options as the program's: -p -t -m -I -c --now --idle-timeout,
-but that -c and --idle-timeout are read and not used.
+--buffer-limit, but that -c and the last two are read and not used.
 """
 import argparse
 import fcntl
@@ -21,6 +21,8 @@ LIE = os.environ.get("LIE", "")
 # Each so many-th answer or write is the wrong one.
 EACH = 13
 READ = 16384
+# Of answers that are longer a lie may send another block, or count them.
+LARGE = 65536
 # After so many seconds one that hangs up does so.
 PATIENCE = 1.5
 # Asks the system whether the next byte of a socket is the one behind urgent data.
@@ -84,6 +86,20 @@ class Late(model.Store):
         return text
 
 
+class Grudging(model.Store):
+    """A store in which a page that a reader still has is no room for a write."""
+
+    links = []
+
+    def takes_chunks(self, size_class, count):
+        lent = sum(len(it.out) > LARGE for it in self.links) if size_class == len(model.SIZES) - 1 else 0
+        self.pages_left -= lent
+        try:
+            return super().takes_chunks(size_class, count)
+        finally:
+            self.pages_left += lent
+
+
 class Link:
     def __init__(self, taken, store):
         self.socket, self.out, self.ends, self.began = taken, bytearray(), False, time.monotonic()
@@ -97,7 +113,7 @@ class Link:
 class Standin:
     def __init__(self, given):
         self.given, self.answers, self.kept = given, 0, []
-        stores = {"forgets writes": Forgetful, "repeats numbers": Forgetful, "reads what was": Late}
+        stores = {"forgets writes": Forgetful, "repeats numbers": Forgetful, "reads what was": Late, "counts what is read": Grudging}
         self.store = stores.get(LIE, model.Store)(given.now, given.m, given.I)
         self.chooser = selectors.DefaultSelector()
         self.listener = socket.create_server(("127.0.0.1", given.p), backlog=1024)
@@ -113,7 +129,9 @@ class Standin:
             return
         taken.setblocking(False)
         taken.setsockopt(socket.IPPROTO_TCP, socket.TCP_NODELAY, 1)
-        self.chooser.register(taken, selectors.EVENT_READ, Link(taken, self.store))
+        link = Link(taken, self.store)
+        Grudging.links.append(link)
+        self.chooser.register(taken, selectors.EVENT_READ, link)
 
     def drop_one(self):
         """Closes a connection that has no descriptor, with one that is kept for that."""
@@ -167,7 +185,16 @@ class Standin:
                 link.out += self.answered(link, text)
             self.write(link)
 
+    def reads_again(self, link):
+        """Has what waits of a block be of the item as it is now, where it is long enough."""
+        keys = [key for key, item in self.store.items.items() if len(link.out) > LARGE and len(item.block) > len(link.out)]
+        for key in keys[:1]:
+            end = len(link.out) - len(b"\r\nEND\r\n")
+            link.out[:end] = self.store.items[key].block[-end:]
+
     def write(self, link):
+        if LIE == "reads as it sends":
+            self.reads_again(link)
         try:
             while link.out:
                 del link.out[: link.socket.send(link.out[:65536])]
@@ -180,6 +207,10 @@ class Standin:
 
     def close(self, link):
         self.chooser.unregister(link.socket)
+        if link in Grudging.links:
+            Grudging.links.remove(link)
+        if LIE == "keeps answers":
+            self.kept.append(link.out)
         if LIE == "keeps descriptors":
             self.kept.append(link.socket.dup())
         link.socket.close()
@@ -222,6 +253,7 @@ def main():
     parser = argparse.ArgumentParser()
     parser.add_argument("--now", type=int, default=int(time.time()))
     parser.add_argument("--idle-timeout", type=int, default=0)
+    parser.add_argument("--buffer-limit", type=int, default=64)
     for name, default in (("-p", 11211), ("-t", 4), ("-m", 64), ("-I", model.GREATEST), ("-c", 1024)):
         parser.add_argument(name, type=int, default=default)
     if LIE == "stays":

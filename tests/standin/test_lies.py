@@ -18,6 +18,7 @@ HALF_LINES = "test_half_lines.HalfLines.test_the_rest_comes_later"
 ENDLESS, PASSED_OVER = "test_blocks.Blocks.test_blocks_that_do_not_end", "test_blocks.Blocks.test_blocks_that_are_passed_over"
 RESET, COME_AND_GO = "test_resets.Resets.test_connections_that_are_reset", "test_resets.Resets.test_connections_that_come_and_go"
 HOLD_MUCH = "test_resets.Resets.test_clients_that_hold_much_again_and_again"
+LENT, LENT_MEMORY = "test_lent.Lent", "test_lent_memory.LentMemory"
 
 # In which way the stand-in is wrong, and tests that must notice. Without a lie it is right, and is no program of this kind.
 LIES = {
@@ -48,7 +49,17 @@ LIES = {
         "test_idle.Idle.test_those_of_which_nothing_is_heard",
         "test_idle.Idle.test_those_that_do_not_read",
         "test_idle.Idle.test_the_place_of_one_comes_back",
+        f"{LENT_MEMORY}.test_readers_share_an_item",
+        f"{LENT_MEMORY}.test_readers_of_items_that_are_written_again",
     ],
+    "reads as it sends": [
+        f"{LENT}.test_an_item_that_changes_while_it_is_read",
+        f"{LENT}.test_no_block_is_torn",
+        f"{LENT}.test_many_in_one_request_and_behind_it",
+        f"{LENT_MEMORY}.test_writes_are_refused_as_without_readers",
+    ],
+    "counts what is read": [f"{LENT_MEMORY}.test_writes_are_refused_as_without_readers"],
+    "keeps answers": [f"{LENT_MEMORY}.test_who_leaves_holds_nothing"],
     "stays": ["test_signals.Signals.test_signals_that_end_it"],
     "drops answers": [OWN_KEYS, FREELY, READ_LATE, RANDOM],
     "doubles answers": [OWN_KEYS, IN_ROUNDS, RANDOM],
