@@ -248,8 +248,9 @@ class Bench:
         """One round of each, the other one first each time, and what each took of a core while the other was asked."""
         taken, resting = {}, {}
         for side in (0, 1) if number % 2 == 0 else (1, 0):
-            began, used = time.monotonic(), processor_seconds(servers[1 - side])
+            began, used, met = time.monotonic(), processor_seconds(servers[1 - side]), servers[side].faults()
             taken[side] = loads[side].round(WARM, self.seconds)
+            taken[side]["faults"] = servers[side].faults() - met
             used = processor_seconds(servers[1 - side]) - used
             resting[1 - side] = used / (time.monotonic() - began)
         return tuple({**taken[side], "resting": resting[side], "resident": servers[side].memory()} for side in (0, 1))
@@ -297,6 +298,8 @@ def summed(work, rounds):
         made = {it: statistics.median([figure(pair[side]) for pair in rounds]) for it, figure in FIGURES.items()}
         made["system_part"] = system_part(rounds, side)
         made["resting"] = statistics.median([pair[side].get("resting", 0.0) for pair in rounds])
+        # (those before a round counts are in it, too)
+        made["faults"] = statistics.median([pair[side].get("faults", 0) / max(pair[side]["operations"], 1) for pair in rounds])
         made["resident"] = max(pair[side].get("resident", 0) for pair in rounds)
         made["wrong"] = sum(pair[side]["wrong"] for pair in rounds)
         made["first_wrong"] = next((pair[side]["first_wrong"] for pair in rounds if pair[side]["wrong"]), "")
@@ -357,10 +360,11 @@ def resting(rows):
 
 
 def resident(rows):
-    """The most memory that each server had, where items are large."""
+    """The most memory that each server had, and the page faults of a request, where items are large."""
     for row in rows:
-        if row["name"].endswith("m") and "-" in row["name"]:
-            parts = [f"{name} {row['sides'][name]['resident'] / 1e6:.0f} MB" for name in NAMES]
+        if row["name"].endswith(("00k", "m")) and "-" in row["name"]:
+            sides = [(name, row["sides"][name]) for name in NAMES]
+            parts = [f"{name} {it['resident'] / 1e6:.0f} MB and {it['faults']:.1f} page faults a request" for name, it in sides]
             yield f"Resident behind a round, at most, {row['title']}: {', '.join(parts)}."
 
 

@@ -36,7 +36,7 @@ from tests.lib.threads import held  # noqa: E402
 
 NAMES = ("memcached", "mcserver")
 POLITE = 50
-SMALL, LARGE = b"x" * 100, b"y" * 1_000_000
+SMALL, LARGE, HUGE = b"x" * 100, b"y" * 1_000_000, b"y" * 8_000_000
 # No answer may take longer; whoever waits so long is counted as not served.
 PATIENCE = 60
 FORK = multiprocessing.get_context("fork")
@@ -221,6 +221,11 @@ def large_item(port):
         put(link, b"large", LARGE)
 
 
+def huge_item(port):
+    with connect(port) as link:
+        put(link, b"huge", HUGE)
+
+
 def many_keys(port):
     fill(port, 100_000)
 
@@ -235,7 +240,8 @@ def rows(quick):
     line = b"get " + b" ".join(b"f%09d" % key for key in range(3000)) + b"\r\n"
     long_line = b"get " + b" ".join(b"n%d" % key for key in range(6000)) + b"\r\n"
     set_large = b"set large 0 0 %d\r\n%s\r\n" % (len(LARGE), LARGE)
-    getting = [(pipelines_gets, (large,))]
+    setting = [(repeats, (set_large, b"STORED\r\n"))]
+    getting, getting_huge = [(pipelines_gets, (large,))], [(repeats, (b"get huge\r\n", b"END\r\n"))]
 
     def expiring(port):
         # longer than the filling takes, and shorter than the row
@@ -248,9 +254,11 @@ def rows(quick):
         Row("alone", "nothing else"),
         *[Row(f"large-{n}", f"{n} that pipeline gets of 1 MB, one worker", getting * n, large_item, threads=1) for n in (1, 16, 20, 64)],
         Row("large-16-t4", "16 that pipeline gets of 1 MB", getting * 16, large_item),
+        Row("huge-4", "4 that get 8 MB, -I 8m", getting_huge * 4, huge_item, options=["-I", "8m"]),
+        Row("shared-large", "8 that get an item of 1 MB, and 4 that set it", getting * 8 + setting * 4, large_item, verb="set"),
         Row("lines", "8 that ask for 3,000 keys a line", [(repeats, (line, b"END\r\n"))] * 8, many_keys),
         Row("misses", "8 that ask for 6,000 missing keys a line", [(repeats, (long_line, b"END\r\n"))] * 8),
-        Row("sets", "8 that set 1 MB", [(repeats, (set_large, b"STORED\r\n"))] * 8),
+        Row("sets", "8 that set 1 MB", setting * 8),
         Row("flush", f"one flush of {items:,} items", [(flushes, ())], filled, verb="set"),
         Row("tidy", f"{items:,} items expire", [], expiring, seconds=15 if quick else 70, verb="set"),
         Row("growth", "one that stores new keys", [(grows, ())], seconds=8, verb="set"),
