@@ -1,21 +1,6 @@
 //! An item in its chunks.
 
-ghost use Rattle.std.specs.Prelude.{
-  ◌≡◌,
-  ◌+◌,
-  ◌*◌,
-  ◌<◌,
-  ◌≤◌,
-  ◌++◌,
-  length,
-  decimal,
-  Some,
-  IfSome,
-  slice_get,
-  OnOk,
-  OnErr,
-  vec_capacity,
-};
+ghost use Rattle.std.specs.Prelude.{◌≡◌, ◌+◌, ◌<◌, ◌≤◌, ◌++◌, length, decimal, Some, IfSome, slice_get, OnOk, OnErr, vec_capacity};
 ghost use Rattle.std.specs.List.{concat};
 ghost use Rattle.mc_slab.specs.Chunks.{AreChunks, need_in, with_part};
 ghost use Rattle.mc_slab.specs.Needs.{size_in};
@@ -288,8 +273,7 @@ impl Item {
     /// Lends the part of its block in the chunk at a place for as long as the result is there.
     ///
     /// The bytes that are lent stay as they are, even if the item is written again or dropped. It
-    /// takes no memory. `None` for a class below the last, and for chunks whose memory can't be
-    /// lent.
+    /// takes no memory. `None` for a class below 27, and for chunks whose memory can't be lent.
     pub fn lend(&self, at: usize) -> Option<Lent>
         requires { at < self.now.count }
         ensures value { IfSome result (λ lent. slice_get (parts_of self.now) at ≡ Some lent) }

@@ -368,6 +368,32 @@ fn a_part_is_written_across_chunks(rt: HostRuntime) -> Result<(), Fail> {
     Ok(())
 }
 
+/// Returns whether the chunk lends its first 4 bytes, and they stay while it is written.
+fn stays_as_it_was(rt: &impl Abort, chunk: &mut Chunks) -> bool {
+    put(rt, chunk, 0, b"before");
+    let need = chunk.need();
+    assert!(rt; need.count() == 1);
+    assert!(rt; need.class().size() >= 96);
+    let old = chunk.lend(0, 0, 4);
+    put(rt, chunk, 2, b"after");
+    match old {
+        Some(old) => old.as_slice() == b"befo".as_slice() && chunk.first().starts_with(b"beafter"),
+        None => false,
+    }
+}
+
+#[test]
+fn a_chunk_of_class_27_is_lent_and_one_of_class_26_is_not(rt: HostRuntime) -> Result<(), Fail> {
+    let mut slab = slab_of(rt.alloc(), 2)?;
+    let mut small = take(&rt, rt.alloc(), &mut slab, needed(&rt, 27120))?;
+    let mut large = take(&rt, rt.alloc(), &mut slab, needed(&rt, 27121))?;
+    assert!(rt; !stays_as_it_was(&rt, &mut small));
+    assert!(rt; stays_as_it_was(&rt, &mut large));
+    give(&rt, &mut slab, small);
+    give(&rt, &mut slab, large);
+    Ok(())
+}
+
 #[test]
 fn chunks_take_sixteen_bytes(rt: HostRuntime) -> Result<(), Fail> {
     assert_eq!(rt; size_of::<Chunks>(), 16);

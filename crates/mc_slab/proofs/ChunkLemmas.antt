@@ -1,6 +1,7 @@
 -- Chunks that are had together.
-use Rattle.std.proofs.Common.{◌≡◌, ℕ, ◌+◌, ◌*◌, ◌<◌, ◌≤◌, ◌⊎◌, inl, inr, List, ◌++◌, length, length-append, take, drop, refl, sym, ap, subst, ◌∙◌, arith}
-use Rattle.mc_slab.specs.Classes.{IsClass, size_of}
+use Rattle.std.proofs.Common.{◌≡◌, ℕ, ◌+◌, ◌*◌, ◌<◌, ◌≤◌, inl, inr, List, ◌++◌, length, length-append, take, drop, refl, sym, ap, ◌∙◌, arith}
+use Rattle.std.proofs.lemmas.List.{take_all}
+use Rattle.mc_slab.specs.Classes.{size_of}
 use Rattle.mc_slab.specs.Needs.{NeedState, IsNeed}
 use Rattle.mc_slab.specs.Chunks.{ChunksState, AreChunks, AreChunksOf, chunk_at}
 use Rattle.mc_slab.proofs.ClassLemmas.{size_of-last}
@@ -15,6 +16,18 @@ pages_are count bytes some most size = record {
     pages = inr refl;
   };
   size = rw size_of-last size;
+}
+
+-- one chunk below a page
+pub lone_is : (class : ℕ) (bytes : List ℕ) → 1 ≤ class → class < 40 → length bytes ≡ size_of class → AreChunks (record { class = class; count = 1; bytes = bytes })
+lone_is class bytes first below size = record {
+  is_need = record {
+    is_class = (first, omega arith);
+    some = omega arith;
+    most = omega arith;
+    pages = inl refl;
+  };
+  size = omega arith;
 }
 
 -- one page
@@ -59,6 +72,17 @@ pub part_is : (chunks : ChunksState) (at : ℕ) → chunks.class ≡ 40 → take
 part_is chunks at last =
     let size : 1048576 ≡ size_of chunks.class = sym (ap (λ (k : ℕ). size_of k) last ∙ size_of-last) in
     ap (λ (n : ℕ). take n (drop (at * n) chunks.bytes)) size
+
+-- the bytes of a lone chunk at its only place
+pub lone_at : (chunks : ChunksState) (at : ℕ) → AreChunks chunks → chunks.class < 40 → at < chunks.count → (length chunks.bytes ≡ size_of chunks.class) × (chunks.bytes ≡ chunk_at chunks at)
+lone_at chunks at are below inside =
+    let one : chunks.count ≡ 1 = elim are.is_need.pages [
+      | inl one ↦ one
+      | inr last ↦ absurd (omega arith)
+    ] in
+    let none : at * size_of chunks.class ≡ 0 = ap (λ (n : ℕ). n * size_of chunks.class) (let n : at ≡ 0 = omega arith in n) ∙ omega arith in
+    let size : length chunks.bytes ≡ size_of chunks.class = are.size ∙ ap (λ (n : ℕ). n * size_of chunks.class) one ∙ omega arith in
+    (size, sym (ap (λ (n : ℕ). take (size_of chunks.class) (drop n chunks.bytes)) none ∙ take_all (size_of chunks.class) chunks.bytes (omega arith)))
 
 -- a chunk of the last class is a page
 pub single_is : (one : ChunksState) → AreChunksOf (record { class = 40; count = 1 }) one → (one.count ≡ 1) × (length one.bytes ≡ 1048576)

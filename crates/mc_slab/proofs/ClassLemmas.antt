@@ -1,5 +1,5 @@
 -- The table of the chunk sizes, and which of them holds a charge.
-use Rattle.std.proofs.Common.{◌≡◌, ℕ, ◌+◌, ◌-◌, ◌/◌, ◌<◌, ◌≤◌, Bool, true, false, leb, ltb, eqb, List, [], ◌∷◌, length, get_or, Some, None, refl, ap, sym, subst, ◌∙◌, arith}
+use Rattle.std.proofs.Common.{◌≡◌, ℕ, ◌+◌, ◌-◌, ◌/◌, ◌<◌, ◌≤◌, Bool, true, false, leb, ltb, eqb, List, [], ◌∷◌, length, get_or, Some, None, refl, ap, subst, ◌∙◌, arith}
 use Rattle.std.proofs.lemmas.Grind.{get_or_default_zero}
 use Rattle.std.proofs.lemmas.Bool.{eqb-true, leb-true, le-leb, lt-leb, ltb-true, ltb-false}
 use Rattle.std.proofs.lemmas.List.Folds.{list_all_at}
@@ -151,6 +151,14 @@ class_holding-size_of class is =
     let place : get_or (range_with_len 0 40) (class - 1) 0 ≡ class - 1 = get_or-range_with_len 0 40 (class - 1) 0 (omega arith) ∙ omega arith in
     eqb-true _ _ (subst (λ (k : ℕ). test k ≡ true) place passes) ∙ omega arith
 
--- a run of the last class has one chunk
-pub run_of-last : chunks_a_run 40 ≡ 1
-run_of-last = ap (λ (n : ℕ). max (32768 / n) 1) size_of-last
+-- a run of a class from 27 on has one chunk
+runs_lone : list_all (λ k. eqb (max (32768 / get_or chunk_sizes k 0) 1) 1) (range_with_len 26 14) ≡ true
+unfolding chunk_sizes
+runs_lone = refl
+
+pub run_of-lone : (class : ℕ) → IsClass class → 27 ≤ class → chunks_a_run class ≡ 1
+run_of-lone class is lone =
+    let test : ℕ → Bool = λ k. eqb (max (32768 / get_or chunk_sizes k 0) 1) 1 in
+    let passes : test (get_or (range_with_len 26 14) (class - 27) 0) ≡ true = test_at test (range_with_len 26 14) (class - 27) runs_lone (omega arith) in
+    let place : get_or (range_with_len 26 14) (class - 27) 0 ≡ class - 1 = get_or-range_with_len 26 14 (class - 27) 0 (omega arith) ∙ omega arith in
+    eqb-true _ _ (subst (λ (k : ℕ). test k ≡ true) place passes)

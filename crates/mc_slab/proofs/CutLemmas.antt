@@ -108,58 +108,6 @@ pub size-26 : size_of 26 ≡ 27120
 unfolding chunk_sizes
 size-26 = refl
 
-pub size-27 : size_of 27 ≡ 33904
-unfolding chunk_sizes
-size-27 = refl
-
-pub size-28 : size_of 28 ≡ 42384
-unfolding chunk_sizes
-size-28 = refl
-
-pub size-29 : size_of 29 ≡ 52984
-unfolding chunk_sizes
-size-29 = refl
-
-pub size-30 : size_of 30 ≡ 66232
-unfolding chunk_sizes
-size-30 = refl
-
-pub size-31 : size_of 31 ≡ 82792
-unfolding chunk_sizes
-size-31 = refl
-
-pub size-32 : size_of 32 ≡ 103496
-unfolding chunk_sizes
-size-32 = refl
-
-pub size-33 : size_of 33 ≡ 129376
-unfolding chunk_sizes
-size-33 = refl
-
-pub size-34 : size_of 34 ≡ 161720
-unfolding chunk_sizes
-size-34 = refl
-
-pub size-35 : size_of 35 ≡ 202152
-unfolding chunk_sizes
-size-35 = refl
-
-pub size-36 : size_of 36 ≡ 252696
-unfolding chunk_sizes
-size-36 = refl
-
-pub size-37 : size_of 37 ≡ 315872
-unfolding chunk_sizes
-size-37 = refl
-
-pub size-38 : size_of 38 ≡ 394840
-unfolding chunk_sizes
-size-38 = refl
-
-pub size-39 : size_of 39 ≡ 493552
-unfolding chunk_sizes
-size-39 = refl
-
 -- there is room for a chunk of that size
 pub cut_room : (class k size length : ℕ) → class ≡ k → size_of k ≡ size → size_of class ≤ length → size ≤ length
 cut_room class k size length is size_is room = subst (λ (n : ℕ). n ≤ length) (ap (λ (j : ℕ). size_of j) is ∙ size_is) room

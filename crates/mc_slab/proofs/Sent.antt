@@ -9,7 +9,7 @@ use Rattle.mc_slab.specs.contracts.chunks.Chunks.TheInside as inside
 use Rattle.mc_slab.specs.contracts.held.Held as held
 use Rattle.mc_slab.proofs.sheet.Sheet.TheLaws.TheKnot as knot
 
--- where chunks lie, the 39 classes below the last and then the last
+-- where chunks lie, the 26 classes that are cut, the 13 that are blocks, and then the last
 field_send : IsSend (held.the_field).row
 field_send = enum_send (enum.shape held.the_type) ((
   (search sendable, tt),
@@ -64,31 +64,31 @@ field_send = enum_send (enum.shape held.the_type) ((
                                                   (
                                                     (search sendable, tt),
                                                     (
-                                                      (search sendable, tt),
+                                                      (search (crossing.crosses, sendable) depth 60 fits 20000, tt),
                                                       (
-                                                        (search sendable, tt),
+                                                        (search (crossing.crosses, sendable) depth 60 fits 20000, tt),
                                                         (
-                                                          (search sendable, tt),
+                                                          (search (crossing.crosses, sendable) depth 60 fits 20000, tt),
                                                           (
-                                                            (search sendable, tt),
+                                                            (search (crossing.crosses, sendable) depth 60 fits 20000, tt),
                                                             (
-                                                              (search sendable, tt),
+                                                              (search (crossing.crosses, sendable) depth 60 fits 20000, tt),
                                                               (
-                                                                (search sendable, tt),
+                                                                (search (crossing.crosses, sendable) depth 60 fits 20000, tt),
                                                                 (
-                                                                  (search sendable, tt),
+                                                                  (search (crossing.crosses, sendable) depth 60 fits 20000, tt),
                                                                   (
-                                                                    (search sendable, tt),
+                                                                    (search (crossing.crosses, sendable) depth 60 fits 20000, tt),
                                                                     (
-                                                                      (search sendable, tt),
+                                                                      (search (crossing.crosses, sendable) depth 60 fits 20000, tt),
                                                                       (
-                                                                        (search sendable, tt),
+                                                                        (search (crossing.crosses, sendable) depth 60 fits 20000, tt),
                                                                         (
-                                                                          (search sendable, tt),
+                                                                          (search (crossing.crosses, sendable) depth 60 fits 20000, tt),
                                                                           (
-                                                                            (search sendable, tt),
+                                                                            (search (crossing.crosses, sendable) depth 60 fits 20000, tt),
                                                                             (
-                                                                              (search sendable, tt),
+                                                                              (search (crossing.crosses, sendable) depth 60 fits 20000, tt),
                                                                               (
                                                                                 (
                                                                                   search (crossing.crosses, knot.crosses, sendable) depth 60 fits 20000,
@@ -190,31 +190,31 @@ field_sync = enum_sync (enum.shape held.the_type) ((
                                                   (
                                                     (search sendable, tt),
                                                     (
-                                                      (search sendable, tt),
+                                                      (search (crossing.crosses, sendable) depth 60 fits 20000, tt),
                                                       (
-                                                        (search sendable, tt),
+                                                        (search (crossing.crosses, sendable) depth 60 fits 20000, tt),
                                                         (
-                                                          (search sendable, tt),
+                                                          (search (crossing.crosses, sendable) depth 60 fits 20000, tt),
                                                           (
-                                                            (search sendable, tt),
+                                                            (search (crossing.crosses, sendable) depth 60 fits 20000, tt),
                                                             (
-                                                              (search sendable, tt),
+                                                              (search (crossing.crosses, sendable) depth 60 fits 20000, tt),
                                                               (
-                                                                (search sendable, tt),
+                                                                (search (crossing.crosses, sendable) depth 60 fits 20000, tt),
                                                                 (
-                                                                  (search sendable, tt),
+                                                                  (search (crossing.crosses, sendable) depth 60 fits 20000, tt),
                                                                   (
-                                                                    (search sendable, tt),
+                                                                    (search (crossing.crosses, sendable) depth 60 fits 20000, tt),
                                                                     (
-                                                                      (search sendable, tt),
+                                                                      (search (crossing.crosses, sendable) depth 60 fits 20000, tt),
                                                                       (
-                                                                        (search sendable, tt),
+                                                                        (search (crossing.crosses, sendable) depth 60 fits 20000, tt),
                                                                         (
-                                                                          (search sendable, tt),
+                                                                          (search (crossing.crosses, sendable) depth 60 fits 20000, tt),
                                                                           (
-                                                                            (search sendable, tt),
+                                                                            (search (crossing.crosses, sendable) depth 60 fits 20000, tt),
                                                                             (
-                                                                              (search sendable, tt),
+                                                                              (search (crossing.crosses, sendable) depth 60 fits 20000, tt),
                                                                               (
                                                                                 (
                                                                                   search (crossing.crosses, knot.crosses, sendable) depth 60 fits 20000,

@@ -1,4 +1,5 @@
--- Where chunks lie: one of the classes below the last, or sheets.
+-- Where chunks lie: one of a class below 27 in memory that was cut, one of a class from 27 to 39 in a block of its own, and
+-- those of the last class on sheets.
 use Rattle.std.specs.Prelude.{ℕ, List, take}
 use Rattle.mc_slab.specs.Chunks.{ChunksState}
 use Rattle.mc_slab.specs.declared.held.Held.{Held}
@@ -32,19 +33,19 @@ chunks_in (C23 bytes) = record { class = 23; count = 1; bytes = bytes.now }
 chunks_in (C24 bytes) = record { class = 24; count = 1; bytes = bytes.now }
 chunks_in (C25 bytes) = record { class = 25; count = 1; bytes = bytes.now }
 chunks_in (C26 bytes) = record { class = 26; count = 1; bytes = bytes.now }
-chunks_in (C27 bytes) = record { class = 27; count = 1; bytes = bytes.now }
-chunks_in (C28 bytes) = record { class = 28; count = 1; bytes = bytes.now }
-chunks_in (C29 bytes) = record { class = 29; count = 1; bytes = bytes.now }
-chunks_in (C30 bytes) = record { class = 30; count = 1; bytes = bytes.now }
-chunks_in (C31 bytes) = record { class = 31; count = 1; bytes = bytes.now }
-chunks_in (C32 bytes) = record { class = 32; count = 1; bytes = bytes.now }
-chunks_in (C33 bytes) = record { class = 33; count = 1; bytes = bytes.now }
-chunks_in (C34 bytes) = record { class = 34; count = 1; bytes = bytes.now }
-chunks_in (C35 bytes) = record { class = 35; count = 1; bytes = bytes.now }
-chunks_in (C36 bytes) = record { class = 36; count = 1; bytes = bytes.now }
-chunks_in (C37 bytes) = record { class = 37; count = 1; bytes = bytes.now }
-chunks_in (C38 bytes) = record { class = 38; count = 1; bytes = bytes.now }
-chunks_in (C39 bytes) = record { class = 39; count = 1; bytes = bytes.now }
+chunks_in (C27 block) = record { class = 27; count = 1; bytes = block.value }
+chunks_in (C28 block) = record { class = 28; count = 1; bytes = block.value }
+chunks_in (C29 block) = record { class = 29; count = 1; bytes = block.value }
+chunks_in (C30 block) = record { class = 30; count = 1; bytes = block.value }
+chunks_in (C31 block) = record { class = 31; count = 1; bytes = block.value }
+chunks_in (C32 block) = record { class = 32; count = 1; bytes = block.value }
+chunks_in (C33 block) = record { class = 33; count = 1; bytes = block.value }
+chunks_in (C34 block) = record { class = 34; count = 1; bytes = block.value }
+chunks_in (C35 block) = record { class = 35; count = 1; bytes = block.value }
+chunks_in (C36 block) = record { class = 36; count = 1; bytes = block.value }
+chunks_in (C37 block) = record { class = 37; count = 1; bytes = block.value }
+chunks_in (C38 block) = record { class = 38; count = 1; bytes = block.value }
+chunks_in (C39 block) = record { class = 39; count = 1; bytes = block.value }
 chunks_in (Sheets sheet) =
     record { class = 40; count = sheet.value.0; bytes = sheet.value.1 }
 
@@ -76,17 +77,17 @@ first_in (C23 bytes) = bytes.now
 first_in (C24 bytes) = bytes.now
 first_in (C25 bytes) = bytes.now
 first_in (C26 bytes) = bytes.now
-first_in (C27 bytes) = bytes.now
-first_in (C28 bytes) = bytes.now
-first_in (C29 bytes) = bytes.now
-first_in (C30 bytes) = bytes.now
-first_in (C31 bytes) = bytes.now
-first_in (C32 bytes) = bytes.now
-first_in (C33 bytes) = bytes.now
-first_in (C34 bytes) = bytes.now
-first_in (C35 bytes) = bytes.now
-first_in (C36 bytes) = bytes.now
-first_in (C37 bytes) = bytes.now
-first_in (C38 bytes) = bytes.now
-first_in (C39 bytes) = bytes.now
+first_in (C27 block) = block.value
+first_in (C28 block) = block.value
+first_in (C29 block) = block.value
+first_in (C30 block) = block.value
+first_in (C31 block) = block.value
+first_in (C32 block) = block.value
+first_in (C33 block) = block.value
+first_in (C34 block) = block.value
+first_in (C35 block) = block.value
+first_in (C36 block) = block.value
+first_in (C37 block) = block.value
+first_in (C38 block) = block.value
+first_in (C39 block) = block.value
 first_in (Sheets sheet) = take 1048576 sheet.value.1

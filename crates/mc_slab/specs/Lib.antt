@@ -1,6 +1,6 @@
 pub mod Classes
 pub mod Needs
-pub mod Wholes
+pub mod Blocks
 pub mod Sheets
 pub mod Chunks
 pub mod Helds

@@ -2,10 +2,10 @@
 use Rattle.std.specs.Prelude.{◌≡◌, ℕ, ◌*◌, ◌/◌, ◌<◌, ◌≤◌, List, max, refl, vec_capacity}
 use Rattle.std.specs.Coded.{Coded, code_by, coded×, coded_ℕ}
 use Rattle.std.specs.List.{All, sum_by}
-use Rattle.mc_slab.specs.Classes.{IsClass, size_of, chunks_a_page}
+use Rattle.mc_slab.specs.Classes.{size_of}
 use Rattle.mc_slab.specs.Chunks.{AreChunksOf}
 use Rattle.mc_slab.specs.declared.run.Memory.{Memory}
-use Rattle.mc_slab.specs.declared.run.Memory.TheVariants.{Bytes, Page}
+use Rattle.mc_slab.specs.declared.run.Memory.TheVariants.{Bytes, Chunk}
 
 -- what contracts see of a run, and of all runs of a class: the class, and how many chunks are to be cut
 pub record UncutState : Type 0 where
@@ -37,9 +37,9 @@ chunks_a_run class = max (32768 / size_of class) 1
 
 -- the memory gives so many chunks of the class
 abbrev pub IsMemoryOf : (class count : ℕ) → Memory → Type 0
-IsMemoryOf class count (Bytes bytes) = (class < 40) × (count * size_of class ≤ vec_capacity bytes)
-IsMemoryOf class count (Page chunk) =
-    (class ≡ 40) × (count ≡ 1) × AreChunksOf (record { class = 40; count = 1 }) chunk
+IsMemoryOf class count (Bytes bytes) = (class < 27) × (count * size_of class ≤ vec_capacity bytes)
+IsMemoryOf class count (Chunk chunk) =
+    (27 ≤ class) × (count ≡ 1) × AreChunksOf (record { class = class; count = 1 }) chunk
 
 -- how many chunks are to be cut of runs
 abbrev pub uncut : List UncutState → ℕ

@@ -3,12 +3,13 @@
 //! `Chunks` may be dropped. Dropped chunks stay counted as in use. A linear type would need a
 //! destructor by hand in each type that holds chunks.
 
-ghost use Rattle.std.specs.Prelude.{◌≡◌, ℕ, ◌+◌, ◌-◌, ◌<◌, ◌≤◌, length, take, drop, IfOk, IfSome};
+ghost use Rattle.std.specs.Prelude.{◌≡◌, ◌+◌, ◌-◌, ◌<◌, ◌≤◌, length, take, drop, IfOk, IfSome};
 ghost use Rattle.mc_slab.specs.Chunks.{ChunksState, AreChunks, AreChunksOf, chunk_at, need_in, with_part};
-ghost use Rattle.mc_slab.specs.Classes.{IsClass, size_of};
+ghost use Rattle.mc_slab.specs.Classes.{size_of};
 ghost use Rattle.mc_slab.specs.Helds.{chunks_in};
 ghost use Rattle.mc_slab.specs.declared.held.Held.TheVariants.{Sheets};
 
+use crate::block::Block;
 use crate::class::Class;
 use crate::cut;
 use crate::held::{self, Held};
@@ -22,9 +23,9 @@ use std::marker::Model;
 ///
 /// Contracts see the class, the count, and the bytes of the chunks one after another. Chunks are
 /// moved and never copied. Chunks that are dropped without being given back to their slab stay out
-/// in the slab's account for ever. Memory of a class below the last stays with the process until it
-/// ends, even if the chunk or its slab is dropped; memory of a page is freed, once no part of it is
-/// lent.
+/// in the slab's account for ever. Memory of a class below 27 stays with the process until it ends,
+/// even if the chunk or its slab is dropped. From class 27 on each chunk is memory of its own, which
+/// is freed once the chunk is dropped and no part of it is lent.
 #[derive(Drop)]
 pub struct Chunks {
     held: Held,
@@ -79,7 +80,7 @@ impl Chunks {
     ///
     /// `from` and `to` are places within that chunk. The bytes that are lent stay as they are, even
     /// if the chunk is written again or dropped. It walks from chunk to chunk, and takes no memory.
-    /// `None` for a class below the last, and for chunks whose memory can't be lent.
+    /// `None` for a class below 27, and for chunks whose memory can't be lent.
     pub fn lend(&self, at: usize, from: usize, to: usize) -> Option<Lent>
         requires place { at < self.now.count }
         requires order { from ≤ to }
@@ -102,17 +103,28 @@ impl Chunks {
         held::write_at(&mut self.held, at, part);
     }
 
-    /// Cuts one chunk of a class below the last off the front of memory.
+    /// Cuts one chunk of a class below 27 off the front of memory.
     ///
     /// Returns the chunk and the rest of the memory.
     pub(crate) fn cut(class: Class, memory: &'static mut [u8]) -> (Chunks, &'static mut [u8])
-        requires class { class < 40 }
+        requires class { class < 27 }
         requires room { size_of class ≤ length memory.old }
         ensures chunk { AreChunksOf (record { class = class; count = 1 }) result.0 }
         ensures rest { length result.1.now + size_of class ≡ length memory.entry.now }
     {
         let (held, rest) = cut::cut(class, memory);
         (Chunks { held }, rest)
+    }
+
+    /// Allocates one chunk of a class from 27 to 39, of zeros, in memory of its own.
+    ///
+    /// The only error is a refused allocation.
+    pub(crate) fn lone(alloc: Global, class: Class) -> Result<Chunks, AllocError>
+        requires { (27 ≤ class) × (class < 40) }
+        ensures { IfOk result (AreChunksOf (record { class = class; count = 1 })) }
+    {
+        let block = Block::new(alloc, class.size() as usize)?;
+        Ok(of_block(class, Box::new(alloc, block)?))
     }
 
     /// Allocates one chunk of the last class, of zeros. The only error is a refused allocation.
@@ -144,6 +156,17 @@ impl Chunks {
     {
         let (one, behind) = Sheet::taken_off(held::into_sheet(self.held));
         (of_sheets(one), of_sheets(behind))
+    }
+}
+
+/// Returns the chunk of a class from 27 to 39 whose memory is the block.
+fn of_block(class: Class, block: Box<Block>) -> Chunks
+    requires class { (27 ≤ class) × (class < 40) }
+    requires size { length block.value ≡ size_of class }
+    ensures { AreChunksOf (record { class = class; count = 1 }) result }
+{
+    Chunks {
+        held: held::of_block(class, block),
     }
 }
 

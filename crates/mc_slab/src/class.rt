@@ -1,7 +1,7 @@
 //! Slab classes: the sizes of chunks.
 
-ghost use Rattle.std.specs.Prelude.{◌≡◌, ℕ, ◌-◌, ◌+◌, ◌<◌, ◌≤◌, ◌↔◌, [], ◌∷◌, IfSome, IsNone, length};
-ghost use Rattle.mc_slab.specs.Classes.{IsClass, chunk_sizes, size_of, chunks_a_page, class_holding, class_of, PartsAt};
+ghost use Rattle.std.specs.Prelude.{◌≡◌, ℕ, ◌-◌, ◌+◌, ◌<◌, ◌≤◌, ◌↔◌, IfSome, IsNone};
+ghost use Rattle.mc_slab.specs.Classes.{IsClass, size_of, chunks_a_page, class_of, PartsAt};
 
 use std::alloc::AllocError;
 use std::marker::Model;
@@ -12,11 +12,15 @@ pub(crate) const PAGE: u32 = 1 << 20;
 /// The number of classes.
 pub(crate) const CLASSES: u8 = 40;
 
+/// The first class whose chunks can be lent: each of them is memory of its own.
+pub(crate) const LENT: u8 = 27;
+
 /// Calls a macro with classes below the last: each one's number, variant of `Held`, and bytes of a
 /// chunk.
 ///
-/// What else the macro takes stands in front of them. They are all classes, or those that one
-/// function of `cut.rt` cuts. The last of those stands behind a semicolon.
+/// What else the macro takes stands in front of them. `all` lists each class, `cut` the first 26,
+/// and `lent` the others. Each smaller part is cut by one function of `cut.rt`. The last class of a
+/// part stands behind a semicolon.
 macro_rules! each_class {
     (tiny $to:ident! $($given:tt)*) => {
         $to! { $($given)*
@@ -35,18 +39,21 @@ macro_rules! each_class {
     };
     (large $to:ident! $($given:tt)*) => {
         $to! { $($given)*
-            25 C25 21696, 26 C26 27120, 27 C27 33904, 28 C28 42384,
-            29 C29 52984, 30 C30 66232, 31 C31 82792; 32 C32 103496, }
+            25 C25 21696; 26 C26 27120, }
     };
-    (great $to:ident! $($given:tt)*) => {
+    (lent $to:ident! $($given:tt)*) => {
         $to! { $($given)*
-            33 C33 129376, 34 C34 161720, 35 C35 202152, 36 C36 252696,
-            37 C37 315872, 38 C38 394840; 39 C39 493552, }
+            27 C27 33904, 28 C28 42384, 29 C29 52984, 30 C30 66232,
+            31 C31 82792, 32 C32 103496, 33 C33 129376, 34 C34 161720,
+            35 C35 202152, 36 C36 252696, 37 C37 315872, 38 C38 394840; 39 C39 493552, }
     };
     // Each part is handed back to this macro, which puts the next part behind it.
+    (cut $to:ident! $($given:tt)*) => {
+        each_class! { tiny each_class! small each_class! middle each_class! large
+            $to! $($given)* }
+    };
     (all $to:ident! $($given:tt)*) => {
-        each_class! { tiny each_class! small each_class! middle each_class! large each_class!
-            great $to! $($given)* }
+        each_class! { cut each_class! lent $to! $($given)* }
     };
 }
 

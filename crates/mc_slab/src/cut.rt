@@ -1,11 +1,11 @@
 //! Cuts chunks off memory.
 //!
-//! A page is reserved in runs of at most 32768 bytes, or of one larger chunk. A run is written and
-//! cut when its first chunk is taken, and then stays with the process, because a chunk is a slice
+//! A page of a class below 27 is reserved in runs of at most 32768 bytes. A run is written and cut
+//! when its first chunk is taken, and then stays with the process, because such a chunk is a slice
 //! that lives as long as the process.
 
 ghost use Rattle.std.specs.Prelude.{◌≡◌, ◌<◌, ◌≤◌, length, take, drop};
-ghost use Rattle.mc_slab.specs.Classes.{IsClass, size_of};
+ghost use Rattle.mc_slab.specs.Classes.{size_of};
 ghost use Rattle.mc_slab.specs.Helds.{chunks_in};
 
 use crate::class::{Class, each_class};
@@ -30,11 +30,11 @@ macro_rules! cut_one {
     };
 }
 
-/// Cuts one chunk of a class below the last off the front of memory.
+/// Cuts one chunk of a class below 27 off the front of memory.
 ///
 /// Returns the chunk and the rest of the memory.
 pub(crate) fn cut(class: Class, memory: &'static mut [u8]) -> (Held, &'static mut [u8])
-    requires class { class < 40 }
+    requires class { class < 27 }
     requires room { size_of class ≤ length memory.old }
     ensures chunk { chunks_in result.0
         ≡ record { class = class; count = 1; bytes = take (size_of class) memory.entry.now } }
@@ -47,10 +47,8 @@ pub(crate) fn cut(class: Class, memory: &'static mut [u8]) -> (Held, &'static mu
         cut_small(class, memory)
     } else if number <= 24 {
         cut_middle(class, memory)
-    } else if number <= 32 {
-        cut_large(class, memory)
     } else {
-        cut_great(class, memory)
+        cut_large(class, memory)
     }
 }
 
@@ -87,26 +85,15 @@ fn cut_middle(class: Class, memory: &'static mut [u8]) -> (Held, &'static mut [u
     each_class!(middle cut_one! class memory)
 }
 
-/// Cuts one chunk of a class from 25 to 32 off the front of memory.
+/// Cuts one chunk of of class 25 or 26 off the front of memory.
 fn cut_large(class: Class, memory: &'static mut [u8]) -> (Held, &'static mut [u8])
-    requires class { (25 ≤ class) × (class ≤ 32) }
+    requires class { (25 ≤ class) × (class ≤ 26) }
     requires room { size_of class ≤ length memory.old }
     ensures chunk { chunks_in result.0
         ≡ record { class = class; count = 1; bytes = take (size_of class) memory.entry.now } }
     ensures rest { result.1.now ≡ drop (size_of class) memory.entry.now }
 {
     each_class!(large cut_one! class memory)
-}
-
-/// Cuts one chunk of a class from 33 to 39 off the front of memory.
-fn cut_great(class: Class, memory: &'static mut [u8]) -> (Held, &'static mut [u8])
-    requires class { (33 ≤ class) × (class ≤ 39) }
-    requires room { size_of class ≤ length memory.old }
-    ensures chunk { chunks_in result.0
-        ≡ record { class = class; count = 1; bytes = take (size_of class) memory.entry.now } }
-    ensures rest { result.1.now ≡ drop (size_of class) memory.entry.now }
-{
-    each_class!(great cut_one! class memory)
 }
 
 /// Splits memory behind its first `N` bytes.

@@ -1,25 +1,27 @@
 //! Where chunks are: behind a thin pointer whose tag is the class.
 //!
 //! A chunk takes 16 bytes of memory: an enum whose variant is the class and which holds a thin
-//! pointer to an array of that class's length. A slice would take 24 bytes. A chunk's length is
-//! read from the table of sizes and not from its variant, because match arms that differ in a
-//! constant compile to a jump table. A chunk is written by `write_at` and lends no mutable slice: a
-//! method that lends one isn't proved if its length is an invariant.
+//! pointer, below class 27 to an array of that class's length, else to a block. A slice would take
+//! 24 bytes. The class is read from the tag alone, and a chunk's length from the table of sizes and
+//! not from its variant, because match arms that differ in a constant compile to a jump table. A
+//! chunk is written by `write_at` and lends no mutable slice: a method that lends one isn't proved
+//! if its length is an invariant.
 
 ghost use Rattle.std.specs.Prelude.{◌≡◌, ◌+◌, ◌-◌, ◌<◌, ◌≤◌, length, take, drop, IfSome};
-ghost use Rattle.mc_slab.specs.Chunks.{ChunksState, AreChunks, chunk_at, need_in, with_part};
+ghost use Rattle.mc_slab.specs.Chunks.{AreChunks, chunk_at, need_in, with_part};
 ghost use Rattle.mc_slab.specs.Classes.{size_of};
 ghost use Rattle.mc_slab.specs.Helds.{chunks_in, first_in};
 
-use crate::class::{CLASSES, Class, each_class};
+use crate::block::Block;
+use crate::class::{CLASSES, Class, LENT, each_class};
 use crate::need::Need;
 use crate::sheet::Sheet;
 use mc_bytes::Lent;
 
 /// One chunk of a class below the last, or the chunks of the last class.
 ///
-/// `each_class!` has the same variants and sizes. They stand here again, because no macro may write
-/// a type.
+/// From class 27 on a chunk can be lent, and is memory of its own. `each_class!` has the same
+/// variants and sizes. They stand here again, because no macro may write a type.
 #[derive(Drop)]
 pub(crate) enum Held {
     C1(&'static mut [u8; 96]),
@@ -48,19 +50,19 @@ pub(crate) enum Held {
     C24(&'static mut [u8; 17352]),
     C25(&'static mut [u8; 21696]),
     C26(&'static mut [u8; 27120]),
-    C27(&'static mut [u8; 33904]),
-    C28(&'static mut [u8; 42384]),
-    C29(&'static mut [u8; 52984]),
-    C30(&'static mut [u8; 66232]),
-    C31(&'static mut [u8; 82792]),
-    C32(&'static mut [u8; 103496]),
-    C33(&'static mut [u8; 129376]),
-    C34(&'static mut [u8; 161720]),
-    C35(&'static mut [u8; 202152]),
-    C36(&'static mut [u8; 252696]),
-    C37(&'static mut [u8; 315872]),
-    C38(&'static mut [u8; 394840]),
-    C39(&'static mut [u8; 493552]),
+    C27(Box<Block>),
+    C28(Box<Block>),
+    C29(Box<Block>),
+    C30(Box<Block>),
+    C31(Box<Block>),
+    C32(Box<Block>),
+    C33(Box<Block>),
+    C34(Box<Block>),
+    C35(Box<Block>),
+    C36(Box<Block>),
+    C37(Box<Block>),
+    C38(Box<Block>),
+    C39(Box<Block>),
     Sheets(Box<Sheet>),
 }
 
@@ -74,13 +76,38 @@ macro_rules! match_class {
     };
 }
 
-/// Matches on where chunks lie. The classes below the last share one arm, which sees the bytes.
-macro_rules! match_bytes {
-    ($held:ident { $bytes:ident => $one:expr, $sheets:pat => $last:expr, }
+/// Matches on where one chunk of some classes lies. They share one arm, which sees the pointer.
+macro_rules! match_one {
+    ($held:ident { $one:ident => $then:expr, $others:pat => $else:expr, }
         $($number:literal $variant:ident $size:literal $end:tt)*) => {
         match $held {
-            $(Held::$variant($bytes) => $one,)*
-            $sheets => $last,
+            $(Held::$variant($one) => $then,)*
+            $others => $else,
+        }
+    };
+}
+
+/// Matches on where chunks lie that can be lent. Blocks share one arm.
+macro_rules! match_lent {
+    ($held:ident { $block:ident => $one:expr, $sheet:ident => $last:expr, }
+        $($number:literal $variant:ident $size:literal $end:tt)*) => {
+        match $held {
+            $(Held::$variant($block) => $one,)*
+            Held::Sheets($sheet) => $last,
+            _ => unreachable!(),
+        }
+    };
+}
+
+/// Returns where a chunk of a class from 27 to 39 lies whose memory is the block.
+///
+/// The last of these classes has the default arm.
+macro_rules! of_class {
+    ($class:ident $block:ident $($number:literal $variant:ident $size:literal),*;
+        $last:literal $default:ident $greatest:literal,) => {
+        match $class.number() {
+            $($number => Held::$variant($block),)*
+            _ => Held::$default($block),
         }
     };
 }
@@ -121,25 +148,53 @@ fn whole(held: &Held) -> &[u8]
     requires { 1 ≤ (chunks_in held.now).count }
     ensures { result.now ≡ first_in held.now }
 {
-    each_class!(all match_bytes! held {
-        bytes => &bytes[..],
-        Held::Sheets(sheet) => sheet.first(),
+    if class(held).number() < LENT {
+        cut_bytes(held)
+    } else {
+        lent_bytes(held)
+    }
+}
+
+/// Lends the bytes of a chunk of a class below 27.
+fn cut_bytes(held: &Held) -> &[u8]
+    requires { (chunks_in held.now).class < 27 }
+    ensures { result.now ≡ first_in held.now }
+{
+    each_class!(cut match_one! held { bytes => &bytes[..], _ => unreachable!(), })
+}
+
+/// Lends the bytes of the first chunk of a class from 27 on.
+#[inline(never)]
+fn lent_bytes(held: &Held) -> &[u8]
+    requires class { 27 ≤ (chunks_in held.now).class }
+    requires some { 1 ≤ (chunks_in held.now).count }
+    ensures { result.now ≡ first_in held.now }
+{
+    each_class!(lent match_lent! held {
+        block => block.bytes(),
+        sheet => sheet.first(),
     })
 }
 
 /// Lends bytes of the chunk at a place, the first at 0, for as long as the result is there.
 ///
-/// `None` for a class below the last, and for memory that can't be lent.
+/// `None` for a class below 27, and for memory that can't be lent.
 pub(crate) fn lend(held: &Held, at: usize, from: usize, to: usize) -> Option<Lent>
+    requires are { AreChunks (chunks_in held.now) }
     requires place { at < (chunks_in held.now).count }
     requires order { from ≤ to }
     requires within { to ≤ size_of (chunks_in held.now).class }
     ensures { IfSome result (λ lent. lent
         ≡ take (to - from) (drop from (chunk_at (chunks_in held.now) at))) }
 {
-    match held {
-        Held::Sheets(sheet) => sheet.lend(at, from, to),
-        _ => None,
+    let class = class(held).number();
+    if class < LENT {
+        return None;
+    }
+    if class < CLASSES {
+        block(held).lend(from, to)
+    } else {
+        sheet(held).lend(at, from, to)
     }
 }
 
@@ -152,26 +207,38 @@ pub(crate) fn write_at(held: &mut Held, at: usize, part: &[u8])
       bytes = with_part (chunks_in held.old).bytes at part.now;
     } }
 {
-    if class(held).number() < CLASSES {
-        return write_one(held, at, part);
+    if class(held).number() < LENT {
+        return write_cut(held, at, part);
     }
-    match held {
-        Held::Sheets(sheet) => sheet.write_at(at, part),
-        _ => unreachable!(),
-    }
+    write_lent(held, at, part);
 }
 
-/// Copies `part` to the place `at` of one chunk of a class below the last.
-fn write_one(held: &mut Held, at: usize, part: &[u8])
-    requires class { (chunks_in held.old).class < 40 }
+/// Copies `part` to the place `at` of a chunk of a class below 27.
+fn write_cut(held: &mut Held, at: usize, part: &[u8])
+    requires class { (chunks_in held.old).class < 27 }
     requires room { at + length part.now ≤ length (chunks_in held.old).bytes }
     ensures { chunks_in held.new ≡ record (chunks_in held.old) {
       bytes = with_part (chunks_in held.old).bytes at part.now;
     } }
 {
-    each_class!(all match_bytes! held {
+    each_class!(cut match_one! held {
         bytes => write_part(&mut bytes[..], at, part),
-        Held::Sheets(_) => unreachable!(),
+        _ => unreachable!(),
+    })
+}
+
+/// Copies `part` to the place `at` of the bytes of chunks that can be lent.
+#[inline(never)]
+fn write_lent(held: &mut Held, at: usize, part: &[u8])
+    requires class { 27 ≤ (chunks_in held.old).class }
+    requires room { at + length part.now ≤ length (chunks_in held.old).bytes }
+    ensures { chunks_in held.new ≡ record (chunks_in held.old) {
+      bytes = with_part (chunks_in held.old).bytes at part.now;
+    } }
+{
+    each_class!(lent match_lent! held {
+        block => block.write_at(at, part),
+        sheet => sheet.write_at(at, part),
     })
 }
 
@@ -193,6 +260,22 @@ fn copy(bytes: &mut [u8], part: &[u8])
     ensures { bytes.new ≡ part.now }
 {
     bytes.copy_from_slice(part);
+}
+
+/// Lends the block of a chunk of a class from 27 to 39.
+fn block(held: &Held) -> &Block
+    requires { (27 ≤ (chunks_in held.now).class) × ((chunks_in held.now).class < 40) }
+    ensures { result.now ≡ (chunks_in held.now).bytes }
+{
+    each_class!(lent match_one! held { block => block, _ => unreachable!(), })
+}
+
+/// Returns where a chunk of a class from 27 to 39 lies whose memory is the block.
+pub(crate) fn of_block(class: Class, block: Box<Block>) -> Held
+    requires { (27 ≤ class) × (class < 40) }
+    ensures { chunks_in result ≡ record { class = class; count = 1; bytes = block.value } }
+{
+    each_class!(lent of_class! class block)
 }
 
 /// Lends the sheet of chunks of the last class.

@@ -1,6 +1,6 @@
 //! Laws of the table of classes and of pages, each the contract of a function that does nothing.
 
-ghost use Rattle.std.specs.Prelude.{◌≡◌, ℕ, ◌+◌, ◌*◌, ◌/◌, ◌<◌, ◌≤◌, List, [], ◌∷◌, map, Some, None, true};
+ghost use Rattle.std.specs.Prelude.{◌≡◌, ℕ, ◌+◌, ◌*◌, ◌/◌, ◌<◌, ◌≤◌, [], ◌∷◌, map, Some, None, true};
 ghost use Rattle.mc_slab.specs.Classes.{chunk_sizes, chunks_a_page, class_of};
 ghost use Rattle.mc_slab.specs.Needs.{NeedState, IsNeed};
 ghost use Rattle.mc_slab.specs.Slabs.{

@@ -10,10 +10,10 @@
 //! A [`Class`] is one of 40 sizes, 96 to 1048576 bytes ([`class_of`]). A [`Need`] is a class and
 //! the number of its chunks that hold a charge ([`need_of`]). A [`Slab`] counts the pages that are
 //! left, and keeps for each class the free chunks and the memory that isn't cut yet. [`Chunks`] are
-//! what is taken and given back: they are moved and never copied. A part of a page can be lent
-//! beyond a borrow ([`Chunks::lend`]): the reader keeps its bytes, and a write meanwhile goes to a
-//! copy of the page. [`Pages`] are memory that is allocated before a slab is at hand, so that a
-//! thread holds a shared slab only briefly.
+//! what is taken and given back: they are moved and never copied. A part of a chunk of class 27 to
+//! 40, of 33904 bytes and more, can be lent beyond a borrow ([`Chunks::lend`]): the reader keeps its
+//! bytes, and a write meanwhile goes to a copy of the chunk. [`Pages`] are memory that is allocated
+//! before a slab is at hand, so that a thread holds a shared slab only briefly.
 //!
 //! Contracts see a slab as its limit of pages and, for each class, its pages and the chunks that
 //! are out. `take_all` fails as full exactly if the unused chunks and those of the pages left are
@@ -25,6 +25,7 @@
 //! Tests: mc_item_tests, src/slab_tests.rt.
 #![tactic(auto)]
 
+mod block;
 mod chunks;
 mod class;
 mod cut;

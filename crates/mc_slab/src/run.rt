@@ -2,23 +2,26 @@
 
 ghost use Rattle.std.specs.Prelude.{◌≡◌, ◌+◌, ◌*◌, ◌^◌, ◌<◌, ◌≤◌, [], IfOk, OnOk, OnErr, vec_len, vec_capacity};
 ghost use Rattle.std.specs.List.{All};
+ghost use Rattle.mc_slab.specs.Chunks.{AreChunksOf};
 ghost use Rattle.mc_slab.specs.Classes.{IsClass, size_of, chunks_a_page};
 ghost use Rattle.mc_slab.specs.Runs.{AreRunsOf, IsMemoryOf, chunks_a_run, uncut};
 ghost use Rattle.mc_slab.specs.Stocks.{IsChunkOf};
 
 use crate::chunks::Chunks;
-use crate::class::{CLASSES, Class};
+use crate::class::{CLASSES, Class, LENT};
 use std::alloc::{AllocError, Global};
 use std::marker::Model;
 
-/// The largest run, in bytes, unless one chunk is larger.
+/// The largest run of a class below 27, in bytes. From class 27 on a run is one chunk.
 const RUN: u32 = 1 << 15;
 
-/// Memory that chunks will be cut from. For a class below the last it isn't written yet.
+/// Memory that chunks will be cut from.
 #[derive(Drop)]
 enum Memory {
+    /// Of a class below 27. It isn't written yet.
     Bytes(Vec<u8>),
-    Page(Chunks),
+    /// Of a class from 27 on: one chunk, which is memory of its own.
+    Chunk(Chunks),
 }
 
 /// One allocation that chunks of a class will be cut from.
@@ -81,7 +84,7 @@ impl Run {
 
     /// Cuts its memory into chunks of zeros and appends them to `chunks`, which has room.
     ///
-    /// Chunks of a class below the last stay with the process.
+    /// Chunks of a class below 27 stay with the process.
     fn cut_into(self, chunks: &mut Vec<Chunks>)
         requires none { chunks.old.items ≡ [] }
         requires room { self.count ≤ vec_capacity chunks.old }
@@ -95,7 +98,7 @@ impl Run {
             memory,
         } = self;
         match memory {
-            Memory::Page(chunk) => chunks.push_reserved(chunk),
+            Memory::Chunk(chunk) => chunks.push_reserved(chunk),
             Memory::Bytes(bytes) => cut_bytes(bytes, class, count, chunks),
         }
     }
@@ -108,11 +111,23 @@ fn memory_of(alloc: Global, class: Class, count: u32) -> Result<Memory, AllocErr
     ensures memory { IfOk result (IsMemoryOf class count) }
     ensures class { IsClass class }
 {
-    if class.number() == CLASSES {
-        Ok(Memory::Page(Chunks::page(alloc)?))
-    } else {
+    if class.number() < LENT {
         let bytes = count as usize * class.size() as usize;
         Ok(Memory::Bytes(Vec::with_capacity(alloc, bytes)?))
+    } else {
+        Ok(Memory::Chunk(chunk_of(alloc, class)?))
+    }
+}
+
+/// Allocates one chunk of a class from 27 on, of zeros.
+fn chunk_of(alloc: Global, class: Class) -> Result<Chunks, AllocError>
+    requires { 27 ≤ class }
+    ensures { IfOk result (AreChunksOf (record { class = class; count = 1 })) }
+{
+    if class.number() < CLASSES {
+        Chunks::lone(alloc, class)
+    } else {
+        Chunks::page(alloc)
     }
 }
 
@@ -123,7 +138,7 @@ fn zero_memory(memory: Memory, class: Class, count: u32) -> Memory
     ensures { IsMemoryOf class count result }
 {
     match memory {
-        Memory::Page(chunk) => Memory::Page(chunk),
+        Memory::Chunk(chunk) => Memory::Chunk(chunk),
         Memory::Bytes(mut bytes) => {
             write_zeros(&mut bytes, count as usize * class.size() as usize);
             Memory::Bytes(bytes)
@@ -131,9 +146,9 @@ fn zero_memory(memory: Memory, class: Class, count: u32) -> Memory
     }
 }
 
-/// Cuts the memory of `count` chunks of a class below the last.
+/// Cuts the memory of `count` chunks of a class below 27.
 fn cut_bytes(mut bytes: Vec<u8>, class: Class, count: u32, chunks: &mut Vec<Chunks>)
-    requires class { IsClass class × (class < 40) }
+    requires class { IsClass class × (class < 27) }
     requires bytes { count * size_of class ≤ vec_capacity bytes }
     requires none { chunks.old.items ≡ [] }
     requires room { count ≤ vec_capacity chunks.old }
@@ -332,8 +347,8 @@ fn make_runs(runs: &mut Vec<Run>, alloc: Global, class: Class, count: u32) -> Re
 
 /// Memory of pages for a class, allocated before a slab is asked for chunks.
 ///
-/// Below the last class the run that is cut first is filled with zeros; pages of the last class are
-/// filled whole. Contracts see the class and the number of pages. Dropping it frees the memory.
+/// Below class 27 the run that is cut first is filled with zeros; from class 27 on all chunks are.
+/// Contracts see the class and the number of pages. Dropping it frees the memory.
 #[derive(Drop)]
 pub struct Pages {
     count: u32,
@@ -353,8 +368,9 @@ impl Model for Pages {
 impl Pages {
     /// Allocates 1 to 8 pages for the class, and fills what is cut first with zeros.
     ///
-    /// That is 32768 bytes, or one larger chunk; pages of the last class are filled whole. The only
-    /// error is a refused allocation, and the memory is then freed.
+    /// Below class 27 that is at most 32768 bytes. From class 27 on all chunks of the pages are made,
+    /// each in memory of its own, and filled with zeros. The only error is a refused allocation, and
+    /// the memory is then freed.
     pub fn new(alloc: Global, class: Class, count: u32) -> Result<Pages, AllocError>
         requires { (1 ≤ count) × (count ≤ 8) }
         ensures { IfOk result (λ pages. pages ≡ record { class = class; count = count }) }

@@ -1,6 +1,6 @@
 //! A chunk of a page's size, and the chunks that are linked behind it.
 
-ghost use Rattle.std.specs.Prelude.{◌≡◌, ◌+◌, ◌-◌, ◌*◌, ◌<◌, ◌≤◌, List, [], ◌++◌, length, take, drop, ℕ, IfOk, IfSome};
+ghost use Rattle.std.specs.Prelude.{◌≡◌, ◌+◌, ◌-◌, ◌*◌, ◌<◌, ◌≤◌, List, ◌++◌, length, take, drop, ℕ, IfOk, IfSome};
 ghost use Rattle.mc_slab.specs.Chunks.{with_part};
 ghost use Rattle.mc_slab.specs.Sheets.{sheets_in};
 

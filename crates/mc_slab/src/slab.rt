@@ -55,11 +55,13 @@ impl From<AllocError> for TakeFault {
 /// The memory of a store: pages of 1048576 bytes, each of which goes to one class and stays with
 /// it.
 ///
-/// A page is allocated at once, in runs of at most 32768 bytes or of one larger chunk. A run is
+/// A page of a class below 27 is allocated at once, in runs of at most 32768 bytes. A run is
 /// written, and cut into chunks, when its first chunk is taken. Runs that were cut are never freed:
 /// they stay with the process until it ends, even if the slab is dropped or all chunks were given
-/// back. Contracts see the limit of pages and, for each class, its pages and the chunks that are
-/// out.
+/// back. From class 27 on all chunks of a page are made when the class gets it: each is memory of
+/// its own, filled with zeros, beside which as much is reserved for a copy, untouched. It is freed
+/// when the chunk is dropped. Contracts see the limit of pages and, for each class, its pages and
+/// the chunks that are out.
 #[derive(Drop)]
 pub struct Slab {
     pages_left: u32,

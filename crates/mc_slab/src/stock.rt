@@ -2,8 +2,8 @@
 
 ghost use Rattle.std.specs.Prelude.{◌≡◌, ◌+◌, ◌-◌, ◌*◌, ◌<◌, ◌≤◌, OnOk, OnErr, vec_len, vec_capacity};
 ghost use Rattle.std.specs.List.{All};
-ghost use Rattle.mc_slab.specs.Chunks.{AreChunks, AreChunksOf};
-ghost use Rattle.mc_slab.specs.Classes.{IsClass, chunks_a_page};
+ghost use Rattle.mc_slab.specs.Chunks.{AreChunksOf};
+ghost use Rattle.mc_slab.specs.Classes.{chunks_a_page};
 ghost use Rattle.mc_slab.specs.Needs.{IsNeed};
 ghost use Rattle.mc_slab.specs.Stocks.{IsChunkOf, all_chunks};
 

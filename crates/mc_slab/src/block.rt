@@ -1,0 +1,222 @@
+//! The memory of one chunk, whose bytes can be lent beyond a borrow.
+//!
+//! A reader that keeps bytes for a while, as until a socket takes them, gets a [`Lent`]: it is one
+//! more owner of the memory, whose bytes stay as they are. A write finds out whether there is such
+//! a reader. If so, the reader keeps the memory, and the chunk goes on in a copy.
+//!
+//! A write can't fail, so memory for a copy is reserved when the chunk is made. It is touched only
+//! if other memory for a copy is refused.
+
+ghost use Rattle.std.specs.Prelude.{
+  ◌≡◌,
+  ◌+◌,
+  ◌-◌,
+  ◌≤◌,
+  [],
+  length,
+  take,
+  drop,
+  true,
+  IfOk,
+  IfSome,
+  IsTrue,
+  IsFalse,
+  vec_capacity,
+};
+ghost use Rattle.std.specs.Arc.{arc_value};
+ghost use Rattle.mc_slab.specs.Chunks.{with_part};
+ghost use Rattle.mc_slab.specs.Blocks.{bytes_in, is_shared, IsBlock};
+
+use mc_bytes::{Large, Lent};
+use std::alloc::{AllocError, Global};
+use std::marker::Model;
+use std::mem;
+use std::sync::Arc;
+
+/// Bytes of a chunk that can be lent. Contracts see the bytes.
+#[derive(Drop)]
+pub(crate) struct Block {
+    memory: Memory,
+}
+
+/// Where the bytes lie.
+#[derive(Drop)]
+enum Memory {
+    /// In memory that can't be lent.
+    Own(Large),
+    /// In memory that can be lent. Beside it, as much is reserved for a copy.
+    Shared { large: Arc<Large>, spare: Large },
+    /// They were moved out for a moment.
+    Hollow,
+}
+
+impl Model for Block {
+    ghost use Rattle.std.specs.Prelude.{List, ℕ};
+    ghost use Rattle.mc_slab.specs.Blocks.{bytes_in, IsBlock};
+
+    ghost Value = { List ℕ };
+
+    ghost view = { λ b. bytes_in b.memory };
+
+    ghost invariant = { λ b. IsBlock b.memory };
+}
+
+impl Block {
+    /// Allocates one of `size` zeros. The only error is a refused allocation.
+    pub(crate) fn new(alloc: Global, size: usize) -> Result<Block, AllocError>
+        ensures { IfOk result (λ block. length block ≡ size) }
+    {
+        let bytes = Vec::with_capacity(alloc, size)?;
+        let mut large = Large { bytes };
+        large.bytes.resize(size, 0)?;
+        Ok(Block {
+            memory: shared(alloc, large),
+        })
+    }
+
+    /// Lends the bytes.
+    pub(crate) fn bytes(&self) -> &[u8]
+        ensures { result.now ≡ self.now }
+    {
+        match &self.memory {
+            Memory::Own(large) => large.bytes.as_slice(),
+            Memory::Shared { large, .. } => large.bytes.as_slice(),
+            Memory::Hollow => unreachable!(),
+        }
+    }
+
+    /// Lends the bytes from one place up to another for as long as the result is there.
+    ///
+    /// It takes no memory. `None` if the bytes lie in memory that can't be lent.
+    pub(crate) fn lend(&self, from: usize, to: usize) -> Option<Lent>
+        requires order { from ≤ to }
+        requires within { to ≤ length self.now }
+        ensures { IfSome result (λ lent. lent ≡ take (to - from) (drop from self.now)) }
+    {
+        match &self.memory {
+            Memory::Shared { large, .. } => match Arc::try_clone(large) {
+                Ok(large) => Some(Lent::of(large, from, to)),
+                Err(_) => None,
+            },
+            Memory::Own(_) | Memory::Hollow => None,
+        }
+    }
+
+    /// Copies `part` to the place `at`. The other bytes are unchanged.
+    pub(crate) fn write_at(&mut self, at: usize, part: &[u8])
+        requires { at + length part.now ≤ length self.old }
+        ensures value { self.new ≡ with_part self.old at part.now }
+        ensures size { length self.new ≡ length self.old }
+    {
+        let Block { memory } = self;
+        if !write_in_place(memory, at, part) {
+            let old = mem::replace(memory, Memory::Hollow);
+            *memory = written_copy(old, at, part);
+        }
+    }
+}
+
+/// Returns the memory of bytes: one that can be lent, if memory is there for that.
+fn shared(alloc: Global, large: Large) -> Memory
+    ensures value { bytes_in result ≡ large.bytes.items }
+    ensures block { IsBlock result }
+{
+    match Vec::with_capacity(alloc, large.bytes.len()) {
+        Ok(bytes) => shared_beside(large, Large { bytes }),
+        Err(_) => Memory::Own(large),
+    }
+}
+
+/// Returns the memory of bytes, with `spare` reserved for a copy.
+fn shared_beside(large: Large, spare: Large) -> Memory
+    requires spare { spare.bytes.items ≡ [] }
+    requires room { length large.bytes.items ≤ vec_capacity spare.bytes }
+    ensures value { bytes_in result ≡ large.bytes.items }
+    ensures block { IsBlock result }
+{
+    let alloc = *spare.bytes.allocator();
+    match Arc::new(alloc, large) {
+        Ok(large) => Memory::Shared { large, spare },
+        Err(refused) => Memory::Own(refused.value),
+    }
+}
+
+/// Copies `part` to the place `at` unless others read the memory, and returns whether it did.
+///
+/// If not, the memory is unchanged.
+fn write_in_place(memory: &mut Memory, at: usize, part: &[u8]) -> bool
+    requires block { IsBlock memory.old }
+    requires room { at + length part.now ≤ length (bytes_in memory.old) }
+    ensures value { IsTrue result
+        → bytes_in memory.new ≡ with_part (bytes_in memory.old) at part.now }
+    ensures size { length (bytes_in memory.new) ≡ length (bytes_in memory.old) }
+    ensures block { IsBlock memory.new }
+    ensures same { IsFalse result → memory.new ≡ memory.old }
+    ensures shared { IsFalse result → is_shared memory.old ≡ true }
+{
+    match memory {
+        Memory::Own(large) => write_part(&mut large.bytes, at, part),
+        Memory::Shared { large, .. } => match Arc::get_mut(large) {
+            Some(large) => write_part(&mut large.bytes, at, part),
+            None => return false,
+        },
+        Memory::Hollow => unreachable!(),
+    }
+    true
+}
+
+/// Returns a copy of the memory, with `part` at the place `at`.
+///
+/// Those who read the old memory keep it as it was. The reserved memory is touched only if other
+/// memory for the copy is refused.
+fn written_copy(memory: Memory, at: usize, part: &[u8]) -> Memory
+    requires block { IsBlock memory }
+    requires shared { is_shared memory ≡ true }
+    requires room { at + length part.now ≤ length (bytes_in memory) }
+    ensures value { bytes_in result ≡ with_part (bytes_in memory) at part.now }
+    ensures size { length (bytes_in result) ≡ length (bytes_in memory) }
+    ensures block { IsBlock result }
+{
+    match memory {
+        Memory::Shared { large, spare } => {
+            let alloc = *spare.bytes.allocator();
+            match Vec::with_capacity(alloc, large.bytes.len()) {
+                Ok(bytes) => shared_beside(copy_into(Large { bytes }, large, at, part), spare),
+                Err(_) => shared(alloc, copy_into(spare, large, at, part)),
+            }
+        }
+        Memory::Own(_) | Memory::Hollow => unreachable!(),
+    }
+}
+
+/// Returns a copy in empty memory that has room for it, with `part` at the place `at`.
+fn copy_into(empty: Large, large: Arc<Large>, at: usize, part: &[u8]) -> Large
+    requires empty { empty.bytes.items ≡ [] }
+    requires room { length (arc_value large).bytes.items ≤ vec_capacity empty.bytes }
+    requires within { at + length part.now ≤ length (arc_value large).bytes.items }
+    ensures value { result.bytes.items ≡ with_part (arc_value large).bytes.items at part.now }
+    ensures size { length result.bytes.items ≡ length (arc_value large).bytes.items }
+{
+    let mut copy = empty;
+    append_reserved(&mut copy.bytes, large.bytes.as_slice());
+    write_part(&mut copy.bytes, at, part);
+    copy
+}
+
+/// Appends bytes to a vector that has room for them.
+fn append_reserved(out: &mut Vec<u8>, bytes: &[u8])
+    requires room { length out.old.items + length bytes.now ≤ vec_capacity out.old }
+    requires empty { out.old.items ≡ [] }
+    ensures { out.new.items ≡ bytes.now }
+{
+    let _ = out.extend_from_slice(bytes);
+}
+
+/// Copies `part` to the place `at` of the bytes. Their number is unchanged.
+fn write_part(bytes: &mut Vec<u8>, at: usize, part: &[u8])
+    requires { at + length part.now ≤ length bytes.old.items }
+    ensures value { bytes.new.items ≡ with_part bytes.old.items at part.now }
+    ensures size { length bytes.new.items ≡ length bytes.old.items }
+{
+    bytes[at..at + part.len()].copy_from_slice(part);
+}
