@@ -185,6 +185,7 @@ fn tell_hit<A: Answer>(shelf: &Shelf, ask: &Ask<'_>, answer: &mut A) -> Result<S
 }
 
 /// Delivers the reply of a step that was taken, or returns why the step wasn't taken.
+#[inline]
 fn tell<A: Answer>(taken: Result<Reply, StepFault>, answer: &mut A) -> Result<(), Unanswered>
     ensures told { OnOk result ((reply : Told) × (taken ≡ Ok reply)
         × A.told answer.old reply answer.new) }

@@ -1,5 +1,5 @@
 -- What a shelf and a desk make of a plan is what the plain machine makes of the step.
-use Rattle.std.proofs.Common.{◌≡◌, ◌≢◌, ℕ, ◌+◌, ◌-◌, ◌<◌, ◌≤◌, ◌^◌, Bool, true, false, ◌&&◌, ◌||◌, List, [], decimal, Option, Some, None, Result, Ok, Err, IfOk, OnOk}
+use Rattle.std.proofs.Common.{◌≡◌, ◌≢◌, ℕ, ◌+◌, ◌-◌, ◌<◌, ◌≤◌, ◌^◌, Bool, true, false, ◌&&◌, ◌||◌, List, [], decimal, Option, Some, None}
 use Rattle.std.proofs.Common.{is_some, is_none, ◌*◌, ◌==◌, eqb, eqb-true, if◌then◌else◌, refl, sym, ap, subst, ◌∙◌, arith, le-leb, lt-ltb, not, true≢false}
 use Rattle.mc_shelf.proofs.Common.{alive, and_parts, and_right, Answered, block_need, block_of, Body, CanStandAt, changed, charge, chunks_a_page, chunks_in}
 use Rattle.mc_shelf.proofs.Common.{count-remove, count_of, Counted, DeskState, Draft, empty, Entry, Expiry, get, Given, given, has_room, insert, StandsAt, IsClass}
@@ -12,10 +12,10 @@ use Rattle.mc_shelf.specs.declared.plan.Next.{Next}
 use Rattle.mc_shelf.specs.declared.plan.Next.TheVariants.{Answer, Expire, Discard, Write}
 use Rattle.mc_shelf.specs.declared.write.Write.{Write as Writing}
 use Rattle.mc_shelf.specs.Plans.{GivesBack, GivesChunks, gives_way, IsDropped, IsOut, IsPut, IsSpent, StepTaken, IsWriteOf, TakesStepAtKey, back_at}
-use Rattle.mc_shelf.specs.Plans.{block_beside, block_in, counts, dead_chunks, drafted, made_block, has_need, is_gone, next_of, reuses, row_at, stood, way_given}
+use Rattle.mc_shelf.specs.Plans.{block_beside, block_in, counts, dead_chunks, drafted, made_block, has_need, is_gone, next_of, readied, reuses, row_at, stood, way_given}
 use Rattle.mc_shelf.proofs.StandLemmas.{base, step_is, at_none, at_dropped, at_put_again, counts_put, given_taken, out-given, out-taken, out-way}
 use Rattle.mc_shelf.proofs.StandLemmas.{out_found, out_some, pages-way, pages_after, pages_are, pages_stay, room_by_free, room_is, taken_is_slab, weight, weight_here}
-use Rattle.mc_shelf.proofs.NeedLemmas.{needs_same}
+use Rattle.mc_shelf.proofs.NeedLemmas.{need_class, needs_same}
 use Rattle.mc_shelf.proofs.ShelfLemmas.{others_same}
 use Rattle.mc_shelf.proofs.StandLemmas.{wrote_full, wrote_kept, wrote_spent, wrote_taken}
 use Rattle.mc_shelf.proofs.KeyLemmas.{get_put}
@@ -305,6 +305,13 @@ module _ {step : KeyStep} {now : ℕ} {shelf : ShelfContent} {desk : DeskState} 
       and_left (has_need its_key its_found need) (counts draft.body || is_gone shelf.cut now its_found) e (or_right (counts draft.body) (is_gone shelf.cut now its_found) way.2) in
       (way.0, way.1, way.3, way.4, drafted_is.given none, subst (λ (n : NeedState). gives_way shelf.cut now its_key its_found n ≡ true) w.need_is (λ i. not (other i) && lt-ltb 0 back some i))
 
+  -- and its chunks are out
+  pub way_out : Reuses false → 0 < back → CanStandAt its_key shelf desk → back ≤ out_of desk.slab need.class
+  way_out e some can =
+      let way = way_is e some in
+      let its_class : IsClass (item_need its_key way.0).class = subst IsClass (sym (way.2 ∙ ap (λ (n : NeedState). n.class) w.need_is)) (need_class size) in
+      subst (λ (t : ℕ × ℕ). t.0 ≤ out_of desk.slab t.1) (λ i. (way.3 i, way.2 i)) (is_out its_key shelf desk can way.0 way.1 its_class)
+
   module _ (is_need : IsNeed need) (is : IsSlab desk.slab) (more : desk.next_unique < 2 ^ 64 - 1) where
     its_wrote : (s : Plain) → StandsAt its_key shelf desk s → plain s step now ≡ wrote_at shelf step now draft s
     its_wrote = wrote_is step now shelf desk w.on size draft w.next
@@ -470,7 +477,7 @@ module _ {step : KeyStep} {now : ℕ} {shelf : ShelfContent} {desk : DeskState} 
 
       -- a dead item gives way to it
       pub takes_way : {reply : Reply} {desk' : DeskState} → Reuses false → 0 < back → slabs.has_room_with desk.slab need back ≡ true → reply ≡ write_reply draft.body
-          → desk' ≡ way_given need back desk → StepTaken step now own shelf desk reply new desk'
+          → desk' ≡ way_given need back (readied need back desk) → StepTaken step now own shelf desk reply new desk'
       takes_way e some room told same =
           let way = way_is e some in
           let is_class = is_need.is_class in
@@ -479,7 +486,7 @@ module _ {step : KeyStep} {now : ℕ} {shelf : ShelfContent} {desk : DeskState} 
           its_taken told same (λ s at.
           let least : back ≤ out_of desk.slab need.class = let out = out_found its_key shelf desk s at need.class is_class in
           let here = weight_here need.class back in omega (arith, out, of need.class, here) in
-          takes_other (way_given need back desk).slab (keeps_none e) room refl (pages-way desk.slab need is_class is back least)
+          takes_other (way_given need back (readied need back desk)).slab (keeps_none e) room refl (pages-way desk.slab need is_class is back least)
           (λ other is_other.
           let out = out-way desk.slab need is_class is back other is_other in
           let had = out_found its_key shelf desk s at other is_other in
@@ -502,14 +509,20 @@ module _ {step : KeyStep} {now : ℕ} {shelf : ShelfContent} {desk : DeskState} 
 
 -- ---- a dead item that gives way
 
--- what the desk is when it was made ready and the dead item's chunks went back
-pub way_desk : (key : List ℕ) (found : Option Entry) (item : Entry) (desk ready gave : DeskState) (need : NeedState) (back : ℕ) → found ≡ Some item
-    → (item_need key item).class ≡ need.class → (item_need key item).count ≡ back
-    → ready ≡ record desk { slab = made_ready desk.slab need back } → GivesBack key found ready gave → gave ≡ record desk { slab = given (made_ready desk.slab need back) need.class back }
-way_desk key found item desk ready gave need back there class count ready_is gives =
-    let one : GivesChunks (item_need key item) ready gave = subst (λ (o : Option Entry). GivesBack key o ready gave) there gives in
-    one.given_is ∙ ap (λ (d : DeskState). record d { slab = given d.slab (item_need key item).class (item_need key item).count }) ready_is
-    ∙ (λ i. record desk { slab = given (made_ready desk.slab need back) (class i) (count i) })
+-- the dead item was dropped from its key, which is known by another name
+pub way_gone : (key k : List ℕ) (own : ℕ) (shelf mid : ShelfContent) (item : Entry) → k ≡ key → get shelf.items key ≡ Some item
+    → ((item : Entry) → get shelf.items k ≡ Some item → IsDropped k own shelf mid) → IsDropped key own shelf mid
+way_gone key k own shelf mid item same there dropped =
+    subst (λ (k : List ℕ). IsDropped k own shelf mid) same (dropped item (ap (λ (k : List ℕ). get shelf.items k) same ∙ there))
+
+-- and what the desk is when its chunks went back
+pub way_desk : (key k : List ℕ) (shelf : ShelfContent) (item : Entry) (desk gave : DeskState) (need : NeedState) → k ≡ key → get shelf.items key ≡ Some item
+    → (item_need key item).class ≡ need.class → GivesBack k (get shelf.items k) desk gave
+    → gave ≡ record desk { slab = given desk.slab need.class (item_need key item).count }
+way_desk key k shelf item desk gave need same there class gives =
+    let one : GivesChunks (item_need key item) desk gave =
+    subst (λ (o : Option Entry). GivesBack key o desk gave) there (subst (λ (k : List ℕ). GivesBack k (get shelf.items k) desk gave) same gives) in
+    one.given_is ∙ (λ i. record desk { slab = given desk.slab (class i) (item_need key item).count })
 
 -- what is put after the key's item was dropped
 pub put_after_drop : (key : List ℕ) (own : ℕ) (old mid new : ShelfContent) (one : Entry) → IsDropped key own old mid → IsPut key own mid new one → IsPut key own old new one
@@ -523,8 +536,3 @@ put_after_drop key own old mid new one dropped puts = record {
   };
   hash = puts.hash;
 }
-
--- what a result brings, of what it brings besides
-pub ok_both : {A E : Type 0} {X : Type 0} (P Q R : A → Type 0) (r : Result A E) → IfOk r P → IfOk r Q → OnOk r X → ((a : A) → P a → Q a → X → R a) → IfOk r R
-ok_both P Q R (Ok a) p q x f = f a p q x
-ok_both P Q R (Err e) p q x f = tt

@@ -438,27 +438,34 @@ GivesBack key None old new = new ≡ old
 GivesBack key (Some item) old new = GivesChunks (item_need key item) old new
 
 -- the item of a write whose block is the step's own can be put in the place of a key's dead item, whose chunks go back, of the
--- same class: so many of that class come back, those that the write needs can be had then, a number is left, and there is room
--- for an entry
-pub record CanGiveWay (write : Writing) (need : NeedState) (back : ℕ) (step : KeyStep)
-    (shelf : ShelfState) (desk : DeskState) : Type 0 where
+-- same class: those that the write needs are unused then, a number is left, and there is room for an entry
+pub record CanGiveWay (write : Writing) (need : NeedState) (step : KeyStep) (shelf : ShelfState)
+    (desk : DeskState) : Type 0 where
   pub short : length (key_of step) ≤ 250
   pub item : Entry
   pub there : get shelf.content.items (key_of step) ≡ Some item
   pub class : (item_need (key_of step) item).class ≡ need.class
-  pub count : (item_need (key_of step) item).count ≡ back
-  pub out : back ≤ out_of desk.slab need.class
+  pub out : IsOut (key_of step) shelf.content desk
   pub given : write.draft.body ≡ Given
   pub need_is : need ≡ need_for (charge (key_of step) (block_of step))
   pub fits : charge (key_of step) (block_of step) ≤ size_in need
   pub room : 1 ≤ shelf.room
   pub number : desk.next_unique < 2 ^ 64 - 1
-  pub chunks : has_room_with desk.slab need back ≡ true
+  pub enough : need.count
+      ≤ slabs.unused (slabs.given desk.slab need.class (item_need (key_of step) item).count) need.class
+
+-- a desk after a number was drawn
+abbrev pub drawn : DeskState → DeskState
+drawn desk = record desk { next_unique = desk.next_unique + 1 }
+
+-- a desk whose class has the pages that a need wants, once so many chunks came back
+abbrev pub readied : NeedState → (back : ℕ) → DeskState → DeskState
+readied need back desk = record desk { slab = made_ready desk.slab need back }
 
 -- a desk after so many chunks of a need's class came back, the need's were taken, and a number was drawn
 abbrev pub way_given : NeedState → (back : ℕ) → DeskState → DeskState
 way_given need back desk = record {
-  slab = taken (slabs.given (made_ready desk.slab need back) need.class back) need;
+  slab = taken (slabs.given desk.slab need.class back) need;
   next_unique = desk.next_unique + 1;
 }
 

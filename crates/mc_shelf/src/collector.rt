@@ -38,14 +38,8 @@ pub(crate) struct Collector {
     slab: Slab,
     /// For each class, class 1 first, the chunks that are out and not of shelves aside.
     out: [u32; 40],
-    /// The shelves aside. The last one is collected first.
-    aside: Vec<Shelf>,
-    /// Where the walk over the last one goes on.
-    at: usize,
-    /// For each class, class 1 first, where the search for its chunks aside goes on.
-    ///
-    /// None of them is before it, except those of a stray that took the place of another.
-    sought: [Seek; 40],
+    /// The shelves aside.
+    aside: Aside,
 }
 
 impl Model for Collector {
@@ -58,7 +52,7 @@ impl Model for Collector {
 
     ghost view = { λ c. seen c.slab c.out };
 
-    ghost invariant = { λ c. LieAside c.slab c.out c.aside.items };
+    ghost invariant = { λ c. LieAside c.slab c.out c.aside.shelves.items };
 }
 
 impl Collector {
@@ -73,9 +67,7 @@ impl Collector {
         Ok(Collector {
             slab: Slab::new(alloc, pages)?,
             out: [0; 40],
-            aside: Vec::new(alloc),
-            at: 0,
-            sought: [Seek::START; 40],
+            aside: Aside::of(Vec::new(alloc)),
         })
     }
 
@@ -121,15 +113,7 @@ impl Collector {
     {
         let place = place_of(need.class());
         let out = self.out[place];
-        collect_for(
-            &mut self.slab,
-            &mut self.aside,
-            &mut self.at,
-            &mut self.sought,
-            need,
-            0,
-            out,
-        );
+        collect_for(&mut self.slab, &mut self.aside, need, 0, out);
         match self.slab.take_all_with(alloc, need, pages) {
             Ok(chunks) => {
                 // for the proof: the invariant of the slab
@@ -156,15 +140,7 @@ impl Collector {
         ensures { Readies need back self.old result self.new }
     {
         let out = self.out[place_of(need.class())];
-        collect_for(
-            &mut self.slab,
-            &mut self.aside,
-            &mut self.at,
-            &mut self.sought,
-            need,
-            back,
-            out,
-        );
+        collect_for(&mut self.slab, &mut self.aside, need, back, out);
         self.slab.ready_with(alloc, need, back, pages)
     }
 
@@ -183,7 +159,7 @@ impl Collector {
     pub(crate) fn collect(&mut self)
         ensures { self.new ≡ self.old }
     {
-        collect_few(&mut self.slab, &mut self.aside, &mut self.at);
+        collect_few(&mut self.slab, &mut self.aside);
     }
 
     /// Lays shelves aside. Their items have all the chunks that are out, so none is out afterwards.
@@ -197,11 +173,35 @@ impl Collector {
         ensures is_slab { IsSlab self.new }
     {
         let room = shelves.capacity() - shelves.len();
-        make_room(&mut self.slab, &mut self.aside, &mut self.at, room);
-        self.aside = join(shelves, &mut self.aside);
-        self.at = 0;
-        self.sought = [Seek::START; 40];
+        make_room(&mut self.slab, &mut self.aside, room);
+        self.aside = Aside::of(join(shelves, &mut self.aside.shelves));
         self.out = [0; 40];
+    }
+}
+
+/// Shelves that were laid aside, and where the walks over them go on.
+#[derive(Drop)]
+struct Aside {
+    /// The shelves. The last one is collected first.
+    shelves: Vec<Shelf>,
+    /// Where the walk over the last one goes on.
+    at: usize,
+    /// For each class, class 1 first, where the search for its chunks goes on.
+    ///
+    /// None of them is before it, except those of a stray that took the place of another.
+    sought: [Seek; 40],
+}
+
+impl Aside {
+    /// Returns shelves over which all walks begin.
+    fn of(shelves: Vec<Shelf>) -> Aside
+        ensures { result.shelves.items ≡ shelves.items }
+    {
+        Aside {
+            shelves,
+            at: 0,
+            sought: [Seek::START; 40],
+        }
     }
 }
 
@@ -216,13 +216,14 @@ fn place_of(class: Class) -> usize
 /// Collects one item of the shelves aside, and returns whether there was one.
 ///
 /// If there was none, no shelf is left.
-fn collect_one(slab: &mut Slab, aside: &mut Vec<Shelf>, at: &mut usize) -> bool
-    requires { (out : List ℕ) × LieAside slab.old out aside.old.items }
-    ensures collected { AreCollected slab.old slab.new aside.old.items aside.new.items }
+fn collect_one(slab: &mut Slab, aside: &mut Aside) -> bool
+    requires { (out : List ℕ) × LieAside slab.old out aside.old.shelves.items }
+    ensures collected { AreCollected slab.old slab.new
+        aside.old.shelves.items aside.new.shelves.items }
     ensures fewer { result ≡ true → all_out slab.new < all_out slab.old }
-    ensures none { result ≡ false → aside.new.items ≡ [] }
+    ensures none { result ≡ false → aside.new.shelves.items ≡ [] }
 {
-    match next_chunks(aside, at) {
+    match next_chunks(&mut aside.shelves, &mut aside.at) {
         Some(chunks) => {
             slab.give_all(chunks);
             true
@@ -232,25 +233,26 @@ fn collect_one(slab: &mut Slab, aside: &mut Vec<Shelf>, at: &mut usize) -> bool
 }
 
 /// Collects a few items.
-fn collect_few(slab: &mut Slab, aside: &mut Vec<Shelf>, at: &mut usize)
-    requires { (out : List ℕ) × LieAside slab.old out aside.old.items }
-    ensures { AreCollected slab.old slab.new aside.old.items aside.new.items }
+fn collect_few(slab: &mut Slab, aside: &mut Aside)
+    requires { (out : List ℕ) × LieAside slab.old out aside.old.shelves.items }
+    ensures { AreCollected slab.old slab.new aside.old.shelves.items aside.new.shelves.items }
 {
     for _ in 0..FEW {
-        if !collect_one(slab, aside, at) {
+        if !collect_one(slab, aside) {
             return;
         }
     }
 }
 
 /// Collects items until at most `room` shelves are aside.
-fn make_room(slab: &mut Slab, aside: &mut Vec<Shelf>, at: &mut usize, room: usize)
-    requires { (out : List ℕ) × LieAside slab.old out aside.old.items }
-    ensures collected { AreCollected slab.old slab.new aside.old.items aside.new.items }
-    ensures room { vec_len aside.new ≤ room }
+fn make_room(slab: &mut Slab, aside: &mut Aside, room: usize)
+    requires { (out : List ℕ) × LieAside slab.old out aside.old.shelves.items }
+    ensures collected { AreCollected slab.old slab.new
+        aside.old.shelves.items aside.new.shelves.items }
+    ensures room { vec_len aside.new.shelves ≤ room }
 {
-    while aside.len() > room {
-        if !collect_one(slab, aside, at) {
+    while aside.shelves.len() > room {
+        if !collect_one(slab, aside) {
             return;
         }
     }
@@ -276,21 +278,17 @@ fn lacks(slab: &Slab, need: Need, back: u64, out: u32) -> bool
 /// one.
 ///
 /// Chunks of other classes stay aside.
-fn collect_of(
-    slab: &mut Slab,
-    aside: &mut Vec<Shelf>,
-    sought: &mut [Seek; 40],
-    class: Class,
-) -> bool
-    requires { (out : List ℕ) × LieAside slab.old out aside.old.items }
-    ensures collected { AreCollected slab.old slab.new aside.old.items aside.new.items }
+fn collect_of(slab: &mut Slab, aside: &mut Aside, class: Class) -> bool
+    requires { (out : List ℕ) × LieAside slab.old out aside.old.shelves.items }
+    ensures collected { AreCollected slab.old slab.new
+        aside.old.shelves.items aside.new.shelves.items }
     ensures own { result ≡ true → GivesOwn class slab.old slab.new }
     ensures none { result ≡ false → slab.new ≡ slab.old }
 {
     let place = place_of(class);
-    let mut from = sought[place];
-    let found = chunks_of(aside, class, &mut from);
-    sought[place] = from;
+    let mut from = aside.sought[place];
+    let found = chunks_of(&mut aside.shelves, class, &mut from);
+    aside.sought[place] = from;
     match found {
         Some(chunks) => {
             slab.give_all(chunks);
@@ -305,44 +303,32 @@ fn collect_of(
 ///
 /// After the second the search begins anew, so it finds an entry that a removed stray moved behind
 /// it.
-fn collect_next(
-    slab: &mut Slab,
-    aside: &mut Vec<Shelf>,
-    at: &mut usize,
-    sought: &mut [Seek; 40],
-    class: Class,
-) -> bool
-    requires { (out : List ℕ) × LieAside slab.old out aside.old.items }
-    ensures collected { AreCollected slab.old slab.new aside.old.items aside.new.items }
+fn collect_next(slab: &mut Slab, aside: &mut Aside, class: Class) -> bool
+    requires { (out : List ℕ) × LieAside slab.old out aside.old.shelves.items }
+    ensures collected { AreCollected slab.old slab.new
+        aside.old.shelves.items aside.new.shelves.items }
     ensures fewer { result ≡ true → all_out slab.new < all_out slab.old }
-    ensures none { result ≡ false → aside.new.items ≡ [] }
+    ensures none { result ≡ false → aside.new.shelves.items ≡ [] }
 {
-    if collect_of(slab, aside, sought, class) {
+    if collect_of(slab, aside, class) {
         return true;
     }
-    collect_one(slab, aside, at)
+    collect_one(slab, aside)
 }
 
 /// Collects items until a need's class has enough unused chunks, or none of the class is aside.
 ///
 /// `back` chunks count as given back. `out` is the number of chunks that are out and not aside.
-fn collect_for(
-    slab: &mut Slab,
-    aside: &mut Vec<Shelf>,
-    at: &mut usize,
-    sought: &mut [Seek; 40],
-    need: Need,
-    back: u64,
-    out: u32,
-)
-    requires lie { (outs : List ℕ) × LieAside slab.old outs aside.old.items
+fn collect_for(slab: &mut Slab, aside: &mut Aside, need: Need, back: u64, out: u32)
+    requires lie { (outs : List ℕ) × LieAside slab.old outs aside.old.shelves.items
         × (out ≡ slice_index outs (need.class - 1)) }
     requires back { back ≤ out }
-    ensures collected { AreCollected slab.old slab.new aside.old.items aside.new.items }
+    ensures collected { AreCollected slab.old slab.new
+        aside.old.shelves.items aside.new.shelves.items }
     ensures enough { Suffices slab.new need back out }
 {
     while lacks(slab, need, back, out) {
-        if !collect_next(slab, aside, at, sought, need.class()) {
+        if !collect_next(slab, aside, need.class()) {
             return;
         }
     }

@@ -208,7 +208,7 @@ impl Entry {
     /// Lends a part of its block for as long as the result is there, the first at 0.
     ///
     /// The bytes that are lent stay as they are, even if the item is written again or deleted. It
-    /// takes no memory. `None` if the part's memory can't be lent, as in classes below the last.
+    /// takes no memory. `None` if the part's memory can't be lent, as in classes below 27.
     pub(crate) fn lend(&self, at: usize) -> Option<Lent>
         requires { at < (item_need self.now.key self.now.item).count }
         ensures { IfSome result (λ lent.

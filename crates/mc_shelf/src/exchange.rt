@@ -6,7 +6,7 @@
 //! the item keeps its own until `finish` has copied it and frees them. If memory for them is
 //! refused, the copy is made at the desk.
 
-ghost use Rattle.std.specs.Prelude.{◌≡◌, ℕ, List, IfOk, OnErr, None, is_some, true, false};
+ghost use Rattle.std.specs.Prelude.{◌≡◌, ℕ, IfOk, OnErr, None, is_some, true, false};
 ghost use Rattle.std.specs.FinMap.{get};
 ghost use Rattle.mc_slab.specs.Chunks.{need_in};
 ghost use Rattle.mc_slab.specs.Needs.{NeedState};

@@ -83,7 +83,7 @@ impl<'a> Hit<'a> {
     /// Lends a part of the item's block for as long as the result is there, the first at 0.
     ///
     /// The bytes that are lent stay as they are, even if the item is written again or deleted. It
-    /// takes no memory. `None` if the part's memory can't be lent, as in classes below the last.
+    /// takes no memory. `None` if the part's memory can't be lent, as in classes below 27.
     pub fn lend(&self, at: usize) -> Option<Lent>
         requires { at < (item_need self.now.key self.now.item).count }
         ensures { IfSome result (λ lent.

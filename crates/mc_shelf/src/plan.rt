@@ -190,6 +190,7 @@ fn standing_entry<'a>(found: Option<&'a Entry>, dead: bool) -> Option<&'a Entry>
 }
 
 /// Returns whether the item that was found is dead.
+#[inline]
 pub(crate) fn is_gone(found: Option<&Entry>, cut: Option<u64>, now: Moment) -> bool
     ensures { result ≡ is_gone cut now (item_in found.entry) }
 {

@@ -4,7 +4,7 @@
 //! `page_wanted` is a hint: a step that waits gives the desk back, allocates the pages, and takes
 //! the desk again; it decides nothing meanwhile.
 
-ghost use Rattle.std.specs.Prelude.{◌≡◌, ◌≢◌, ◌↔◌, ℕ, ◌+◌, ◌-◌, ◌%◌, ◌^◌, ◌<◌, ◌≤◌, length, min, slice_index, slice_set};
+ghost use Rattle.std.specs.Prelude.{◌≡◌, ◌↔◌, ℕ, ◌+◌, ◌-◌, ◌%◌, ◌^◌, ◌<◌, ◌≤◌, length, min, slice_index, slice_set};
 ghost use Rattle.std.specs.Prelude.{Option, Some, None, Err, IfOk, IfSome, OnErr, OnOk, is_some, nat_lt, true, false};
 ghost use Rattle.std.specs.FinMap.{empty, get, len};
 ghost use Rattle.mc_time.specs.declared.expiry.Expiry.{Expiry as Expires};

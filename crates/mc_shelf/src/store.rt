@@ -7,7 +7,7 @@
 ghost use Rattle.std.specs.Prelude.{◌≡◌, ◌↔◌, ◌-◌, ◌≤◌, min, length, replicate, slice_index, slice_set, IfOk, OnErr, Err, refl};
 ghost use Rattle.std.proofs.Common.{inl};
 ghost use Rattle.mc_protocol.specs.Commands.{key_of, longest_key};
-ghost use Rattle.mc_protocol.specs.Plain.{Plain, opening, starting, plain, Answered, Spent, MayFail};
+ghost use Rattle.mc_protocol.specs.Plain.{Plain, opening, starting, plain, Spent, MayFail};
 ghost use Rattle.mc_protocol.specs.Laws.{IsOnKey};
 ghost use Rattle.mc_shelf.specs.Parts.{ArePartsOf, shelf_of};
 ghost use Rattle.mc_shelf.specs.Stores.{

@@ -5,13 +5,13 @@
 //! the existing block under the same rule, so the existing block isn't copied.
 
 ghost use Rattle.std.specs.Prelude.{◌≡◌, ◌↔◌, ◌++◌, ℕ, ◌+◌, ◌≤◌, ◌<◌, ◌-◌, ◌^◌, List, length};
-ghost use Rattle.std.specs.Prelude.{Option, Some, None, Err, IfOk, IfErr, IfSome, OnOk, OnErr, true, false};
+ghost use Rattle.std.specs.Prelude.{Option, Some, None, Err, IfOk, IfSome, OnErr, true, false};
 ghost use Rattle.std.specs.FinMap.{get};
 ghost use Rattle.mc_slab.specs.Needs.{need_for, same_need};
-ghost use Rattle.mc_slab.specs.Slabs.{WantsPages, unused};
+ghost use Rattle.mc_slab.specs.Slabs.{unused};
 ghost use Rattle.mc_slab.specs.Chunks.{need_in};
 ghost use Rattle.mc_protocol.specs.Commands.{key_of};
-ghost use Rattle.mc_protocol.specs.Plain.{block_of, charge, write_reply};
+ghost use Rattle.mc_protocol.specs.Plain.{Entry as Item, block_of, charge, item_need, write_reply};
 ghost use Rattle.mc_shelf.specs.Counts.{KeepsTable, counts_of};
 ghost use Rattle.mc_shelf.specs.States.{CanStandAt};
 ghost use Rattle.mc_shelf.specs.Plans as plans;
@@ -39,6 +39,7 @@ ghost use Rattle.mc_shelf.specs.Plans.{
   block_beside,
   block_in,
   drafted,
+  drawn,
   has_no_number,
   is_gone,
   item_in,
@@ -61,7 +62,7 @@ use crate::shelf::Shelf;
 use itoa::Buffer;
 use mc_item::{Head, Parts};
 use mc_protocol::{Body, Draft, KeyStep, StepFault};
-use mc_slab::{Chunks, Need, Pages};
+use mc_slab::{Chunks, Need};
 use mc_time::Moment;
 use std::alloc::Global;
 
@@ -400,11 +401,11 @@ impl Shelf {
         }
         let Brought { pages, exchange } = brought;
         if 0 < back {
-            return self.give_way(alloc, write, need, back, step, desk, pages);
+            desk.ready(alloc, need, back, pages)?;
+            return Ok(self.give_way(alloc, write, need, step, desk));
         }
         let chunks = desk.take(alloc, need, pages)?;
-        let unique = desk.draw();
-        Ok(self.put(write, unique, chunks, exchange, step, desk))
+        Ok(self.put(write, chunks, exchange, step, desk))
     }
 
     /// Returns how the chunks of the key's item suit a write. It searches first where it was found
@@ -430,40 +431,31 @@ impl Shelf {
         Fit { same, reused, back }
     }
 
-    /// Replaces a dead item of the write's key whose chunks go back before the write.
+    /// Replaces a dead item of the write's key, whose chunks go back before the write takes some.
     ///
-    /// Some or all of them serve the write. Only pages that the class then wants take memory. An
-    /// error leaves the shelf and the desk unchanged.
+    /// The desk must have enough chunks then. It takes no memory.
     #[tactic(auto, using(crate::proofs::CountLemmas::table_rules))]
     fn give_way(
         &mut self,
         alloc: Global,
         write: &Write,
         need: Need,
-        back: u64,
         step: &KeyStep<'_>,
         desk: &mut Desk,
-        pages: Option<Pages>,
-    ) -> Result<Begun, StepFault>
+    ) -> Begun
         requires known { IsKnown self.old.content (key_of step.now) write.now.hash write.now.place }
-        requires gives { CanGiveWay write.now need back step.now self.old desk.old }
-        ensures told { IfOk result (λ begun.
-            write_told write.now.draft.body begun ≡ write_reply write.now.draft.body) }
-        ensures put { IfOk result (λ begun. IsPut (key_of step.now) write.now.hash self.old.content
-            (written write.now (left_of begun) step.now self.new.content)
-            (drafted write.now.draft (block_of step.now) desk.old.next_unique write.now.moment)) }
-        ensures given { OnOk result (desk.new ≡ way_given need back desk.old) }
-        ensures left { IfOk result (λ begun.
-            IfSome (left_of begun) (λ rest. CanWriteBlock write.now rest step.now self.new)) }
-        ensures fault { IfErr result (λ fault. fault ≡ StepFault.NoMemory) }
-        ensures pages { OnErr result (WantsPages desk.old.slab need back) }
+        requires gives { CanGiveWay write.now need step.now self.old desk.old }
+        ensures told { write_told write.now.draft.body result ≡ write_reply write.now.draft.body }
+        ensures put { IsPut (key_of step.now) write.now.hash self.old.content
+            (written write.now (left_of result) step.now self.new.content)
+            (drafted write.now.draft (block_of step.now) desk.old.next_unique write.now.moment) }
+        ensures given { (item : Item) → get self.old.content.items (key_of step.now) ≡ Some item →
+            desk.new ≡ way_given need (item_need (key_of step.now) item).count desk.old }
+        ensures left { IfSome (left_of result) (λ rest.
+            CanWriteBlock write.now rest step.now self.new) }
         ensures table { KeepsTable 1 (counts_of self.old) (counts_of self.new) }
-        ensures err { OnErr result
-            ((self.new.content ≡ self.old.content) × (desk.new ≡ desk.old)) }
     {
-        desk.ready(alloc, need, back, pages)?;
         self.discard(write.place, write.hash, step.key(), desk);
-        let unique = desk.draw();
         let chunks = desk.take_unused(alloc, need);
         // The key has no item now, so the write inserts a new one.
         let Write {
@@ -480,7 +472,7 @@ impl Shelf {
             charge,
             draft,
         };
-        Ok(self.put(&write, unique, chunks, None, step, desk))
+        self.put(&write, chunks, None, step, desk)
     }
 
     /// Writes a number into the chunks of the key's item. A step's own block is left to be written
@@ -562,26 +554,27 @@ impl Shelf {
     fn put(
         &mut self,
         write: &Write,
-        unique: u64,
         chunks: Chunks,
         exchange: Option<Chunks>,
         step: &KeyStep<'_>,
         desk: &mut Desk,
     ) -> Begun
         requires can { CanPut write.now step.now self.old desk.old }
+        requires number { desk.old.next_unique < 2 ^ 64 - 1 }
         requires chunks { Suits chunks (key_of step.now)
             (block_beside self.old.content step.now write.now.draft) }
         ensures told { write_told write.now.draft.body result ≡ write_reply write.now.draft.body }
         ensures put { IsPut (key_of step.now) write.now.hash self.old.content
             (written write.now (left_of result) step.now self.new.content)
             (drafted write.now.draft (block_beside self.old.content step.now write.now.draft)
-            unique write.now.moment) }
+            desk.old.next_unique write.now.moment) }
         ensures given { GivesBack (key_of step.now) (get self.old.content.items (key_of step.now))
-            desk.old desk.new }
+            (drawn desk.old) desk.new }
         ensures left { IfSome (left_of result) (λ rest.
             CanWriteBlock write.now rest step.now self.new) }
         ensures table { KeepsTable 0 (counts_of self.old) (counts_of self.new) }
     {
+        let unique = desk.draw();
         if write.leaves_block(step) {
             return Begun::Left(self.begin_put(write, unique, chunks, step, desk));
         }
@@ -591,7 +584,9 @@ impl Shelf {
                 chunks: Some(chunks),
             });
         }
-        self.put_whole(write, unique, chunks, step, desk);
+        if let Some(old) = self.put_into(write, unique, chunks, step) {
+            desk.give(old.into_chunks());
+        }
         Begun::Done
     }
 
@@ -634,30 +629,6 @@ impl Shelf {
                 unique,
                 chunks: Some(chunks),
             },
-        }
-    }
-
-    /// Puts the item of a write under its key, with its block. The old item's chunks go back.
-    fn put_whole(
-        &mut self,
-        write: &Write,
-        unique: u64,
-        chunks: Chunks,
-        step: &KeyStep<'_>,
-        desk: &mut Desk,
-    )
-        requires can { CanPut write.now step.now self.old desk.old }
-        requires chunks { Suits chunks (key_of step.now)
-            (block_beside self.old.content step.now write.now.draft) }
-        ensures put { IsPut (key_of step.now) write.now.hash self.old.content self.new.content
-            (drafted write.now.draft (block_beside self.old.content step.now write.now.draft)
-            unique write.now.moment) }
-        ensures given { GivesBack (key_of step.now) (get self.old.content.items (key_of step.now))
-            desk.old desk.new }
-        ensures table { KeepsTable 0 (counts_of self.old) (counts_of self.new) }
-    {
-        if let Some(old) = self.put_into(write, unique, chunks, step) {
-            desk.give(old.into_chunks());
         }
     }
 

@@ -13,7 +13,7 @@ invariant_of-self c =
     let count : c.count.result ≡ chunks.count = c.count.ensures.value ∙ ap (λ (n : NeedState). n.count) c.need-need.ensures.value in
     let within : chunks.count ≤ get_or out (chunks.class - 1) 0 = subst (λ (s : SlabState). chunks.count ≤ out_of s chunks.class) (sym c.self.view_is) c.requires in
     let lies = gave c.self.invariant chunks.class chunks.count c.need-need.ensures.are.is_need.is_class within c.give_all.ensures.given c.give_all.ensures.is_slab in
-    subst (λ (t : ℕ × ℕ). LieAside c.give_all.new.self (set out t.0 (get_or out t.0 0 - t.1)) c.self.inside.aside.items) (λ i. (sym place i, sym count i)) lies
+    subst (λ (t : ℕ × ℕ). LieAside c.give_all.new.self (set out t.0 (get_or out t.0 0 - t.1)) c.self.inside.aside.shelves.items) (λ i. (sym place i, sym count i)) lies
 
 pub returns-clause-is_slab : goal.returns-clause-is_slab
 returns-clause-is_slab c = seen_is_slab (invariant_of-self c)

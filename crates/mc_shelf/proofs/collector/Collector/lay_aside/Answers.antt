@@ -1,4 +1,4 @@
-use Rattle.std.proofs.Common.{◌≡◌, ℕ, sym, subst}
+use Rattle.std.proofs.Common.{◌≡◌, ℕ, sym, ap, subst, ◌∙◌}
 use Rattle.mc_shelf.proofs.Common.{IsClass, out_of, SlabState}
 use Rattle.mc_shelf.specs.Asides.{count_in}
 use Rattle.mc_shelf.proofs.AsideLemmas.{laid, seen_is_slab}
@@ -8,7 +8,7 @@ pub invariant_of-self : goal.invariant_of-self
 invariant_of-self c =
     let lies = c.make_room.ensures.collected.lie c.self.inside.out c.self.invariant in
     let all = subst (λ (s : SlabState). (class : ℕ) → IsClass class → out_of s class ≡ count_in c.args.shelves.items class) (sym c.self.view_is) c.requires in
-    laid c.args.shelves.items c.make_room.new.aside.items c.join.result.items lies all c.join.ensures
+    laid c.args.shelves.items c.make_room.new.aside.shelves.items c.of.result.shelves.items lies all (λ class. ap (λ l. count_in l class) c.of.ensures ∙ c.join.ensures class)
 
 pub returns-clause-is_slab : goal.returns-clause-is_slab
 returns-clause-is_slab c = seen_is_slab (invariant_of-self c)

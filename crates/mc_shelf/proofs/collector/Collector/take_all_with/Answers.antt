@@ -12,7 +12,7 @@ invariant_of-self c =
     let enough = subst (λ (k : ℕ). Suffices c.collect_for.new.slab need 0 (get_or out k 0)) place c.collect_for.ensures.enough in
     let lies = c.collect_for.ensures.collected.lie out c.self.invariant in
     let after = took lies need c.class.ensures.is_need.is_class enough c.in-Ok.chunks c.in-Ok.ensures in
-    subst (λ (t : ℕ × ℕ). LieAside c.take_all_with.new.self (set out t.0 (get_or out t.0 0 + t.1)) c.collect_for.new.aside.items) (λ i. (sym place i, sym c.count.ensures.value i))
+    subst (λ (t : ℕ × ℕ). LieAside c.take_all_with.new.self (set out t.0 (get_or out t.0 0 + t.1)) c.collect_for.new.aside.shelves.items) (λ i. (sym place i, sym c.count.ensures.value i))
     after.1
 
 pub returns-in-Ok : goal.returns-in-Ok

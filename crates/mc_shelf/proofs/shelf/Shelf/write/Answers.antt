@@ -1,12 +1,11 @@
-use Rattle.std.proofs.Common.{inr, ◌<◌, ◌≡◌, ◌+◌, ◌≤◌, List, ℕ, true, false, arith, rules, length, refl, sym, ap, subst, ◌∙◌}
-use Rattle.mc_shelf.proofs.Common.{block_of, charge, DeskState, get, has_room_with, IsClass, item_need, key_of, need_for, NeedState, out_of, size_in, taken}
-use Rattle.mc_shelf.proofs.Common.{WantsPages}
-use Rattle.std.proofs.lemmas.Result.{IfErr-at_err}
-use Rattle.mc_shelf.specs.Plans.{GivesBack, IsDropped, IsOut, IsPut, back_at, block_beside, drafted, is_gone, left_of, way_given, written}
-use Rattle.mc_shelf.proofs.NeedLemmas.{chunks_size, need_class}
+use Rattle.std.proofs.Common.{inr, ◌<◌, ◌≡◌, ◌-◌, ◌^◌, ◌≤◌, List, ℕ, true, false, arith, rules, length, refl, sym, ap, subst, ◌∙◌}
+use Rattle.mc_shelf.proofs.Common.{block_of, charge, DeskState, get, given, has_room_with, IsClass, item_need, key_of, need_for, NeedState, out_of, size_in, unused}
+use Rattle.mc_shelf.proofs.StandLemmas.{ready_unused}
+use Rattle.mc_shelf.specs.Plans.{GivesBack, IsDropped, IsOut, IsPut, back_at, block_beside, drafted, drawn, is_gone, left_of, readied, way_given, written}
+use Rattle.mc_shelf.proofs.NeedLemmas.{chunks_size}
 use Rattle.mc_shelf.proofs.ShelfLemmas.{known_sought, put_over}
-use Rattle.mc_shelf.proofs.TakesLemmas.{back_by, block_given, charge_beside, drafts, has_by, is_out, is_out_taken, item_over, need_beside, ok_both, own_is, reused_is, reuses_by, room_by}
-use Rattle.mc_shelf.proofs.TakesLemmas.{takes_again, takes_anew, takes_full, takes_in_place, takes_way, way_is, writes_so}
+use Rattle.mc_shelf.proofs.TakesLemmas.{back_by, block_given, charge_beside, drafts, has_by, is_out, is_out_taken, item_over, need_beside, own_is, reused_is, reuses_by, room_by}
+use Rattle.mc_shelf.proofs.TakesLemmas.{takes_again, takes_anew, takes_full, takes_in_place, takes_way, way_is, way_out, writes_so}
 use Rattle.mc_shelf.proofs.shelf.Shelf.write.Goals as goal
 
 pub need_for-need-requires : goal.need_for-need-requires
@@ -85,16 +84,18 @@ put-requires-clause-chunks c =
 pub put-requires-clause-can : goal.put-requires-clause-can
 put-requires-clause-can c =
     let desk = c.args.desk.now in
-    let drawn : c.draw-unique-2.new.self ≡ record { slab = taken desk.slab c.need_for-need.result; next_unique = desk.next_unique + 1 } =
-    c.draw-unique-2.ensures.drawn ∙ ap (λ (d : DeskState). record d { next_unique = d.next_unique + 1 }) c.in_ok-chunks.ensures.taken in
     record {
       short = c.requires.write.short;
       known = c.requires.write.known;
       room = search rules;
-      out = subst (λ (d : DeskState). IsOut (key_of c.args.step.now) c.args.self.now.content d) (sym drawn)
+      out = subst (λ (d : DeskState). IsOut (key_of c.args.step.now) c.args.self.now.content d) (sym c.in_ok-chunks.ensures.taken)
           (is_out_taken (key_of c.args.step.now) c.args.self.now.content desk c.need_for-need.result c.requires.stands
-          c.take.ensures.slab c.need_for-need.ensures.is_need.is_class (desk.next_unique + 1));
+          c.take.ensures.slab c.need_for-need.ensures.is_need.is_class desk.next_unique);
     }
+
+pub put-requires-clause-number : goal.put-requires-clause-number
+put-requires-clause-number c =
+    subst (λ (d : DeskState). d.next_unique < 2 ^ 64 - 1) (sym c.in_ok-chunks.ensures.taken) (c.is_spent.ensures.left c.if-is_spent.false)
 
 pub returns-clause-took : goal.returns-clause-took
 returns-clause-took c =
@@ -102,9 +103,16 @@ returns-clause-took c =
     let back_is = back_by w c.key.ensures (c.fit-same.ensures.back c.if-reused.false) in
     let none : c.fit-same.result.back ≡ 0 = let least = c.if-back-gt0.false in omega (arith, least) in
     takes_anew w c.need_for-need.ensures.is_need c.take.ensures.slab (c.is_spent.ensures.left c.if-is_spent.false)
-    (c.draw-unique-2.ensures.number ∙ ap (λ (d : DeskState). d.next_unique) c.in_ok-chunks.ensures.taken) c.put.ensures.put
+    (ap (λ (d : DeskState). d.next_unique) c.in_ok-chunks.ensures.taken) c.put.ensures.put
     (reuses_by w c.key.ensures c.fit-same.ensures.reused c.if-reused.false) (sym back_is ∙ none) (room_by w back_is c.has_room.ensures.value c.if-not-has_room.false)
-    c.put.ensures.told (c.draw-unique-2.ensures.drawn ∙ ap (λ (d : DeskState). record d { next_unique = d.next_unique + 1 }) c.in_ok-chunks.ensures.taken) c.put.ensures.given
+    c.put.ensures.told (ap drawn c.in_ok-chunks.ensures.taken) c.put.ensures.given
+
+pub ready-requires-clause-back : goal.ready-requires-clause-back
+ready-requires-clause-back c =
+    let w = writes_so c.args.desk.now c.requires.write c.need_for-need.ensures.value in
+    let back_is = back_by w c.key.ensures (c.fit-same.ensures.back c.if-reused.false) in
+    subst (λ (n : ℕ). n ≤ out_of c.args.desk.now.slab c.need_for-need.result.class) (sym back_is)
+    (way_out w (reuses_by w c.key.ensures c.fit-same.ensures.reused c.if-reused.false) (subst (λ (n : ℕ). 0 < n) back_is c.if-back-gt0.true) c.requires.stands)
 
 pub give_way-requires-clause-gives : goal.give_way-requires-clause-gives
 give_way-requires-clause-gives c =
@@ -116,18 +124,19 @@ give_way-requires-clause-gives c =
     let need_is = c.need_for-need.ensures.value in
     let w = writes_so desk c.requires.write need_is in
     let back_is = back_by w c.key.ensures (c.fit-same.ensures.back c.if-reused.false) in
-    let way = way_is w (reuses_by w c.key.ensures c.fit-same.ensures.reused c.if-reused.false) (subst (λ (n : ℕ). 0 < n) back_is c.if-back-gt0.true) in
-    let its_class : IsClass (item_need key way.0).class = subst IsClass (sym (way.2 ∙ ap (λ (n : NeedState). n.class) need_is)) (need_class write.charge) in
-    let out = is_out key shelf desk c.requires.stands way.0 way.1 its_class in
+    let reused = reuses_by w c.key.ensures c.fit-same.ensures.reused c.if-reused.false in
+    let some = subst (λ (n : ℕ). 0 < n) back_is c.if-back-gt0.true in
+    let way = way_is w reused some in
     let charged : charge key (block_of c.args.step.now) ≡ write.charge = ap (charge key) (block_given w way.4) ∙ charge_beside w in
     let can = room_by w back_is c.has_room.ensures.value c.if-not-has_room.false in
+    let number = c.is_spent.ensures.left c.if-is_spent.false in
+    let ready_is : c.ready.new.self ≡ readied need c.fit-same.result.back desk = c.in_ok-ready.ensures.ready in
     record {
       short = c.requires.write.short;
       item = way.0;
       there = way.1;
       class = way.2;
-      count = way.3 ∙ sym back_is;
-      out = subst (λ (n : ℕ). n ≤ out_of desk.slab need.class) (way.3 ∙ sym back_is) (subst (λ (k : ℕ). (item_need key way.0).count ≤ out_of desk.slab k) way.2 out);
+      out = subst (λ (d : DeskState). IsOut key shelf d) (sym ready_is) (is_out key shelf desk c.requires.stands);
       given = way.4;
       need_is = need_is ∙ ap need_for (sym charged);
       fits = subst (λ (n : ℕ). n ≤ size_in need) (sym charged) c.need_for-need.ensures.holds;
@@ -135,11 +144,13 @@ give_way-requires-clause-gives c =
         size = write.charge;
         draft = write.draft;
         writes_it = refl;
-        number = λ spent. let less = c.is_spent.ensures.left c.if-is_spent.false in omega (arith, less, spent);
+        number = λ spent. omega (arith, number, spent);
         chunks = subst (λ (n : NeedState). has_room_with desk.slab n (back_at shelf key write.moment n) ≡ true) need_is can;
       }) (inr way.5);
-      number = c.is_spent.ensures.left c.if-is_spent.false;
-      chunks = sym c.has_room.ensures.value ∙ c.if-not-has_room.false;
+      number = subst (λ (d : DeskState). d.next_unique < 2 ^ 64 - 1) (sym ready_is) number;
+      enough = subst (λ (t : DeskState × ℕ). need.count ≤ unused (given t.0.slab need.class t.1) need.class) (λ i. (sym ready_is i, sym (way.3 ∙ sym back_is) i))
+          (ready_unused desk.slab need c.need_for-need.ensures.is_need.is_class c.has_room.ensures.slab c.fit-same.result.back
+          (subst (λ (n : ℕ). n ≤ out_of desk.slab need.class) (sym back_is) (way_out w reused some c.requires.stands)));
     }
 
 pub returns-then-back-gt0-clause-took : goal.returns-then-back-gt0-clause-took
@@ -152,23 +163,10 @@ returns-then-back-gt0-clause-took c =
     let back_is = back_by w c.key.ensures (c.fit-same.ensures.back c.if-reused.false) in
     let reused = reuses_by w c.key.ensures c.fit-same.ensures.reused c.if-reused.false in
     let some = subst (λ (n : ℕ). 0 < n) back_is c.if-back-gt0.true in
-    ok_both _ _ _ c.give_way.result c.give_way.ensures.told c.give_way.ensures.put c.give_way.ensures.given (λ begun told put given.
-    let new = written write (left_of begun) step c.give_way.new.self.content in
-    takes_way w c.need_for-need.ensures.is_need c.has_room.ensures.slab (c.is_spent.ensures.left c.if-is_spent.false) refl
-    (subst (λ (l : List ℕ). IsPut (key_of step) write.hash c.args.self.now.content new (drafted write.draft l desk.next_unique write.moment)) (block_given w (way_is w reused some).4) put)
-    reused some (room_by w back_is c.has_room.ensures.value c.if-not-has_room.false) told (given ∙ ap (λ (n : ℕ). way_given need n desk) back_is))
-
-pub returns-then-back-gt0-clause-refused : goal.returns-then-back-gt0-clause-refused
-returns-then-back-gt0-clause-refused c told =
-    let desk = c.args.desk.now in
-    let write = c.args.write.now in
-    let need_is = c.need_for-need.ensures.value in
-    let back_is = back_by (writes_so desk c.requires.write need_is) c.key.ensures (c.fit-same.ensures.back c.if-reused.false) in
-    let wants = subst (λ (n : ℕ). WantsPages desk.slab c.need_for-need.result n) back_is (IfErr-at_err _ told c.give_way.ensures.pages) in
-    record {
-      size = write.charge;
-      draft = write.draft;
-      writes_it = refl;
-      number = λ spent. let less = c.is_spent.ensures.left c.if-is_spent.false in omega (arith, less, spent);
-      pages = subst (λ (n : NeedState). WantsPages desk.slab n (back_at c.args.self.now.content (key_of c.args.step.now) write.moment n)) need_is wants;
-    }
+    let way = way_is w reused some in
+    let ready_is : c.ready.new.self ≡ readied need c.fit-same.result.back desk = c.in_ok-ready.ensures.ready in
+    let new = written write (left_of c.give_way.result) step c.give_way.new.self.content in
+    takes_way w c.need_for-need.ensures.is_need c.has_room.ensures.slab (c.is_spent.ensures.left c.if-is_spent.false) (ap (λ (d : DeskState). d.next_unique) ready_is)
+    (subst (λ (l : List ℕ). IsPut (key_of step) write.hash c.args.self.now.content new (drafted write.draft l c.ready.new.self.next_unique write.moment)) (block_given w way.4) c.give_way.ensures.put)
+    reused some (room_by w back_is c.has_room.ensures.value c.if-not-has_room.false) c.give_way.ensures.told
+    (c.give_way.ensures.given way.0 way.1 ∙ (λ i. way_given need (way.3 i) ((ready_is ∙ ap (λ (n : ℕ). readied need n desk) back_is) i)))
