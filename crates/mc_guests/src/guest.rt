@@ -3,7 +3,7 @@
 //! A visit that reads the end of the stream answers `Served` in that visit; a visit of an ended
 //! guest changes nothing, so `visit` has no premise. A guest reads 2048 bytes at first and 16384
 //! once a read filled that, so an idle connection holds little.
-ghost use Rattle.std.specs.Prelude.{◌≡◌, ◌↔◌, ◌⊎◌, ◌<◌, ◌≤◌, ℕ, List, length, option_copied, IfOk, IfSome, Some, None, [], IsTrue, IsFalse};
+ghost use Rattle.std.specs.Prelude.{◌≡◌, ◌↔◌, ◌<◌, ◌≤◌, ℕ, List, length, option_copied, IfOk, IfSome, Some, None, [], IsTrue, IsFalse};
 ghost use Rattle.mc_protocol.specs.Commands.{longest_key};
 ghost use Rattle.mc_session.specs.Resting.{resting};
 ghost use Rattle.mc_guests.specs.Guests.{welcomed, has_ended, ends, IsWaiting};
@@ -129,6 +129,7 @@ impl<L: Link + Drop> Guest<L> {
     /// Frees memory beyond two first pieces, if there are no unread bytes and no output.
     ///
     /// Returns the number of bytes reserved for it afterwards.
+    #[inline(never)]
     pub fn rest(&mut self) -> usize
         ensures same { self.new ≡ self.old }
         ensures empty { self.new.session.unread.bytes ≡ [] → self.new.session.out ≡ [] →
@@ -164,6 +165,7 @@ impl<L: Link + Drop> Guest<L> {
     }
 
     /// Returns whether all output was written.
+    #[inline]
     fn is_written(&self) -> bool
         ensures { IsTrue result ↔ (self.now.session.out ≡ []) }
     {
@@ -171,6 +173,7 @@ impl<L: Link + Drop> Guest<L> {
     }
 
     /// Lends the output if it lies in one part of memory.
+    #[inline]
     fn lone_out(&self) -> Option<&[u8]>
         ensures { IfSome result (λ out. out.now ≡ self.now.session.out) }
     {
@@ -183,6 +186,7 @@ impl<L: Link + Drop> Guest<L> {
     }
 
     /// Returns whether its output was written, and a request came whole or it is closed.
+    #[inline(never)]
     pub(crate) fn is_turn_due(&self) -> bool {
         self.is_written() && !self.session.is_idle()
     }

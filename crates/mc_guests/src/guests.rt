@@ -6,9 +6,9 @@
 ghost use Rattle.std.specs.Prelude.{◌≡◌, ◌↔◌, ◌<◌, ◌≤◌, ◌&&◌, not, length, slice_get, false, Some, None, IfSome, IsTrue, IsFalse};
 ghost use Rattle.mc_guests.specs.Asks.{MakesRound};
 ghost use Rattle.mc_guests.specs.Budgets.{is_retry_due, to_judge};
-ghost use Rattle.mc_guests.specs.Guests.{welcomed, has_ended, is_later, is_to_sleep, is_left_out};
+ghost use Rattle.mc_guests.specs.Guests.{welcomed, has_ended, is_later, is_left_out};
 ghost use Rattle.mc_guests.specs.Books.{no_books, quiet, woken, put_behind, let_in, counted};
-ghost use Rattle.mc_guests.specs.Books.{SleepsAt, StandsAt, IsFateOf, is_over, is_asleep, is_to_queue};
+ghost use Rattle.mc_guests.specs.Books.{SleepsAt, IsFateOf, is_over, is_asleep, is_to_queue};
 ghost use Rattle.mc_guests.specs.Books.{Wakes, LinesUp, LetsGo, Settles, SettlesFrom};
 ghost use Rattle.mc_guests.specs.Books.{at_ticks, took_judging};
 ghost use Rattle.mc_guests.specs.Judging.{Judges};
@@ -222,6 +222,7 @@ impl<L: Link + Drop> Guests<L> {
     }
 
     /// Wakes waiting guests that find room: first in turn, then all others, and then strays.
+    #[inline(never)]
     fn let_on_all(&mut self)
         ensures { LetsOnAll self.old self.new }
     {

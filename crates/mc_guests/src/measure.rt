@@ -83,6 +83,7 @@ pub trait Naming {
 /// delivers none.
 ///
 /// The store is asked once at most, for the key that is lent.
+#[inline(never)]
 pub fn next_length<N: Naming, S: Reports>(
     alloc: Global,
     store: &mut S,

@@ -5,9 +5,8 @@
 //! whole when it is admitted, so an admitted guest never stops half way. Waiting guests are retried
 //! after memory came back, the oldest and the newest in turn: with the oldest only, a thousand
 //! half-sent blocks delayed everyone else for minutes.
-ghost use Rattle.std.specs.Prelude.{◌≡◌, ◌<◌, ◌≤◌, length, not, true, false, is_none, IfSome, None};
+ghost use Rattle.std.specs.Prelude.{◌≡◌, ◌<◌, not, true, false, is_none, IfSome, None};
 ghost use Rattle.std.specs.Prelude.{IsTrue, IsFalse};
-ghost use Rattle.mc_protocol.specs.Commands.{longest_key};
 ghost use Rattle.mc_guests.specs.Asks.{AsksAndVisits, IsKeptWaiting, StaysOrLosesLink};
 ghost use Rattle.mc_guests.specs.Asks.{little, MayAsk, NamesKey};
 ghost use Rattle.mc_guests.specs.Budgets.{uncounted, counted_too, IsHeldBack, Recounts};
@@ -331,6 +330,7 @@ impl<L: Link + Drop> Weighed<L> {
     }
 
     /// Returns the bytes of a request, with unsent output if memory is tight and a turn is due.
+    #[inline]
     fn with_unsent(&self, asked: usize, budget: &Budget) -> usize {
         if budget.is_tight() && self.guest.is_turn_due() {
             asked.saturating_add(self.guest.unsent_bytes())

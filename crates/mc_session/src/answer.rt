@@ -8,7 +8,7 @@ ghost use Rattle.mc_parse.specs.Peeks.{unit_of};
 ghost use Rattle.mc_session.specs.Answers.{next_of, Tells, TakesFirst, DecidesFound};
 ghost use Rattle.mc_parse.specs.Streams.{is_quit};
 ghost use Rattle.mc_session.specs.Turns.{Answers, turn_count};
-ghost use Rattle.mc_reply.specs.Texts.{fault_text, long_text};
+ghost use Rattle.mc_reply.specs.Texts.{fault_text, long_text, plain_text, spent_text};
 
 use crate::after_turn::AfterTurn;
 use crate::output::Outgoing;
@@ -26,36 +26,37 @@ use std::alloc::Global;
 /// whether the store took the step.
 pub fn answer<S: Steps, O: Outgoing>(
     alloc: Global,
-    found: Peek<'_>,
+    found: &Peek<'_>,
     store: &mut S,
     now: Moment,
     out: &mut O,
 ) -> Result<Option<AfterTurn>, TurnFault>
-    requires { (command : Command) (len : ℕ) → unit_of found ≡ Some (Request command, len) →
+    requires { (command : Command) (len : ℕ) → unit_of found.now ≡ Some (Request command, len) →
         HasShortKeys command }
-    ensures none { result ≡ Ok None → (unit_of found.entry ≡ None) × (out.new ≡ out.old)
+    ensures none { result ≡ Ok None → (unit_of found.now ≡ None) × (out.new ≡ out.old)
         × (store.new ≡ store.old) }
     ensures some { IfOk result (λ told. IfSome told
-        (λ next. Tells S.Steps now (unit_of found.entry) next store.old store.new (O.bytes out.old)
+        (λ next. Tells S.Steps now (unit_of found.now) next store.old store.new (O.bytes out.old)
         (O.bytes out.new))) }
     ensures err { OnErr result (out.new ≡ out.old) }
     ensures undecided { IfErr result (λ fault. IsFalse fault.decided →
         S.same store.old store.new) }
-    ensures due { OnErr result (unit_of found.entry ≡ None → ⊥) }
+    ensures due { OnErr result (unit_of found.now ≡ None → ⊥) }
     ensures decided { IfErr result (λ fault. IsTrue fault.decided →
-        DecidesFound S.Steps now (unit_of found.entry) store.old store.new) }
+        DecidesFound S.Steps now (unit_of found.now) store.old store.new) }
 {
     match found {
         Peek::More => Ok(None),
         Peek::TooLong => Ok(Some(answer_too_long(out)?)),
-        Peek::Bad(fault, len) => Ok(Some(answer_fault(fault, len, out)?)),
+        Peek::Bad(fault, len) => Ok(Some(answer_fault(*fault, *len, out)?)),
         Peek::Whole(command, len) => {
-            Ok(Some(answer_command(alloc, &command, len, store, now, out)?))
+            Ok(Some(answer_command(alloc, command, *len, store, now, out)?))
         }
     }
 }
 
 /// Appends the text of a line that is too long.
+#[inline(never)]
 fn answer_too_long<O: Outgoing>(out: &mut O) -> Result<AfterTurn, TurnFault>
     ensures ok { IfOk result (λ next. (next ≡ next_of LongLine 0 65537)
         × (O.bytes out.new ≡ O.bytes out.old ++ long_text)) }
@@ -67,6 +68,7 @@ fn answer_too_long<O: Outgoing>(out: &mut O) -> Result<AfterTurn, TurnFault>
 }
 
 /// Appends the text of a line's fault.
+#[inline(never)]
 fn answer_fault<O: Outgoing>(
     fault: LineFault,
     len: usize,
@@ -104,11 +106,22 @@ fn answer_command<S: Steps, O: Outgoing>(
         TakesFirst S.Steps now command.now store.old store.new) }
 {
     if steps_of(command) == 0 {
-        out.append(&Text::Plain(command))?;
+        answer_plainly(command, out)?;
         return Ok(next_after(command, len));
     }
     answer_step(alloc, command, store, now, out)?;
     Ok(next_after(command, len))
+}
+
+/// Appends the text of a command that takes no step.
+#[inline(never)]
+fn answer_plainly<O: Outgoing>(command: &Command<'_>, out: &mut O) -> Result<(), TurnFault>
+    requires { length (steps command.now) ≡ 0 }
+    ensures ok { OnOk result (O.bytes out.new ≡ O.bytes out.old ++ plain_text command.now) }
+    ensures err { OnErr result (out.new ≡ out.old) }
+    ensures undecided { IfErr result (λ fault. IsFalse fault.decided) }
+{
+    Ok(out.append(&Text::Plain(command))?)
 }
 
 /// Returns what comes after the first turn of a command of `len` bytes.
@@ -154,17 +167,27 @@ fn answer_step<S: Steps, O: Outgoing>(
     ensures decided { IfErr result (λ fault. IsTrue fault.decided →
         TakesFirst S.Steps now command.now store.old store.new) }
 {
-    let step = step_at(command, 0);
     let asked = Asked { command };
     let mut teller = Teller {
         alloc,
         asked: &asked,
         out,
     };
-    match store.step_telling(alloc, &step, now, &mut teller) {
+    match store.step_telling(alloc, &step_at(command, 0), now, &mut teller) {
         Ok(()) => Ok(()),
-        Err(Unanswered::NumbersSpent) => Ok(out.append(&Text::Spent(command))?),
+        Err(Unanswered::NumbersSpent) => answer_spent(command, out),
         Err(Unanswered::NoMemory) => Err(TurnFault { decided: false }),
         Err(Unanswered::Untold) => Err(TurnFault { decided: true }),
     }
+}
+
+/// Appends the text of a command whose step was refused, as no number is left for an item.
+#[inline(never)]
+fn answer_spent<O: Outgoing>(command: &Command<'_>, out: &mut O) -> Result<(), TurnFault>
+    requires { 0 < length (steps command.now) }
+    ensures ok { OnOk result (O.bytes out.new ≡ O.bytes out.old ++ spent_text command.now) }
+    ensures err { OnErr result (out.new ≡ out.old) }
+    ensures undecided { IfErr result (λ fault. IsFalse fault.decided) }
+{
+    Ok(out.append(&Text::Spent(command))?)
 }

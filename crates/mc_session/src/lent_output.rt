@@ -76,6 +76,7 @@ impl Outgoing for LentOutput {
         }
     }
 
+    #[inline]
     fn is(&self, text: &[u8]) -> bool {
         match &self.behind {
             None => self.head.as_slice() == text,
@@ -92,7 +93,7 @@ impl Outgoing for LentOutput {
     fn append_sized<T: Append>(&mut self, text: &T, largest: usize) -> Result<(), AllocError> {
         match &mut self.behind {
             None => self.head.append_sized(text, largest),
-            Some(behind) => behind.tail.append_sized(text, largest),
+            Some(behind) => append_behind(behind, text, largest),
         }
     }
 
@@ -120,24 +121,22 @@ impl Outgoing for LentOutput {
 
     #[inline]
     fn consume(&mut self, n: usize) {
-        consume_front(&mut self.head, &mut self.behind, n);
+        match &self.behind {
+            None => self.head.consume(n),
+            Some(_) => consume_front(&mut self.head, &mut self.behind, n),
+        }
     }
 
+    #[inline]
     fn filled_bytes(&self) -> usize {
         match &self.behind {
             None => self.head.filled_bytes(),
-            Some(behind) => {
-                let texts = self.head.filled_bytes();
-                count_of(
-                    &self.head,
-                    behind,
-                    texts.saturating_add(behind.tail.filled_bytes()),
-                )
-            }
+            Some(behind) => filled_bytes_of(&self.head, behind),
         }
     }
 
     /// Returns the number of reserved bytes. A part that is lent counts by the memory that it keeps.
+    #[inline]
     fn capacity(&self) -> usize {
         match &self.behind {
             None => self.head.capacity(),
@@ -145,6 +144,7 @@ impl Outgoing for LentOutput {
         }
     }
 
+    #[inline]
     fn rest(&mut self) -> usize {
         match &self.behind {
             None => self.head.rest(),
@@ -227,6 +227,18 @@ fn count_of(head: &Queue<131072>, behind: &Behind, texts: usize) -> usize
         .max(len_of(head, behind))
 }
 
+/// Returns how many bytes of texts and of what comes behind them are in memory.
+#[inline(never)]
+fn filled_bytes_of(head: &Queue<131072>, behind: &Behind) -> usize
+    requires { length head.now.bytes ≤ 2 ^ 62 }
+    ensures { length (head.now.bytes ++ (behind.now.parts ++ behind.now.tail.bytes)) ≤ result }
+{
+    let texts = head
+        .filled_bytes()
+        .saturating_add(behind.tail.filled_bytes());
+    count_of(head, behind, texts)
+}
+
 /// Returns the number of bytes reserved for texts and for what comes behind them.
 #[inline(never)]
 fn capacity_of(head: &Queue<131072>, behind: &Behind) -> usize
@@ -235,6 +247,17 @@ fn capacity_of(head: &Queue<131072>, behind: &Behind) -> usize
 {
     let texts = head.capacity().saturating_add(behind.tail.capacity());
     count_of(head, behind, texts)
+}
+
+/// Appends a text behind parts that are lent. An error leaves the bytes unchanged.
+#[inline(never)]
+fn append_behind<T: Append>(behind: &mut Behind, text: &T, largest: usize) -> Result<(), AllocError>
+    requires { T.can_append text.now }
+    ensures same { behind.new.parts ≡ behind.old.parts }
+    ensures ok { OnOk result (behind.new.tail.bytes ≡ behind.old.tail.bytes ++ T.bytes text.now) }
+    ensures err { OnErr result (behind.new.tail.bytes ≡ behind.old.tail.bytes) }
+{
+    behind.tail.append_sized(text, largest)
 }
 
 /// Appends a text in front of parts that are lent. An error leaves the bytes unchanged.
@@ -256,6 +279,7 @@ fn append_within<T: Append>(head: &mut Queue<131072>, text: &T) -> Result<(), Al
 }
 
 /// Drops the first `n` bytes of an output, and gives the parts back that are written.
+#[inline(never)]
 fn consume_front(head: &mut Queue<131072>, behind: &mut Option<Box<Behind>>, n: usize)
     requires arranged { IsArranged head.old.bytes behind.old }
     requires within { n ≤ length (head.old.bytes ++ behind_bytes behind.old) }

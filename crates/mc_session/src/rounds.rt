@@ -1,6 +1,6 @@
 //! The loop that serves an endpoint: turns, and the writes and reads that they require.
 
-ghost use Rattle.std.specs.Prelude.{◌≡◌, ◌≢◌, ◌<◌, ◌^◌, [], true, Ok, Err, OnOk, OnErr, IfOk, IfErr, IsFalse, length};
+ghost use Rattle.std.specs.Prelude.{◌≡◌, ◌≢◌, ◌<◌, ◌^◌, [], true, Ok, Err, OnOk, IfOk, IfErr, IsFalse, length};
 ghost use Rattle.std.specs.Io.KnownBytes.{IsAtEnd};
 ghost use Rattle.mc_session.specs.Exchanges.{longest_piece, most_waiting};
 ghost use Rattle.mc_session.specs.Exchanges.{scene, Wrote, Exchanges, FallsShort, HasEnded};

@@ -171,14 +171,45 @@ impl<O: Outgoing + Drop> SessionOf<O> {
         ensures decided { IfErr result (λ fault. IsTrue fault.decided →
             DecidesStep S.Steps now self.old store.old store.new) }
     {
+        if self.is_open && self.has_nothing_unread() {
+            return Ok(Turn::Idle);
+        }
+        self.take_turn(alloc, store, now)
+    }
+
+    /// Takes the next turn as `turn` does.
+    #[inline]
+    fn take_turn<S: Steps>(
+        &mut self,
+        alloc: Global,
+        store: &mut S,
+        now: Moment,
+    ) -> Result<Turn, TurnFault>
+        ensures did { result ≡ Ok Turn.Did →
+            TakesTurn S.Steps now self.old self.new store.old store.new }
+        ensures idle { result ≡ Ok Turn.Idle → FindsNoTurn self.old self.new store.old store.new }
+        ensures closed { result ≡ Ok Turn.Closed →
+            FindsClosed self.old self.new store.old store.new }
+        ensures err { OnErr result (self.new ≡ closed self.old) }
+        // Memory is refused only if a turn is due.
+        ensures due { OnErr result (TurnIsDue self.old) }
+        // If the step wasn't decided the store holds the same; if it was, the store took the turn's
+        // step, and only its text is missing.
+        ensures undecided { IfErr result (λ fault. IsFalse fault.decided →
+            S.same store.old store.new) }
+        ensures decided { IfErr result (λ fault. IsTrue fault.decided →
+            DecidesStep S.Steps now self.old store.old store.new) }
+    {
         if !self.is_open {
             return Ok(Turn::Closed);
         }
-        if self.has_nothing_unread() {
-            return Ok(Turn::Idle);
-        }
-        let found = self.feed.peek_after(self.taken);
-        match answer(alloc, found, store, now, &mut self.out) {
+        match answer(
+            alloc,
+            &self.feed.peek_after(self.taken),
+            store,
+            now,
+            &mut self.out,
+        ) {
             Ok(None) => Ok(Turn::Idle),
             Ok(Some(next)) => {
                 self.go_on(next);
@@ -218,6 +249,7 @@ impl<O: Outgoing + Drop> SessionOf<O> {
     }
 
     /// Returns whether the session is open and no turn is due until more bytes are brought.
+    #[inline(never)]
     pub fn is_idle(&self) -> bool
         ensures { IsTrue result ↔ (IsTrue self.now.is_open × NoTurnDue self.now) }
     {
@@ -330,6 +362,7 @@ impl<O: Outgoing + Drop> SessionOf<O> {
     }
 
     /// Closes the session and drops the unread bytes. The output is kept.
+    #[inline(never)]
     pub fn close(&mut self)
         ensures { self.new ≡ closed self.old }
     {

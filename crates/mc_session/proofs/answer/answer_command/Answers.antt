@@ -15,7 +15,7 @@ returns-then-steps_of-eq0-clause-ok g c = record {
   };
   next_is = c.next_after.ensures.next;
   few = c.next_after.ensures.few;
-  told = c.in_ok-append.ensures.ok;
+  told = c.in_ok-answer_plainly.ensures.ok;
 }
 
 pub returns-clause-ok : goal.returns-clause-ok
