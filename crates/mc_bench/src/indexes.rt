@@ -1,5 +1,4 @@
 //! Items in chunks, in the indexes of as many shelves as a store has.
-ghost use Rattle.std.specs.Prelude.{◌≡◌};
 
 use crate::finds::{Search, fnv};
 use mc_grow::Index;

@@ -13,11 +13,22 @@ use std::sync::Wait;
 use std::thread;
 use std::thread::Threads;
 
-/// What callers draw their calls from, and how many each makes.
+/// What a caller draws its calls from, how many it makes, and its number.
 #[derive(Clone, Copy)]
 struct Script {
     seed: u64,
     calls: u32,
+    number: u64,
+}
+
+/// The lines of a caller's calls.
+#[derive(Drop)]
+struct Lines {
+    text: String,
+    /// The caller's number.
+    caller: u64,
+    /// The number of the next call.
+    call: u64,
 }
 
 /// Runs four callers, each in a thread of its own, and returns their records, each in its order.
@@ -31,7 +42,15 @@ pub fn tell_calls<R: Threads + Wait + Sync>(
     seed: u64,
     calls: u32,
 ) -> Result<Vec<String>, AllocError> {
-    let script = Script { seed, calls };
+    let script = Script {
+        seed,
+        calls,
+        number: 0,
+    };
+    let others = Script {
+        number: 2,
+        ..script
+    };
     let settings = Settings {
         pages: 64,
         greatest: 1_048_576,
@@ -46,11 +65,11 @@ pub fn tell_calls<R: Threads + Wait + Sync>(
         || -> Result<(Caller, String), AllocError>
             requires { (me.table ≡ shared.table) × (second.table ≡ shared.table) }
             ensures { IfOk result (λ r. r.0.table ≡ shared.table) }
-        { pair(rt, alloc, &shared, me, second, script, 0) },
+        { pair(rt, alloc, &shared, me, second, script) },
         || -> Result<(Caller, String), AllocError>
             requires { (third.table ≡ shared.table) × (fourth.table ≡ shared.table) }
             ensures { IfOk result (λ r. r.0.table ≡ shared.table) }
-        { pair(rt, alloc, &shared, third, fourth, script, 2) },
+        { pair(rt, alloc, &shared, third, fourth, others) },
     );
     let (mut me, first_told) = one?;
     let (third, second_told) = other?;
@@ -60,7 +79,7 @@ pub fn tell_calls<R: Threads + Wait + Sync>(
     Ok(vec![in alloc; begun, first_told, second_told, last_told]?)
 }
 
-/// Runs two callers, the first with this number, and joins them.
+/// Runs two callers and joins them. The first has the script's number, and the other the next.
 fn pair<R: Threads + Wait + Sync>(
     rt: &R,
     alloc: Global,
@@ -68,28 +87,32 @@ fn pair<R: Threads + Wait + Sync>(
     first: Caller,
     second: Caller,
     script: Script,
-    number: u64,
 ) -> Result<(Caller, String), AllocError>
     requires first { first.table ≡ shared.now.table }
     requires second { second.table ≡ shared.now.table }
     ensures { IfOk result (λ r. r.0.table ≡ shared.now.table) }
 {
+    let number = script.number;
+    let next = Script {
+        number: number | 1,
+        ..script
+    };
     let (one, other) = thread::join(
         rt,
         || -> Result<(Caller, String), AllocError>
             requires { first.table ≡ shared.now.table }
             ensures { IfOk result (λ r. r.0.table ≡ shared.entry.now.table) }
-        { calls(rt, alloc, shared, first, script, number) },
+        { calls(rt, alloc, shared, first, script) },
         || -> Result<(Caller, String), AllocError>
             requires { second.table ≡ shared.now.table }
             ensures { IfOk result (λ r. r.0.table ≡ shared.entry.now.table) }
-        { calls(rt, alloc, shared, second, script, number | 1) },
+        { calls(rt, alloc, shared, second, next) },
     );
     let (mut first, mut told) = one?;
     let (second, second_told) = other?;
     shared.join(&mut first, second);
     told.push_str(second_told.as_str())?;
-    let (after, other) = (u64::from(script.calls) + 3, number | 1);
+    let (after, other) = (u64::from(script.calls) + 3, next.number);
     writeln!(told, "{number} {after} joined {other}")?;
     Ok((first, told))
 }
@@ -101,15 +124,19 @@ fn calls<R: Wait>(
     shared: &Shared<Fnv>,
     caller: Caller,
     script: Script,
-    number: u64,
 ) -> Result<(Caller, String), AllocError>
     requires { caller.table ≡ shared.now.table }
     ensures { IfOk result (λ r. r.0.table ≡ shared.now.table) }
 {
     let mut caller = caller;
+    let number = script.number;
     let mut dice = Dice::new(script.seed.wrapping_mul(4).wrapping_add(number));
     let mut seen = [0; KEYS];
-    let mut told = String::new(alloc);
+    let mut lines = Lines {
+        text: String::new(alloc),
+        caller: number,
+        call: 3,
+    };
     for turn in 0..u64::from(script.calls) {
         let call = match draw_call(
             alloc,
@@ -120,24 +147,16 @@ fn calls<R: Wait>(
             Ok(call) => call,
             Err(fault) => return Err(fault),
         };
-        match told_call(
-            rt,
-            alloc,
-            shared,
-            &mut caller,
-            &call,
-            &mut told,
-            (number, turn + 3),
-        ) {
+        match told_call(rt, alloc, shared, &mut caller, &call, &mut lines) {
             Ok(0) => {}
             Ok(unique) => seen[call.key] = unique,
             Err(fault) => return Err(fault),
         }
     }
-    Ok((caller, told))
+    Ok((caller, lines.text))
 }
 
-/// Makes one call, and writes its line with the caller's and the call's numbers.
+/// Makes one call, and appends its line with the caller's and the call's numbers.
 ///
 /// Returns the unique number of a hit, or 0.
 fn told_call<R: Wait>(
@@ -146,13 +165,14 @@ fn told_call<R: Wait>(
     shared: &Shared<Fnv>,
     caller: &mut Caller,
     call: &Call,
-    told: &mut String,
-    place: (u64, u64),
+    lines: &mut Lines,
 ) -> Result<u64, AllocError>
     requires { caller.old.table ≡ shared.now.table }
     ensures { caller.new.table ≡ caller.old.table }
 {
     let now = Moment::from_seconds_at_most(1000);
+    let number = lines.call;
+    lines.call = number.saturating_add(1);
     let Some(step) = call.step() else {
         let shelf = shared.shelf_of(call.key().as_bytes());
         shared.tidy(rt, caller, shelf, now);
@@ -163,12 +183,12 @@ fn told_call<R: Wait>(
         Err(_) => return Err(AllocError),
     };
     if call.has_line() {
-        let (number, turn) = place;
-        write!(told, "{number} {turn} ")?;
-        call.tell(told)?;
-        write!(told, " ")?;
-        tell_reply(told, &reply)?;
-        writeln!(told)?;
+        let caller = lines.caller;
+        write!(lines.text, "{caller} {number} ")?;
+        call.tell(&mut lines.text)?;
+        write!(lines.text, " ")?;
+        tell_reply(&mut lines.text, &reply)?;
+        writeln!(lines.text)?;
     }
     Ok(match reply {
         Reply::Hit { unique, .. } => unique,
@@ -188,13 +208,16 @@ fn last<R: Wait>(
 {
     let mut caller = caller;
     let after = u64::from(script.calls) + 4;
-    let mut told = format!(in alloc; "0 {after} joined 2\n")?;
+    let mut lines = Lines {
+        text: format!(in alloc; "0 {after} joined 2\n")?,
+        caller: 0,
+        call: after + 1,
+    };
     for key in 0..KEYS {
         let call = Call::get(alloc, key);
-        let place = (0, after + 1 + key as u64);
-        if let Err(fault) = told_call(rt, alloc, shared, &mut caller, &call, &mut told, place) {
+        if let Err(fault) = told_call(rt, alloc, shared, &mut caller, &call, &mut lines) {
             return Err(fault);
         }
     }
-    Ok(told)
+    Ok(lines.text)
 }

@@ -17,12 +17,13 @@ use std::thread::Threads;
 /// The number of keys to draw from.
 const DRAWN: u64 = 4096;
 
-/// The work of each thread.
+/// The work of a thread, and its number.
 #[derive(Clone, Copy)]
 struct Load {
     over: Over,
     mix: Mix,
     rounds: u64,
+    number: u8,
 }
 
 /// Takes the steps, and returns how many had the expected reply.
@@ -38,10 +39,15 @@ pub fn count_answered<R: Threads + Wait + Sync>(
         rounds,
         settings,
     } = threaded;
-    let load = Load { over, mix, rounds };
+    let load = Load {
+        over,
+        mix,
+        rounds,
+        number: 0,
+    };
     let mut store = fill_store(alloc, over, settings)?;
     match over {
-        Over::Store => Ok(work(&mut store, alloc, load, 0)),
+        Over::Store => Ok(work(&mut store, alloc, load)),
         _ => {
             let (shared, me) = Shared::over(alloc, store)?;
             Ok(shared_by(rt, alloc, &shared, me, crew, load))
@@ -77,8 +83,9 @@ fn set_key(store: &mut Store<Fnv>, alloc: Global, over: Over, thread: u8) {
         over,
         mix: Mix::Sets,
         rounds: 1,
+        number: thread,
     };
-    let _ = work(store, alloc, load, thread);
+    let _ = work(store, alloc, load);
 }
 
 /// Runs this many threads.
@@ -94,30 +101,31 @@ fn shared_by<R: Threads + Wait + Sync>(
 {
     let mut me = me;
     match crew {
-        Crew::One => asks(rt, alloc, shared, me, load, 0),
+        Crew::One => asks(rt, alloc, shared, me, load),
         Crew::Two => {
             let second = shared.caller(&mut me);
-            pair(rt, alloc, shared, me, second, load, 0)
+            pair(rt, alloc, shared, me, second, load)
         }
         Crew::Four => {
             let second = shared.caller(&mut me);
             let third = shared.caller(&mut me);
             let fourth = shared.caller(&mut me);
+            let others = Load { number: 2, ..load };
             let (one, other) = thread::join(
                 rt,
                 || -> u64
                     requires { (me.table ≡ shared.now.table) × (second.table ≡ shared.now.table) }
-                { pair(rt, alloc, shared, me, second, load, 0) },
+                { pair(rt, alloc, shared, me, second, load) },
                 || -> u64
                     requires { (third.table ≡ shared.now.table) × (fourth.table ≡ shared.now.table) }
-                { pair(rt, alloc, shared, third, fourth, load, 2) },
+                { pair(rt, alloc, shared, third, fourth, others) },
             );
             one.saturating_add(other)
         }
     }
 }
 
-/// Runs two threads, the first with this number.
+/// Runs two threads. The first has the number of the load, and the other the next.
 fn pair<R: Threads + Wait + Sync>(
     rt: &R,
     alloc: Global,
@@ -125,36 +133,32 @@ fn pair<R: Threads + Wait + Sync>(
     first: Caller,
     second: Caller,
     load: Load,
-    number: u8,
 ) -> u64
     requires first { first.table ≡ shared.now.table }
     requires second { second.table ≡ shared.now.table }
 {
+    let next = Load {
+        number: load.number | 1,
+        ..load
+    };
     let (one, other) = thread::join(
         rt,
         || -> u64
             requires { first.table ≡ shared.now.table }
-        { asks(rt, alloc, shared, first, load, number) },
+        { asks(rt, alloc, shared, first, load) },
         || -> u64
             requires { second.table ≡ shared.now.table }
-        { asks(rt, alloc, shared, second, load, number | 1) },
+        { asks(rt, alloc, shared, second, next) },
     );
     one.saturating_add(other)
 }
 
 /// Takes one thread's steps on the shared store.
-fn asks<R: Wait>(
-    rt: &R,
-    alloc: Global,
-    shared: &Shared<Fnv>,
-    caller: Caller,
-    load: Load,
-    number: u8,
-) -> u64
+fn asks<R: Wait>(rt: &R, alloc: Global, shared: &Shared<Fnv>, caller: Caller, load: Load) -> u64
     requires { caller.table ≡ shared.now.table }
 {
     let mut asking = Asking::new(rt, shared, caller, &NoGate);
-    work(&mut asking, alloc, load, number)
+    work(&mut asking, alloc, load)
 }
 
 /// What one step does: to a key that is there, or to a fresh one, which is no thread's key.
@@ -167,20 +171,20 @@ enum Act {
     DeleteFresh,
 }
 
-/// Takes the steps of the thread of this number, and returns how many had the expected reply.
-fn work<S: Steps>(store: &mut S, alloc: Global, load: Load, number: u8) -> u64 {
+/// Takes the steps of a thread, and returns how many had the expected reply.
+fn work<S: Steps>(store: &mut S, alloc: Global, load: Load) -> u64 {
     match load.over {
-        Over::Drawn => work_with_drawn(store, alloc, load, number),
-        _ => work_with_own(store, alloc, load, number),
+        Over::Drawn => work_with_drawn(store, alloc, load),
+        _ => work_with_own(store, alloc, load),
     }
 }
 
 /// The same, each step on a random key.
-fn work_with_drawn<S: Steps>(store: &mut S, alloc: Global, load: Load, number: u8) -> u64 {
+fn work_with_drawn<S: Steps>(store: &mut S, alloc: Global, load: Load) -> u64 {
     let now = Moment::from_seconds_at_most(1000);
     let block = [b'x'; 100];
-    let fresh = fresh_key(load.over, number);
-    let mut dice = Dice::new(u64::from(number) + 1);
+    let fresh = fresh_key(load.over, load.number);
+    let mut dice = Dice::new(u64::from(load.number) + 1);
     let mut answered: u64 = 0;
     for round in 0..load.rounds {
         let act = act_of(load.mix, round);
@@ -193,11 +197,11 @@ fn work_with_drawn<S: Steps>(store: &mut S, alloc: Global, load: Load, number: u
 }
 
 /// The same, each step on the thread's own key.
-fn work_with_own<S: Steps>(store: &mut S, alloc: Global, load: Load, number: u8) -> u64 {
+fn work_with_own<S: Steps>(store: &mut S, alloc: Global, load: Load) -> u64 {
     let now = Moment::from_seconds_at_most(1000);
     let block = [b'x'; 100];
-    let key = key_of(load.over, number);
-    let fresh = fresh_key(load.over, number);
+    let key = key_of(load.over, load.number);
+    let fresh = fresh_key(load.over, load.number);
     let mut answered: u64 = 0;
     for round in 0..load.rounds {
         let act = act_of(load.mix, round);
