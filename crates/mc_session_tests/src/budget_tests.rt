@@ -195,7 +195,7 @@ struct Room {
 }
 
 /// There is room up to `LITTLE`, and always for the only guest that wants more.
-const ROOMS: [Room; 10] = [
+static ROOMS: [Room; 10] = [
     Room {
         others: &[],
         wanted: OF_16384,
@@ -400,7 +400,7 @@ fn waits_beside<'a>(
 }
 
 /// It is counted for none, also when it has left.
-const IDLE: [(usize, bool, usize); 3] = [
+static IDLE: [(usize, bool, usize); 3] = [
     (1_000_000, false, 0),
     (999_999, false, 1),
     (1_000_000, true, 0),

@@ -80,26 +80,32 @@ struct Course {
 /// Admits a crowd, as much as may be, before two rounds.
 fn course_of(alloc: Global, waiting: u64) -> Course {
     let mut crowd = Crowd { waiting, rests: 0 };
-    let mut door = Door::new(1048576);
     let mut guests = Guests::new(alloc, Budget::new(usize::MAX, 1048576));
+    let (first, second) = opens_twice(alloc, &mut crowd, &mut guests);
+    Course {
+        waiting,
+        first,
+        second,
+        rests: crowd.rests,
+    }
+}
+
+/// Opens a new door before each of two rounds, and returns how many links were admitted by then.
+fn opens_twice(alloc: Global, crowd: &mut Crowd, guests: &mut Guests<Silent>) -> (u64, u64) {
+    let mut door = Door::new(1048576);
     let mut end = WorkEnd {
         served: 0,
         broken: 0,
         refused: 0,
     };
-    door.open_for_all(alloc, &mut crowd, &mut guests, &mut end);
+    door.open_for_all(alloc, crowd, guests, &mut end);
     let first = door.opened;
-    door.open_for_all(alloc, &mut crowd, &mut guests, &mut end);
-    Course {
-        waiting,
-        first,
-        second: door.opened,
-        rests: crowd.rests,
-    }
+    door.open_for_all(alloc, crowd, guests, &mut end);
+    (first, door.opened)
 }
 
 /// Nobody is visited here, so admitted links are awake, and nothing is rested beside them.
-const COURSES: [Course; 4] = [
+static COURSES: [Course; 4] = [
     Course {
         waiting: 0,
         first: 0,
@@ -128,8 +134,8 @@ const COURSES: [Course; 4] = [
 
 #[test]
 fn all_that_wait_are_let_in_at_once(rt: HostRuntime) -> Result<(), Fail> {
-    for course in COURSES {
-        assert_eq!(rt; course_of(rt.alloc(), course.waiting), course);
+    for course in &COURSES {
+        assert_eq!(rt; course_of(rt.alloc(), course.waiting), *course);
     }
     Ok(())
 }

@@ -90,7 +90,7 @@ impl Link for Narrow {
 const TRIES: usize = 1_000_000;
 
 /// The lengths of the texts that are written in order: some are gathered, some aren't.
-const LENGTHS: [usize; 8] = [10, 0, 5000, 40000, 3, 33000, 70000, 1];
+static LENGTHS: [usize; 8] = [10, 0, 5000, 40000, 3, 33000, 70000, 1];
 
 /// The sum of these lengths.
 const ALL: usize = 148_014;
@@ -173,10 +173,10 @@ fn takes_each_byte_once(gathering: &mut Gathering<Narrow>, text: &[u8]) -> bool 
     let mut faults = 0u64;
     let mut at = 0usize;
     let mut is_taken = true;
-    for length in LENGTHS {
-        let part = part_of(text, at, length);
+    for length in &LENGTHS {
+        let part = part_of(text, at, *length);
         is_taken = is_taken && write_all(gathering, part, &mut faults);
-        at = at.saturating_add(length);
+        at = at.saturating_add(*length);
     }
     let is_over = is_taken && read_end(gathering, &mut faults);
     let is_same = gathering.link().taken.as_slice() == text;
@@ -184,7 +184,7 @@ fn takes_each_byte_once(gathering: &mut Gathering<Narrow>, text: &[u8]) -> bool 
 }
 
 /// How many bytes the link below takes at once, and which of its calls fails.
-const ROWS: [(usize, u64); 8] = [
+static ROWS: [(usize, u64); 8] = [
     (1, 0),
     (1, 20000),
     (7, 3),

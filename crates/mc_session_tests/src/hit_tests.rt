@@ -3,10 +3,10 @@
 ghost use Rattle.std.specs.Prelude.{◌≡◌, OnOk, OnErr};
 ghost use Rattle.mc_protocol.specs.declared.reply.Reply.{Reply as Told};
 
+use crate::session_tests::RUNS;
 use mc_command::PlainStore;
 use mc_protocol::{Answer, Bytes, KeyStep, Reply, StepFault, Steps, Unanswered};
 use mc_session::{Session, Turn, TurnFault};
-use mc_testing::SESSIONS;
 use mc_time::Moment;
 use std::alloc::{AllocError, Global};
 use std::process::Abort;
@@ -126,6 +126,18 @@ fn new_store(alloc: Global, telling: Telling) -> Result<Lending, AllocError> {
     })
 }
 
+/// Takes a turn, and returns whether none was due. A refused turn closes the session.
+fn is_over(
+    rt: &impl Abort,
+    alloc: Global,
+    session: &mut Session,
+    store: &mut Lending,
+) -> Result<bool, TurnFault> {
+    let turn = session.turn(alloc, store, Moment::from_seconds(1000));
+    assert!(rt; turn.is_ok() || session.is_closed());
+    Ok(turn? != Turn::Did)
+}
+
 /// Feeds a piece and takes the turns that are due. A refused turn closes the session.
 fn take_turns(
     rt: &impl Abort,
@@ -136,13 +148,8 @@ fn take_turns(
 ) -> Result<(), TurnFault> {
     session.feed(piece.as_bytes())?;
     for _ in 0..TURNS {
-        match session.turn(alloc, store, Moment::from_seconds(1000)) {
-            Ok(Turn::Did) => {}
-            Ok(_) => return Ok(()),
-            Err(fault) => {
-                assert!(rt; session.is_closed());
-                return Err(fault);
-            }
+        if is_over(rt, alloc, session, store)? {
+            return Ok(());
         }
     }
     Ok(())
@@ -175,7 +182,7 @@ fn session_is_told(
 
 /// Checks that sessions get the same output as from replies, with hits delivered this way.
 fn sessions_are_told(rt: &impl Abort, alloc: Global, telling: Telling) -> Result<(), TurnFault> {
-    for (input, output) in &SESSIONS {
+    for (input, output) in &RUNS {
         if session_is_told(rt, alloc, telling, input, output).is_err() {
             session_is_told(rt, alloc, telling, input, output)?;
         }

@@ -70,15 +70,20 @@ fn append_parts(rt: &impl Abort, alloc: Global, out: &mut LentOutput) -> Result<
     Ok(())
 }
 
+/// Checks that an output lends this piece, and drops it.
+fn has_piece(rt: &impl Abort, out: &mut LentOutput, piece: &[u8]) {
+    assert_eq!(rt; out.front(), piece);
+    assert!(rt; piece.len() <= out.len());
+    out.consume(piece.len());
+}
+
 /// Checks that an output lends these bytes in pieces of these lengths, and drops them.
 fn has_pieces(rt: &impl Abort, out: &mut LentOutput, bytes: &[u8], lengths: &[usize]) {
     assert_eq!(rt; out.len(), bytes.len());
     let mut left = bytes;
     for length in lengths {
         let (piece, rest) = left.split_at(left.len().min(*length));
-        assert_eq!(rt; out.front(), piece);
-        assert!(rt; piece.len() <= out.len());
-        out.consume(piece.len());
+        has_piece(rt, out, piece);
         left = rest;
     }
     assert!(rt; left.is_empty() && out.front().is_empty());
@@ -186,6 +191,13 @@ impl Steps for Sharing {
     }
 }
 
+/// Checks that a session lends this piece, and drops it.
+fn writes_piece(rt: &impl Abort, session: &mut SessionOf<LentOutput>, piece: &[u8]) {
+    assert_eq!(rt; session.front(), piece);
+    assert!(rt; piece.len() <= session.out_len());
+    session.sent(piece.len());
+}
+
 /// Checks that a session lends these bytes in pieces of these lengths, and drops them.
 fn writes_pieces(
     rt: &impl Abort,
@@ -197,18 +209,30 @@ fn writes_pieces(
     let mut left = bytes;
     for length in lengths {
         let (piece, rest) = left.split_at(left.len().min(*length));
-        assert_eq!(rt; session.front(), piece);
-        assert!(rt; piece.len() <= session.out_len());
-        session.sent(piece.len());
+        writes_piece(rt, session, piece);
         left = rest;
     }
     assert!(rt; left.is_empty() && session.is_empty());
 }
 
-/// Checks that a hit in two parts of shared memory is lent, and its text written round it.
+/// Checks that a session writes these bytes, in at most four pieces.
+fn writes_text(rt: &impl Abort, session: &mut SessionOf<LentOutput>, bytes: &[u8]) {
+    let mut left = bytes;
+    for _ in 0..4 {
+        let (piece, rest) = left.split_at(left.len().min(session.front().len()));
+        writes_piece(rt, session, piece);
+        left = rest;
+    }
+    assert!(rt; left.is_empty() && session.is_empty());
+}
+
+/// The text of a hit of eight bytes, round its two parts.
+const HIT: &[u8] = b"VALUE k 5 8 7\r\nabcdefgh\r\nEND\r\n";
+
+/// Takes a turn of a session whose hit lies in two parts of shared memory.
 ///
 /// A turn that is refused memory leaves no output.
-fn hit_is_lent(
+fn takes_hit(
     rt: &impl Abort,
     alloc: Global,
     session: &mut SessionOf<LentOutput>,
@@ -216,27 +240,43 @@ fn hit_is_lent(
 ) -> Result<(), TurnFault> {
     session.feed(b"gets k\r\n")?;
     match session.turn(alloc, store, Moment::from_seconds(1000)) {
-        Ok(turn) => assert!(rt; turn == Turn::Did),
+        Ok(turn) => {
+            assert!(rt; turn == Turn::Did);
+            Ok(())
+        }
         Err(fault) => {
             assert!(rt; session.is_empty() && session.is_closed() && !fault.decided);
-            return Err(fault);
+            Err(fault)
         }
     }
-    let text = b"VALUE k 5 8 7\r\nabcdefgh\r\nEND\r\n";
-    writes_pieces(rt, session, text, &[15, 4, 4, 7]);
+}
+
+/// Checks that the two parts of a hit are lent, and its text is written round them.
+fn a_session_lends(rt: &impl Abort, alloc: Global) -> Result<(), TurnFault> {
+    let (mut session, mut store) = (SessionOf::new(alloc, 100), Sharing::new(alloc)?);
+    takes_hit(rt, alloc, &mut session, &mut store)?;
+    writes_pieces(rt, &mut session, HIT, &[15, 4, 4, 7]);
     Ok(())
 }
 
-/// The same in a new session.
-fn a_session_lends(rt: &impl Abort, alloc: Global) -> Result<(), TurnFault> {
-    let mut store = Sharing::new(alloc)?;
-    hit_is_lent(rt, alloc, &mut SessionOf::new(alloc, 100), &mut store)
+/// Checks that a hit is written, whether or not there is memory to lend its parts.
+fn a_session_writes(rt: &impl Abort, alloc: Global) -> Result<(), TurnFault> {
+    let (mut session, mut store) = (SessionOf::new(alloc, 100), Sharing::new(alloc)?);
+    takes_hit(rt, alloc, &mut session, &mut store)?;
+    writes_text(rt, &mut session, HIT);
+    Ok(())
 }
 
 #[test]
 fn a_hit_in_shared_memory_is_lent(rt: HostRuntime) -> Result<(), Fail> {
-    if a_session_lends(&rt, rt.alloc()).is_err() {
-        a_session_lends(&rt, rt.alloc())?;
+    a_session_lends(&rt, rt.alloc())?;
+    Ok(())
+}
+
+#[test]
+fn a_hit_in_shared_memory_is_written(rt: HostRuntime) -> Result<(), Fail> {
+    if a_session_writes(&rt, rt.alloc()).is_err() {
+        a_session_writes(&rt, rt.alloc())?;
     }
     Ok(())
 }

@@ -14,7 +14,7 @@ const BAD_FORMAT: Option<LineFault> = Some(LineFault::BadFormat);
 const BAD_DELTA: Option<LineFault> = Some(LineFault::BadDelta);
 
 /// Lines, and the first fault of each.
-const FAULTS: [(&[u8], Option<LineFault>); 37] = [
+static FAULTS: [(&[u8], Option<LineFault>); 37] = [
     (b"", UNKNOWN),
     (b"  ", UNKNOWN),
     (b"foo", UNKNOWN),
@@ -74,7 +74,7 @@ fn the_first_fault_of_a_line(rt: HostRuntime) {
 }
 
 /// Lines with numbers at their limits, and whether each is well formed.
-const LIMITS: [(&[u8], bool); 12] = [
+static LIMITS: [(&[u8], bool); 12] = [
     (b"set a 4294967295 0 1", true),
     (b"set a 4294967296 0 1", false),
     (b"set a 0 0 2147483645", true),

@@ -185,7 +185,7 @@ fn consume_to(queue: &mut Queue<65536>, n: usize, left: &[u8], filled: usize) ->
 }
 
 /// The number of bytes to consume, what is left then, and the number of bytes in memory.
-const TAKEN: [(usize, &[u8], usize); 5] = [
+static TAKEN: [(usize, &[u8], usize); 5] = [
     (0, b"abcdefgh", 8),
     (3, b"defgh", 8),
     (1, b"efgh", 8),
@@ -193,20 +193,23 @@ const TAKEN: [(usize, &[u8], usize); 5] = [
     (1, b"", 0),
 ];
 
-#[test]
-fn a_queue_takes_from_its_front(rt: HostRuntime) -> Result<(), AllocError> {
-    let mut queue: Queue<65536> = Queue::new(rt.alloc());
+// Each test below owns a queue or a feed, and the function above it checks that.
+
+fn takes_from_its_front(rt: &impl Abort, queue: &mut Queue<65536>) -> Result<(), AllocError> {
     assert!(rt; queue.is_empty());
     queue.push(b"abcdef")?;
     queue.append(&Pair(b'g', b'h'))?;
     for (n, left, filled) in &TAKEN {
-        assert!(rt; consume_to(&mut queue, *n, left, *filled));
+        assert!(rt; consume_to(queue, *n, left, *filled));
     }
     assert!(rt; queue.is_empty());
     Ok(())
 }
 
-// Each test below owns a queue or a feed, and the function above it checks that.
+#[test]
+fn a_queue_takes_from_its_front(rt: HostRuntime) -> Result<(), AllocError> {
+    takes_from_its_front(&rt, &mut Queue::new(rt.alloc()))
+}
 
 fn closes_up(rt: &impl Abort, queue: &mut Queue<65536>) -> Result<(), AllocError> {
     queue.push(b"abcdefgh")?;
@@ -230,14 +233,19 @@ fn an_append_closes_up_half_of_a_queue(rt: HostRuntime) -> Result<(), AllocError
     closes_up(&rt, &mut Queue::new(rt.alloc()))
 }
 
-#[test]
-fn memory_that_a_text_does_not_need_is_given_back(rt: HostRuntime) -> Result<(), AllocError> {
-    let mut queue: Queue<65536> = Queue::new(rt.alloc());
+fn gives_back_what_a_text_left(
+    rt: &impl Abort,
+    queue: &mut Queue<65536>,
+) -> Result<(), AllocError> {
     queue.push(b"ab")?;
     queue.append(&Sprawling)?;
-    assert!(rt; queue.as_slice() == b"abcd".as_slice());
-    assert_eq!(rt; queue.capacity(), 4);
+    assert!(rt; queue.as_slice() == b"abcd".as_slice() && queue.capacity() == 4);
     Ok(())
+}
+
+#[test]
+fn memory_that_a_text_does_not_need_is_given_back(rt: HostRuntime) -> Result<(), AllocError> {
+    gives_back_what_a_text_left(&rt, &mut Queue::new(rt.alloc()))
 }
 
 fn gives_its_memory_back(rt: &impl Abort, queue: &mut Queue<65536>) -> Result<(), AllocError> {
@@ -265,9 +273,7 @@ fn a_large_queue_gives_its_memory_back(rt: HostRuntime) -> Result<(), AllocError
     gives_its_memory_back(&rt, &mut Queue::new(rt.alloc()))
 }
 
-#[test]
-fn a_queue_that_rests_keeps_a_first_piece(rt: HostRuntime) -> Result<(), AllocError> {
-    let mut queue: Queue<65536> = Queue::new(rt.alloc());
+fn keeps_a_first_piece(rt: &impl Abort, queue: &mut Queue<65536>) -> Result<(), AllocError> {
     queue.push(&[b'x'; 8192])?;
     assert!(rt; queue.rest() >= 8192);
     queue.clear();
@@ -275,6 +281,11 @@ fn a_queue_that_rests_keeps_a_first_piece(rt: HostRuntime) -> Result<(), AllocEr
     assert!(rt; queue.rest() <= FIRST_PIECE && queue.is_empty());
     assert!(rt; queue.capacity() <= FIRST_PIECE);
     Ok(())
+}
+
+#[test]
+fn a_queue_that_rests_keeps_a_first_piece(rt: HostRuntime) -> Result<(), AllocError> {
+    keeps_a_first_piece(&rt, &mut Queue::new(rt.alloc()))
 }
 
 fn makes_room_at_once(rt: &impl Abort, queue: &mut Queue<64>) -> Result<(), AllocError> {
@@ -293,19 +304,28 @@ fn room_is_made_at_once_for_a_text_that_has_begun(rt: HostRuntime) -> Result<(),
     makes_room_at_once(&rt, &mut Queue::new(rt.alloc()))
 }
 
-#[test]
-fn a_part_that_is_refused(rt: HostRuntime) -> Result<(), AllocError> {
-    let mut queue: Queue<64> = Queue::new(rt.alloc());
+/// Pushes a part of 400 bytes, and once more if memory is refused. The queue is unchanged then.
+fn takes_a_part(rt: &impl Abort, queue: &mut Queue<64>) -> Result<(), AllocError> {
     let part = [b'x'; 400];
+    let there = queue.len();
+    if queue.push_part(&part, 1600).is_err() {
+        assert!(rt; queue.len() == there);
+        queue.push_part(&part, 1600)?;
+    }
+    Ok(())
+}
+
+fn takes_parts(rt: &impl Abort, queue: &mut Queue<64>) -> Result<(), AllocError> {
     for count in 1..5usize {
-        let there = queue.len();
-        if queue.push_part(&part, 1600).is_err() {
-            assert_eq!(rt; queue.len(), there);
-            queue.push_part(&part, 1600)?;
-        }
+        takes_a_part(rt, queue)?;
         assert_eq!(rt; queue.len(), 400 * count);
     }
     Ok(())
+}
+
+#[test]
+fn a_part_that_is_refused(rt: HostRuntime) -> Result<(), AllocError> {
+    takes_parts(&rt, &mut Queue::new(rt.alloc()))
 }
 
 /// Checks that a source has this room in an empty queue.
@@ -362,25 +382,22 @@ fn stays_for(queue: &mut Queue<65536>, pieces: usize) -> Result<bool, AllocError
 
 /// The first 4 pieces are a sixteenth; room for the text comes with the fifth, and for one more
 /// piece.
-#[test]
-fn a_text_from_a_source_stays_where_it_is_after_a_sixteenth(
-    rt: HostRuntime,
-) -> Result<(), AllocError> {
-    let mut queue: Queue<65536> = Queue::new(rt.alloc());
-    assert!(rt; !stays_for(&mut queue, 5)?);
-    assert!(rt; stays_for(&mut queue, 60)?);
+fn stays_after_a_sixteenth(rt: &impl Abort, queue: &mut Queue<65536>) -> Result<(), AllocError> {
+    assert!(rt; !stays_for(queue, 5)?);
+    assert!(rt; stays_for(queue, 60)?);
     assert_eq!(rt; queue.len(), 1064960);
     Ok(())
 }
 
 #[test]
-fn a_set_and_what_follows(rt: HostRuntime) {
-    let unread = b"set a 5 0 3\r\nabc\r\nget a\r\n";
-    let Peek::Whole(command, len) = peek_at(GREATEST, unread) else {
-        assert!(rt; false);
-        return;
-    };
-    assert_eq!(rt; len, 18);
+fn a_text_from_a_source_stays_where_it_is_after_a_sixteenth(
+    rt: HostRuntime,
+) -> Result<(), AllocError> {
+    stays_after_a_sixteenth(&rt, &mut Queue::new(rt.alloc()))
+}
+
+/// Returns whether a command sets `a` to `abc`, with the flags 5, the exptime 0 and an answer.
+fn is_set_of_a(command: Command<'_>) -> bool {
     match command {
         Command::Store {
             verb,
@@ -390,19 +407,26 @@ fn a_set_and_what_follows(rt: HostRuntime) {
             block,
             quiet,
         } => {
-            assert!(rt; matches!(verb, Verb::Set));
-            assert_eq!(rt; flags, 5);
-            assert_eq!(rt; exptime, 0);
-            assert!(rt; !quiet);
-            assert!(rt; key.as_slice() == b"a".as_slice());
-            assert!(rt; block.as_slice() == b"abc".as_slice());
+            let (key, block) = (key.as_slice(), block.as_slice());
+            let has_bytes = key == b"a".as_slice() && block == b"abc".as_slice();
+            has_bytes && (verb, flags, exptime, quiet) == (Verb::Set, 5, 0, false)
         }
-        _ => assert!(rt; false),
+        _ => false,
     }
 }
 
+#[test]
+fn a_set_and_what_follows(rt: HostRuntime) {
+    let unread = b"set a 5 0 3\r\nabc\r\nget a\r\n";
+    let is_seen = match peek_at(GREATEST, unread) {
+        Peek::Whole(command, 18) => is_set_of_a(command),
+        _ => false,
+    };
+    assert!(rt; is_seen);
+}
+
 /// Unread bytes, and what a peek finds in them.
-const FRONTS: [(&[u8], Seen); 12] = [
+static FRONTS: [(&[u8], Seen); 12] = [
     (
         b"set a 0 0 3\r\nabcdef\r\n",
         Seen::Bad(LineFault::BadChunk, 18),
@@ -562,7 +586,7 @@ fn a_block_comes_from_a_source(rt: HostRuntime) -> Result<(), AllocError> {
 }
 
 /// The number of turns taken, the next key, and how many keys are left.
-const TURNS: [(usize, &[u8], usize); 3] = [(0, b"one", 3), (1, b"two", 2), (2, b"three", 1)];
+static TURNS: [(usize, &[u8], usize); 3] = [(0, b"one", 3), (1, b"two", 2), (2, b"three", 1)];
 
 /// Checks a key of it that is found first by reading the line from its beginning, and then by the
 /// mark.
@@ -592,22 +616,25 @@ fn a_retrieval_in_turns(rt: HostRuntime) -> Result<(), AllocError> {
 }
 
 /// A stream in pieces. Only the last piece ends a unit.
-const PIECES: [&[u8]; 4] = [
+static PIECES: [&[u8]; 4] = [
     b"set a 0 0 100\r\nxyz",
     b"0123456789012345678901234567890123456789012345678901234567890123456789",
     b"012345678901234567890123456",
     b"\r\nget a\r\n",
 ];
 
-#[test]
-fn a_push_that_is_refused(rt: HostRuntime) -> Result<(), AllocError> {
-    let mut feed = Feed::new(rt.alloc(), GREATEST);
+fn takes_pieces(rt: &impl Abort, feed: &mut Feed) -> Result<(), AllocError> {
     for piece in &PIECES {
         assert!(rt; shows(feed.peek(), Seen::More));
-        assert!(rt; push_at_last(&mut feed, piece)?);
+        assert!(rt; push_at_last(feed, piece)?);
     }
-    assert!(rt; passes(&mut feed, 117, 7) && shows(feed.peek(), Seen::Get(7)));
+    assert!(rt; passes(feed, 117, 7) && shows(feed.peek(), Seen::Get(7)));
     Ok(())
+}
+
+#[test]
+fn a_push_that_is_refused(rt: HostRuntime) -> Result<(), AllocError> {
+    takes_pieces(&rt, &mut Feed::new(rt.alloc(), GREATEST))
 }
 
 fn takes_bytes(rt: &impl Abort, feed: &mut Feed) -> Result<(), AllocError> {

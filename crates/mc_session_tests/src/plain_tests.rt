@@ -8,8 +8,10 @@ ghost use Rattle.mc_protocol.specs.Commands.{key_of};
 
 use mc_command::PlainStore;
 use mc_protocol::{Bytes, KeyStep, Reply, StepFault, Steps, Verb};
+use mc_testing::told_of;
 use mc_time::Moment;
 use std::alloc::Global;
+use std::process::Abort;
 use std::test::Fail;
 
 /// Returns a storage command's step on `n`.
@@ -41,44 +43,77 @@ fn spent(alloc: Global) -> Result<PlainStore, Fail> {
     Ok(store)
 }
 
-#[test]
-fn each_write_is_told_of_spent_numbers(rt: HostRuntime) -> Result<(), Fail> {
-    let mut store = spent(rt.alloc())?;
-    let cas = KeyStep::Cas {
+/// Returns a cas on `n` with a unique number.
+fn comparing<'a>(unique: u64) -> KeyStep<'a>
+    ensures { length (key_of result) ≤ 250 }
+{
+    KeyStep::Cas {
         key: Bytes::of(b"n"),
         flags: 0,
         exptime: 0,
         block: Bytes::of(b"x"),
-        unique: u64::MAX - 1,
-    };
-    let count = KeyStep::Count {
-        key: Bytes::of(b"n"),
-        up: true,
-        by: 1,
-    };
-    let set = asked(&mut store, rt.alloc(), storing(Verb::Set, b"x"));
-    assert!(rt; matches!(set, Err(StepFault::NumbersSpent)));
-    let appended = asked(&mut store, rt.alloc(), storing(Verb::Append, b"1"));
-    assert!(rt; matches!(appended, Err(StepFault::NumbersSpent)));
-    let compared = asked(&mut store, rt.alloc(), cas);
-    assert!(rt; matches!(compared, Err(StepFault::NumbersSpent)));
-    let counted = asked(&mut store, rt.alloc(), count);
-    assert!(rt; matches!(counted, Err(StepFault::NumbersSpent)));
+        unique,
+    }
+}
+
+/// Checks the name of a step's result.
+fn is_told(rt: &impl Abort, store: &mut PlainStore, alloc: Global, step: KeyStep<'_>, want: &str)
+    requires { length (key_of step) ≤ 250 }
+{
+    let told = told_of(&asked(store, alloc, step));
+    assert!(rt; told == want, "{told} is not {want}");
+}
+
+/// Checks writes that each draw a number, in a store whose numbers are spent.
+fn writes_are_told(rt: &impl Abort, store: &mut PlainStore, alloc: Global) {
+    let spent = "numbers spent";
+    is_told(rt, store, alloc, storing(Verb::Set, b"x"), spent);
+    is_told(rt, store, alloc, storing(Verb::Append, b"1"), spent);
+    is_told(rt, store, alloc, comparing(u64::MAX - 1), spent);
+    let key = Bytes::of(b"n");
+    is_told(
+        rt,
+        store,
+        alloc,
+        KeyStep::Count {
+            key,
+            up: true,
+            by: 1,
+        },
+        spent,
+    );
+}
+
+#[test]
+fn each_write_is_told_of_spent_numbers(rt: HostRuntime) -> Result<(), Fail> {
+    let mut store = spent(rt.alloc())?;
+    writes_are_told(&rt, &mut store, rt.alloc());
     Ok(())
+}
+
+/// Checks steps that draw no number, in the same store.
+fn others_are_told(rt: &impl Abort, store: &mut PlainStore, alloc: Global) {
+    is_told(rt, store, alloc, storing(Verb::Add, b"x"), "not stored");
+    is_told(
+        rt,
+        store,
+        alloc,
+        storing(Verb::Set, &[b'x'; 100]),
+        "too large",
+    );
+    let key = Bytes::of(b"n");
+    is_told(
+        rt,
+        store,
+        alloc,
+        KeyStep::Touch { key, exptime: 0 },
+        "touched",
+    );
 }
 
 #[test]
 fn what_draws_no_number_is_answered_as_before(rt: HostRuntime) -> Result<(), Fail> {
     let mut store = spent(rt.alloc())?;
-    let touch = KeyStep::Touch {
-        key: Bytes::of(b"n"),
-        exptime: 0,
-    };
-    let added = asked(&mut store, rt.alloc(), storing(Verb::Add, b"x"));
-    assert!(rt; matches!(added, Ok(Reply::NotStored)));
-    let large = asked(&mut store, rt.alloc(), storing(Verb::Set, &[b'x'; 100]));
-    assert!(rt; matches!(large, Ok(Reply::TooLarge)));
-    let touched = asked(&mut store, rt.alloc(), touch);
-    assert!(rt; matches!(touched, Ok(Reply::Touched)));
+    others_are_told(&rt, &mut store, rt.alloc());
     Ok(())
 }

@@ -91,116 +91,120 @@ fn store(quiet: bool) -> Command<'static> {
     }
 }
 
-/// Checks that a storage command is answered each reply by its text.
-fn replies_are_told(
-    rt: &impl Abort,
-    alloc: Global,
-    replies: &[(Reply, &'static str)],
-) -> Result<(), Fail> {
-    let command = store(false);
-    for (reply, want) in replies {
-        expect(rt, alloc, &Call::Step(&command, 0, reply), want)?;
+/// Checks that a storage command is answered this reply by its text.
+fn is_told(rt: &impl Abort, alloc: Global, reply: &Reply, want: &str) -> Result<(), Fail> {
+    expect(rt, alloc, &Call::Step(&store(false), 0, reply), want)
+}
+
+/// Returns a reply without a block, and its text.
+fn reply_of(at: u32) -> (Reply, &'static str) {
+    match at {
+        0 => (Reply::Stored, "STORED\r\n"),
+        1 => (Reply::NotStored, "NOT_STORED\r\n"),
+        2 => (Reply::Exists, "EXISTS\r\n"),
+        3 => (Reply::NotFound, "NOT_FOUND\r\n"),
+        4 => (Reply::Touched, "TOUCHED\r\n"),
+        5 => (Reply::Deleted, "DELETED\r\n"),
+        _ => later_reply_of(at),
+    }
+}
+
+/// The same for those from the seventh on.
+fn later_reply_of(at: u32) -> (Reply, &'static str) {
+    match at {
+        6 => (Reply::Number(0), "0\r\n"),
+        7 => (Reply::Number(u64::MAX), "18446744073709551615\r\n"),
+        8 => (Reply::NotNumeric, NOT_NUMERIC),
+        9 => (
+            Reply::TooLarge,
+            "SERVER_ERROR object too large for cache\r\n",
+        ),
+        10 => (
+            Reply::NoChunk,
+            "SERVER_ERROR out of memory storing object\r\n",
+        ),
+        _ => (Reply::Flushed, "OK\r\n"),
+    }
+}
+
+const NOT_NUMERIC: &str = "CLIENT_ERROR cannot increment or decrement non-numeric value\r\n";
+
+#[test]
+fn a_reply_is_a_line(rt: HostRuntime) -> Result<(), Fail> {
+    for at in 0..12 {
+        let (reply, want) = reply_of(at);
+        is_told(&rt, rt.alloc(), &reply, want)?;
     }
     Ok(())
 }
 
-#[test]
-fn a_reply_is_a_line(rt: HostRuntime) -> Result<(), Fail> {
-    let replies = [
-        (Reply::Stored, "STORED\r\n"),
-        (Reply::NotStored, "NOT_STORED\r\n"),
-        (Reply::Exists, "EXISTS\r\n"),
-        (Reply::NotFound, "NOT_FOUND\r\n"),
-        (Reply::Touched, "TOUCHED\r\n"),
-        (Reply::Deleted, "DELETED\r\n"),
-        (Reply::Number(0), "0\r\n"),
-        (Reply::Number(u64::MAX), "18446744073709551615\r\n"),
-        (
-            Reply::NotNumeric,
-            "CLIENT_ERROR cannot increment or decrement non-numeric value\r\n",
-        ),
-        (
-            Reply::TooLarge,
-            "SERVER_ERROR object too large for cache\r\n",
-        ),
-        (
-            Reply::NoChunk,
-            "SERVER_ERROR out of memory storing object\r\n",
-        ),
-        (Reply::Flushed, "OK\r\n"),
-    ];
-    replies_are_told(&rt, rt.alloc(), &replies)
-}
-
-/// Returns each command that can end in `noreply`, with it.
-fn quiet_commands() -> [Command<'static>; 6] {
-    [
-        store(true),
-        Command::Cas {
-            key: Bytes::of(b"a"),
+/// Returns a command that can end in `noreply`, with it. There are 6.
+fn quiet_command(at: u32) -> Command<'static> {
+    let key = Bytes::of(b"a");
+    let quiet = true;
+    match at {
+        0 => store(quiet),
+        1 => Command::Cas {
+            key,
             flags: 5,
             exptime: 0,
             block: Bytes::of(b"abc"),
             unique: 1,
-            quiet: true,
+            quiet,
         },
-        Command::Touch {
-            key: Bytes::of(b"a"),
+        2 => Command::Touch {
+            key,
             exptime: 0,
-            quiet: true,
+            quiet,
         },
-        Command::Delete {
-            key: Bytes::of(b"a"),
-            quiet: true,
-        },
-        Command::Count {
-            key: Bytes::of(b"a"),
+        3 => Command::Delete { key, quiet },
+        4 => Command::Count {
+            key,
             up: true,
             by: 1,
-            quiet: true,
+            quiet,
         },
-        Command::FlushAll {
-            delay: 0,
-            quiet: true,
-        },
-    ]
+        _ => Command::FlushAll { delay: 0, quiet },
+    }
 }
 
 #[test]
 fn a_quiet_command_is_answered_nothing(rt: HostRuntime) -> Result<(), Fail> {
-    let alloc = rt.alloc();
-    for command in quiet_commands() {
-        expect(&rt, alloc, &Call::Step(&command, 0, &Reply::NoChunk), "")?;
+    for at in 0..6 {
+        let command = quiet_command(at);
+        expect(
+            &rt,
+            rt.alloc(),
+            &Call::Step(&command, 0, &Reply::NoChunk),
+            "",
+        )?;
     }
     Ok(())
 }
 
 #[test]
 fn a_quiet_command_is_told_of_no_spent_numbers(rt: HostRuntime) -> Result<(), Fail> {
-    let alloc = rt.alloc();
-    for command in quiet_commands() {
-        expect(&rt, alloc, &Call::Spent(&command), "")?;
+    for at in 0..6 {
+        expect(&rt, rt.alloc(), &Call::Spent(&quiet_command(at)), "")?;
     }
     Ok(())
 }
 
-/// Returns a retrieval of two keys by get or gets, and one by gat or gats.
-fn retrievals(with_unique: bool) -> [Command<'static>; 2] {
-    [
-        Command::Get {
-            keys: Keys::of(b" a bc"),
-            with_unique,
-        },
-        Command::GetTouch {
+/// Returns a retrieval of two keys by get or gets, or by gat or gats.
+fn retrieval(with_unique: bool, touches: bool) -> Command<'static> {
+    let keys = Keys::of(b" a bc");
+    if touches {
+        return Command::GetTouch {
             exptime: 10,
-            keys: Keys::of(b" a bc"),
+            keys,
             with_unique,
-        },
-    ]
+        };
+    }
+    Command::Get { keys, with_unique }
 }
 
 /// Hits of a retrieval.
-const FOUND: [Found; 4] = [
+static FOUND: [Found; 4] = [
     Found {
         with_unique: false,
         at: 0,
@@ -253,10 +257,20 @@ fn found_is_told(rt: &impl Abort, alloc: Global, found: &Found) -> Result<(), Fa
         unique: found.unique,
         block: Block::of(filled(alloc, found.block)?),
     };
-    for command in &retrievals(found.with_unique) {
-        is_one_text(rt, alloc, command, found, &reply)?;
-    }
-    Ok(())
+    is_one_text(
+        rt,
+        alloc,
+        &retrieval(found.with_unique, false),
+        found,
+        &reply,
+    )?;
+    is_one_text(
+        rt,
+        alloc,
+        &retrieval(found.with_unique, true),
+        found,
+        &reply,
+    )
 }
 
 /// The same for one command.
@@ -283,74 +297,70 @@ fn a_retrieval_tells_what_it_found_and_ends(rt: HostRuntime) -> Result<(), Fail>
     Ok(())
 }
 
+/// Checks the text of a miss in step `at` of a retrieval.
+fn miss_is_told(
+    rt: &impl Abort,
+    alloc: Global,
+    command: &Command<'_>,
+    at: usize,
+    want: &str,
+) -> Result<(), Fail> {
+    expect(rt, alloc, &Call::Step(command, at, &Reply::Miss), want)
+}
+
 #[test]
 fn a_retrieval_tells_nothing_of_a_miss_and_ends(rt: HostRuntime) -> Result<(), Fail> {
-    for (with_unique, at, want) in [(false, 0, ""), (true, 1, "END\r\n")] {
-        for command in retrievals(with_unique) {
-            let call = Call::Step(&command, at, &Reply::Miss);
-            expect(&rt, rt.alloc(), &call, want)?;
-        }
+    for touches in [false, true] {
+        miss_is_told(&rt, rt.alloc(), &retrieval(false, touches), 0, "")?;
+        miss_is_told(&rt, rt.alloc(), &retrieval(true, touches), 1, "END\r\n")?;
     }
     Ok(())
 }
 
-/// Checks that each call appends its text.
-fn each_appends(
-    rt: &impl Abort,
-    alloc: Global,
-    calls: &[(Call<'_>, &'static str)],
-) -> Result<(), Fail> {
-    for (call, want) in calls {
-        expect(rt, alloc, call, want)?;
-    }
-    Ok(())
-}
+/// Faults and their texts.
+static FAULTS: [(LineFault, &str); 5] = [
+    (LineFault::Unknown, "ERROR\r\n"),
+    (
+        LineFault::BadFormat,
+        "CLIENT_ERROR bad command line format\r\n",
+    ),
+    (
+        LineFault::BadDelta,
+        "CLIENT_ERROR invalid numeric delta argument\r\n",
+    ),
+    (
+        LineFault::TooLarge { passed: 9 },
+        "SERVER_ERROR object too large for cache\r\n",
+    ),
+    (LineFault::BadChunk, "CLIENT_ERROR bad data chunk\r\n"),
+];
 
 #[test]
 fn faults_have_their_texts(rt: HostRuntime) -> Result<(), Fail> {
-    let calls = [
-        (Call::Fault(LineFault::Unknown), "ERROR\r\n"),
-        (
-            Call::Fault(LineFault::BadFormat),
-            "CLIENT_ERROR bad command line format\r\n",
-        ),
-        (
-            Call::Fault(LineFault::BadDelta),
-            "CLIENT_ERROR invalid numeric delta argument\r\n",
-        ),
-        (
-            Call::Fault(LineFault::TooLarge { passed: 9 }),
-            "SERVER_ERROR object too large for cache\r\n",
-        ),
-        (
-            Call::Fault(LineFault::BadChunk),
-            "CLIENT_ERROR bad data chunk\r\n",
-        ),
-        (Call::TooLong, "CLIENT_ERROR line too long\r\n"),
-    ];
-    each_appends(&rt, rt.alloc(), &calls)
+    for (fault, want) in &FAULTS {
+        expect(&rt, rt.alloc(), &Call::Fault(*fault), want)?;
+    }
+    expect(
+        &rt,
+        rt.alloc(),
+        &Call::TooLong,
+        "CLIENT_ERROR line too long\r\n",
+    )
 }
+
+/// Commands that are only a name, and their texts.
+static LONE: [(Lone, &str); 2] = [(Lone::Version, "VERSION 1.6.0\r\n"), (Lone::Quit, "")];
 
 #[test]
 fn plain_commands_have_their_texts(rt: HostRuntime) -> Result<(), Fail> {
-    let calls = [
-        (
-            Call::Plain(&Command::Lone(Lone::Version)),
-            "VERSION 1.6.0\r\n",
-        ),
-        (Call::Plain(&Command::Lone(Lone::Quit)), ""),
-    ];
-    each_appends(&rt, rt.alloc(), &calls)
+    for (lone, want) in &LONE {
+        expect(&rt, rt.alloc(), &Call::Plain(&Command::Lone(*lone)), want)?;
+    }
+    Ok(())
 }
 
 #[test]
 fn spent_numbers_have_their_text(rt: HostRuntime) -> Result<(), Fail> {
-    let command = store(false);
-    let call = Call::Spent(&command);
-    expect(
-        &rt,
-        rt.alloc(),
-        &call,
-        "SERVER_ERROR out of unique numbers\r\n",
-    )
+    let want = "SERVER_ERROR out of unique numbers\r\n";
+    expect(&rt, rt.alloc(), &Call::Spent(&store(false)), want)
 }

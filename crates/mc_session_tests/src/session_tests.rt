@@ -19,6 +19,9 @@ const PAGE: u64 = 1_048_576;
 /// More calls than any test makes.
 const NEVER: usize = 10000;
 
+/// Inputs of sessions with their outputs.
+pub(crate) static RUNS: [(&str, &str); 11] = SESSIONS;
+
 /// A block above the greatest charge, and the expected output.
 const TOO_LARGE: (&str, &str) = (
     "set a 0 0 52\r\n0123456789\r\nget a\r\n012345678901234567890123456789012\r\nget a\r\n",
@@ -88,7 +91,7 @@ fn written_again(
 
 #[test]
 fn rows_are_written(rt: HostRuntime) -> Result<(), Fail> {
-    for (input, output) in &SESSIONS {
+    for (input, output) in &RUNS {
         let out = written(&rt, rt.alloc(), input.as_bytes())?;
         assert_eq!(rt; out.as_slice(), output.as_bytes(), "at {input}");
     }
@@ -131,7 +134,7 @@ fn is_answered_before_a_read(
 
 #[test]
 fn a_failed_read_leaves_what_came_before_answered(rt: HostRuntime) -> Result<(), Fail> {
-    for (input, output) in &SESSIONS {
+    for (input, output) in &RUNS {
         let input = input.as_bytes();
         for reads in 0..=input.len() {
             let (came, _) = input.split_at(reads);
@@ -160,7 +163,7 @@ fn is_written_before_a_write(
 
 #[test]
 fn a_failed_write_leaves_a_beginning(rt: HostRuntime) -> Result<(), Fail> {
-    for (input, output) in &SESSIONS {
+    for (input, output) in &RUNS {
         let output = output.as_bytes();
         for writes in 0..output.len() {
             let (front, _) = output.split_at(writes);
@@ -170,7 +173,24 @@ fn a_failed_write_leaves_a_beginning(rt: HostRuntime) -> Result<(), Fail> {
     Ok(())
 }
 
-/// Feeds a session, and takes this many turns. A refused turn closes the session.
+/// Takes a turn that is due. A refused turn closes the session.
+fn take_turn(
+    rt: &impl Abort,
+    alloc: Global,
+    session: &mut Session,
+    store: &mut PlainStore,
+) -> Result<(), AllocError> {
+    assert!(rt; !session.is_idle());
+    let turn = session.turn(alloc, store, Moment::from_seconds(1000));
+    if turn.is_err() {
+        assert!(rt; session.is_closed());
+        return Err(AllocError);
+    }
+    assert!(rt; matches!(turn, Ok(Turn::Did)));
+    Ok(())
+}
+
+/// Feeds a session, and takes this many turns.
 fn turns(
     rt: &impl Abort,
     alloc: Global,
@@ -181,13 +201,7 @@ fn turns(
 ) -> Result<(), AllocError> {
     session.feed(piece.as_bytes())?;
     for _ in 0..count {
-        assert!(rt; !session.is_idle());
-        let turn = session.turn(alloc, store, Moment::from_seconds(1000));
-        if turn.is_err() {
-            assert!(rt; session.is_closed());
-            return Err(AllocError);
-        }
-        assert!(rt; matches!(turn, Ok(Turn::Did)));
+        take_turn(rt, alloc, session, store)?;
     }
     Ok(())
 }
@@ -376,7 +390,7 @@ fn a_session_that_rests_keeps_two_first_pieces(rt: HostRuntime) -> Result<(), Fa
 const BEFORE: &str = "VALUE a 0 1\r\n1\r\nEND\r\n";
 
 /// A command, its text, and the output of `get a` after its step.
-const STEPS: [(&str, &str, &str); 9] = [
+static STEPS: [(&str, &str, &str); 9] = [
     ("get a\r\n", BEFORE, BEFORE),
     (
         "set a 7 0 1\r\n2\r\n",

@@ -136,7 +136,7 @@ fn letter_of(visit: Visit) -> u8 {
 /// Every other call of a link is empty: it answers `Later`. A read or a write passes one byte.
 ///
 /// A guest that has ended is visited twice more.
-const COURSES: [Course; 6] = [
+static COURSES: [Course; 6] = [
     Course {
         input: "get a\r\n",
         output: "END\r\n",

@@ -12,7 +12,7 @@ use std::test::*;
 
 const SET: Act = Act::Told(Ask::Store(Verb::Set, 0, b"x"), "stored");
 
-const DEATHS: [Row; 12] = [
+static DEATHS: [Row; 12] = [
     (1000, b"a", Act::Absent(true)),
     (1000, b"a", SET),
     (1000, b"a", Act::Absent(false)),
@@ -31,7 +31,7 @@ const DEATHS: [Row; 12] = [
     (1010, b"a", Act::Absent(true)),
 ];
 
-const ONE_NUMBER: [Row; 3] = [
+static ONE_NUMBER: [Row; 3] = [
     (1000, b"b", SET),
     (1000, b"a", Act::Absent(false)),
     (1000, b"a", Act::Told(Ask::Get, "miss")),

@@ -156,14 +156,32 @@ fn another_is_busy(
             tried: Tried::Not,
         }),
     };
+    assert_eq!(rt; read_inside(rt, alloc, shared, me, &gate), hit);
+    is_busy_and_then_served(rt, &gate, bay, hit);
+}
+
+/// Reads `k` while another one tries to in this gate, and returns the result.
+fn read_inside(
+    rt: &(impl Wait + Abort),
+    alloc: Global,
+    shared: &Shared<Fnv>,
+    me: &mut Caller,
+    gate: &Inside<'_>,
+) -> Tried
+    requires { me.old.table ≡ shared.now.table }
+{
     let now = Moment::from_seconds_at_most(1000);
     let read = read_of_k();
-    let refused = shared.step_at(rt, alloc, me, &read, now, &gate);
+    let refused = shared.step_at(rt, alloc, me, &read, now, gate);
     let taken = match refused {
-        Err(StepFault::NoMemory) => shared.step_at(rt, alloc, me, &read, now, &gate),
+        Err(StepFault::NoMemory) => shared.step_at(rt, alloc, me, &read, now, gate),
         taken => taken,
     };
-    assert_eq!(rt; read_by(&taken), hit);
+    read_by(&taken)
+}
+
+/// Checks that a caller that tried inside a step got `Busy`, and that it gets the hit now.
+fn is_busy_and_then_served(rt: &impl Abort, gate: &Inside<'_>, bay: usize, hit: Tried) {
     assert_eq!(rt; gate.tried(), Tried::Busy(bay, 1));
     gate.inside(0);
     assert_eq!(rt; gate.tried(), hit);

@@ -63,7 +63,7 @@ type Step = (u64, &'static [u8], Ask<'static>);
 /// Steps in each of which a gate is called once.
 ///
 /// The key `a` has an item that dies at second 1010. The key `new` has none.
-const STEPS: [(Step, u64); 7] = [
+static STEPS: [(Step, u64); 7] = [
     ((1000, b"a", Ask::Gat(10)), 1),
     ((1000, b"a", Ask::Get), 1),
     ((1000, b"new", Ask::Store(Verb::Set, 0, b"x")), 1),
@@ -76,7 +76,7 @@ const STEPS: [(Step, u64); 7] = [
 /// Steps on a key that is absent, and how often a caller's gate is called in each.
 ///
 /// A plain read asks first whether the key is absent, and takes no shelf then. No other step asks.
-const ABSENT: [(Step, u64); 5] = [
+static ABSENT: [(Step, u64); 5] = [
     ((1010, b"none", Ask::Get), 0),
     ((1010, b"none", Ask::Gat(10)), 1),
     ((1010, b"none", Ask::Touch(10)), 1),

@@ -95,27 +95,48 @@ fn is_set<R: Wait>(
     Ok(first_unlike(asking, alloc, rows)?.is_none())
 }
 
+/// Sets `a` to a block of a page, and reads it.
+fn set_and_read<R: Wait + Abort>(
+    rt: &R,
+    asking: &mut Asking<'_, R, Fnv, NoGate>,
+    alloc: Global,
+    byte: u8,
+) -> Result<Reader, StepFault> {
+    assert!(rt; is_set(asking, alloc, PAGE, byte)?);
+    Ok(read(asking, alloc, b'a'))
+}
+
+/// Changes of an item that leave its block.
+static CHANGES: [Row<'static>; 2] = [
+    (1000, b"a", Ask::Touch(5), Want::Told("touched")),
+    (1000, b"a", Ask::Delete, Want::Told("deleted")),
+];
+
+/// Checks that blocks of two readers stay where the item is changed, deleted and set.
+fn both_stay<R: Wait + Abort>(
+    rt: &R,
+    asking: &mut Asking<'_, R, Fnv, NoGate>,
+    alloc: Global,
+    old: &Reader,
+    new: &Reader,
+) -> Result<(), StepFault> {
+    assert!(rt; old.has(PAGE, b'x') && new.has(PAGE, b'y'));
+    assert_eq!(rt; first_unlike(asking, alloc, &CHANGES)?, None);
+    let last = set_and_read(rt, asking, alloc, b'z')?;
+    assert!(rt; last.has(PAGE, b'z') && old.has(PAGE, b'x') && new.has(PAGE, b'y'));
+    Ok(())
+}
+
 /// Checks that a block of a page is lent, and stays where the item is set, changed and deleted.
 fn block_stays<R: Wait + Abort>(
     rt: &R,
     asking: &mut Asking<'_, R, Fnv, NoGate>,
     alloc: Global,
 ) -> Result<(), StepFault> {
-    assert!(rt; is_set(asking, alloc, PAGE, b'x')?);
-    let old = read(asking, alloc, b'a');
+    let old = set_and_read(rt, asking, alloc, b'x')?;
     assert!(rt; (old.parts, old.lent) == (1, 1) && old.has(PAGE, b'x'));
-    assert!(rt; is_set(asking, alloc, PAGE, b'y')?);
-    let new = read(asking, alloc, b'a');
-    assert!(rt; old.has(PAGE, b'x') && new.has(PAGE, b'y'));
-    let rows: &[Row<'_>] = &[
-        (1000, b"a", Ask::Touch(5), Want::Told("touched")),
-        (1000, b"a", Ask::Delete, Want::Told("deleted")),
-    ];
-    assert_eq!(rt; first_unlike(asking, alloc, rows)?, None);
-    assert!(rt; is_set(asking, alloc, PAGE, b'z')?);
-    assert!(rt; old.has(PAGE, b'x') && new.has(PAGE, b'y'));
-    assert!(rt; read(asking, alloc, b'a').has(PAGE, b'z'));
-    Ok(())
+    let new = set_and_read(rt, asking, alloc, b'y')?;
+    both_stay(rt, asking, alloc, &old, &new)
 }
 
 #[test]

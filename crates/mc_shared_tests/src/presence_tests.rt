@@ -30,7 +30,7 @@ type Play = (u64, &'static [u8], Act);
 
 /// `a00` has the number of `a`; `ba` is on its shelf, with another number; `b` and `k` are on other
 /// shelves.
-const PURGES: [Play; 18] = [
+static PURGES: [Play; 18] = [
     (1000, b"b", Act::Absent(true)),
     (1000, b"a", Act::Absent(false)),
     (1000, b"a", Act::Delete),
@@ -52,7 +52,7 @@ const PURGES: [Play; 18] = [
 ];
 
 /// A flush after a delay drops the dead items, and from its moment on all are dead.
-const LATER: [Play; 13] = [
+static LATER: [Play; 13] = [
     (1000, b"a00", Act::Set(0)),
     (1000, b"b", Act::Set(5)),
     (1005, b"", Act::Flush(10)),
@@ -69,7 +69,7 @@ const LATER: [Play; 13] = [
 ];
 
 /// A flush without a delay drops all items.
-const AT_ONCE: [Play; 11] = [
+static AT_ONCE: [Play; 11] = [
     (1000, b"a00", Act::Set(0)),
     (1000, b"ba", Act::Set(10)),
     (1000, b"b", Act::Set(0)),

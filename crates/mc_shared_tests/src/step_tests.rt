@@ -17,7 +17,7 @@ fn are_answered<S: Steps>(store: &mut S, alloc: Global, rows: &[Row<'_>]) -> boo
 }
 
 /// Steps of a first caller, in a store that has `a` and `k`.
-const OF_FIRST: [Row<'static>; 4] = [
+static OF_FIRST: [Row<'static>; 4] = [
     (1000, b"a", Ask::Get, Want::Hit(1, b"x")),
     (1000, b"zz", Ask::Touch(0), Want::Told("not found")),
     (
@@ -35,7 +35,7 @@ const OF_FIRST: [Row<'static>; 4] = [
 ];
 
 /// Steps of one that it made.
-const OF_SECOND: [Row<'static>; 7] = [
+static OF_SECOND: [Row<'static>; 7] = [
     (1000, b"k", Ask::Get, Want::Hit(3, b"1")),
     (1000, b"k", Ask::Incr(4), Want::Number(5)),
     (1000, b"a", Ask::Delete, Want::Told("deleted")),
@@ -51,7 +51,7 @@ const OF_SECOND: [Row<'static>; 7] = [
 ];
 
 /// Steps in the store that is closed then.
-const OF_STORE: [Row<'static>; 2] = [
+static OF_STORE: [Row<'static>; 2] = [
     (1000, b"a", Ask::Get, Want::Told("miss")),
     (1000, b"k", Ask::Get, Want::Hit(5, b"2")),
 ];
@@ -77,7 +77,7 @@ fn steps_are_answered_as_by_a_store_of_one_thread(rt: HostRuntime) -> Result<(),
 }
 
 /// Steps on `a` in an empty store with one unique number left.
-const LAST: [(Ask<'static>, Want<'static>); 7] = [
+static LAST: [(Ask<'static>, Want<'static>); 7] = [
     (Ask::Store(Verb::Set, 0, b"x"), Want::Told("stored")),
     (Ask::Get, Want::Hit(18446744073709551614, b"x")),
     (Ask::Store(Verb::Set, 0, b"y"), Want::Told("numbers spent")),

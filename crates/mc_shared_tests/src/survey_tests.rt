@@ -157,7 +157,7 @@ fn reclaimed<R: Wait>(sole: &mut Sole<'_, R, Fnv>) -> [u64; 2] {
 ///
 /// The first numbers are those of a store with one shelf, which both keys have. A step that finds
 /// its key's item dead drops it, and it isn't counted.
-const DROPS: [(Row, [u64; 2], [u64; 2]); 10] = [
+static DROPS: [(Row, [u64; 2], [u64; 2]); 10] = [
     (FIRST, [0, 0], [0, 0]),
     (SECOND, [0, 0], [0, 0]),
     ((1009, b"a", Act::Tidy), [0, 0], [0, 0]),

@@ -131,23 +131,29 @@ fn first_untold<R: Wait>(
     first_unlike(&mut heard, alloc, rows)
 }
 
+static REPLIES: [Row<'static>; 12] = [
+    (1000, b"a", Ask::Get, Want::Hit(1, b"x")),
+    (1000, b"zz", Ask::Get, Want::Told("miss")),
+    (1000, b"zz", Ask::Gat(5), Want::Told("miss")),
+    (1000, b"a", Ask::Gat(10), Want::Hit(1, b"x")),
+    (1009, b"a", Ask::Get, Want::Hit(1, b"x")),
+    (1010, b"a", Ask::Get, Want::Told("miss")),
+    (1010, b"a", Ask::Gat(10), Want::Told("miss")),
+    (
+        1010,
+        b"k",
+        Ask::Store(Verb::Set, 0, b"7"),
+        Want::Told("stored"),
+    ),
+    (1010, b"k", Ask::Incr(4), Want::Number(11)),
+    (1010, b"k", Ask::Get, Want::Hit(4, b"11")),
+    (1010, b"", Ask::Flush(0), Want::Told("flushed")),
+    (1010, b"k", Ask::Get, Want::Told("miss")),
+];
+
 #[test]
 fn replies_are_told_as_they_are_given(rt: HostRuntime) -> Result<(), Fail> {
-    let rows: &[Row<'_>] = &[
-        (1000, b"a", Ask::Get, Want::Hit(1, b"x")),
-        (1000, b"zz", Ask::Get, Want::Told("miss")),
-        (1000, b"zz", Ask::Gat(5), Want::Told("miss")),
-        (1000, b"a", Ask::Gat(10), Want::Hit(1, b"x")),
-        (1009, b"a", Ask::Get, Want::Hit(1, b"x")),
-        (1010, b"a", Ask::Get, Want::Told("miss")),
-        (1010, b"a", Ask::Gat(10), Want::Told("miss")),
-        set(1010, b"k", 0, b"7", "stored"),
-        (1010, b"k", Ask::Incr(4), Want::Number(11)),
-        (1010, b"k", Ask::Get, Want::Hit(4, b"11")),
-        (1010, b"", Ask::Flush(0), Want::Told("flushed")),
-        (1010, b"k", Ask::Get, Want::Told("miss")),
-    ];
-    assert_eq!(rt; first_untold(&rt, rt.alloc(), rows)?, None);
+    assert_eq!(rt; first_untold(&rt, rt.alloc(), &REPLIES)?, None);
     Ok(())
 }
 
@@ -201,16 +207,18 @@ fn seen_unheard<R: Wait>(rt: &R, alloc: Global, rows: &[Row<'_>]) -> Result<Unhe
     Ok((told, unlike))
 }
 
+/// Reads behind replies that are refused.
+static UNHEARD: [Row<'static>; 2] = [
+    (1010, b"k", Ask::Get, Want::Hit(2, b"y")),
+    (1010, b"a", Ask::Get, Want::Hit(3, b"z")),
+];
+
 /// A refused hit isn't taken; its shelf is free and its item's expiry unchanged.
 ///
 /// Any other step is taken.
 #[test]
 fn a_hit_that_is_not_heard_is_not_taken(rt: HostRuntime) -> Result<(), Fail> {
-    let rows: &[Row<'_>] = &[
-        (1010, b"k", Ask::Get, Want::Hit(2, b"y")),
-        (1010, b"a", Ask::Get, Want::Hit(3, b"z")),
-    ];
-    let (told, unlike) = seen_unheard(&rt, rt.alloc(), rows)?;
+    let (told, unlike) = seen_unheard(&rt, rt.alloc(), &UNHEARD)?;
     assert_eq!(rt; told, ("not taken", "taken", true));
     assert_eq!(rt; unlike, None);
     Ok(())

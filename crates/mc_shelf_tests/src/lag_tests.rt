@@ -30,7 +30,7 @@ fn store_of(alloc: Global, keys: usize) -> Result<Store<ByLength>, AllocError> {
 /// homes is made. Its growth lags from the 193rd on, and is over with the 205th.
 #[test]
 fn a_growth_that_lags_is_moved_on_by_new_keys(rt: HostRuntime) -> Result<(), Fail> {
-    let rows: [(usize, usize); 9] = [
+    static ROWS: [(usize, usize); 9] = [
         (48, 0),
         (49, 48),
         (96, 48),
@@ -41,9 +41,9 @@ fn a_growth_that_lags_is_moved_on_by_new_keys(rt: HostRuntime) -> Result<(), Fai
         (193, 93),
         (205, 204),
     ];
-    for (keys, want) in rows {
-        let left = store_of(rt.alloc(), keys)?.grow(0, 1000);
-        assert!(rt; left == want, "{left} are left after {keys} keys");
+    for (keys, want) in &ROWS {
+        let left = store_of(rt.alloc(), *keys)?.grow(0, 1000);
+        assert!(rt; left == *want, "{left} are left after {keys} keys");
     }
     Ok(())
 }
@@ -53,7 +53,7 @@ fn a_growth_that_lags_is_moved_on_by_new_keys(rt: HostRuntime) -> Result<(), Fai
 fn a_shelf_counts_what_its_table_has(rt: HostRuntime) -> Result<(), Fail> {
     // The number of keys, and then: the homes, whether the table grows, and the entries left to
     // move.
-    let rows: [(usize, u64, bool, u64); 6] = [
+    static ROWS: [(usize, u64, bool, u64); 6] = [
         (0, 64, false, 0),
         (48, 64, false, 0),
         (49, 128, true, 48),
@@ -61,13 +61,13 @@ fn a_shelf_counts_what_its_table_has(rt: HostRuntime) -> Result<(), Fail> {
         (102, 256, true, 101),
         (205, 512, true, 204),
     ];
-    for (keys, homes, growing, left) in rows {
-        let store = store_of(rt.alloc(), keys)?;
+    for (keys, homes, growing, left) in &ROWS {
+        let store = store_of(rt.alloc(), *keys)?;
         let want = ShelfCounts {
-            items: keys as u64,
-            homes,
-            growing,
-            left,
+            items: *keys as u64,
+            homes: *homes,
+            growing: *growing,
+            left: *left,
             strays: 0,
         };
         assert!(rt; counts(store) == Some(want), "after {keys} keys");

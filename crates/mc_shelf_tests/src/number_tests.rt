@@ -6,7 +6,7 @@ use crate::stores::open_with;
 use mc_hop::{Constant, KeyHash};
 use mc_protocol::Verb;
 use mc_shelf::{Shelf, Store};
-use mc_testing::{Ask, Row, Want, ask_step, filled_block, first_unlike, set, step_of};
+use mc_testing::{Ask, Row, Want, ask_step, filled_block, first_unlike, step_of};
 use mc_time::Moment;
 use std::alloc::{AllocError, Global};
 use std::process::Abort;
@@ -132,33 +132,45 @@ fn begun_at(alloc: Global, shelf: &mut Shelf, seconds: u64) -> Option<(usize, us
     Some((chunks.len(), shelf.len()))
 }
 
+/// Items that die at different moments, and one that lives on.
+static DIE_LATER: [Row<'static>; 5] = [
+    (1000, b"a", TEN, STORED),
+    (1000, b"b", X, STORED),
+    (1000, b"c", FIVE, STORED),
+    (1000, b"d", Ask::Store(Verb::Set, 20, b"x"), STORED),
+    (1000, b"e", TEN, STORED),
+];
+
+/// The second, the items that are removed, and those that are left.
+static BEGUN: [(u64, usize, usize); 5] = [
+    (1004, 0, 5),
+    (1005, 1, 4),
+    (1010, 2, 2),
+    (1015, 0, 2),
+    (1020, 1, 1),
+];
+
+/// Checks purges of a shelf that has those items.
+fn purges_begin(rt: &impl Abort, alloc: Global, shelf: &mut Shelf) {
+    for (seconds, gone, stay) in &BEGUN {
+        assert_eq!(rt; begun_at(alloc, shelf, *seconds), Some((*gone, *stay)));
+    }
+}
+
+/// Returns a store of those items, in its first shelf.
+fn store_of_five(rt: &impl Abort, alloc: Global) -> Result<Store<Constant>, Fail> {
+    let mut store = open_with(alloc, 64, Constant(5056))?;
+    assert_eq!(rt; first_unlike(&mut store, alloc, &DIE_LATER)?, None);
+    Ok(store)
+}
+
 /// Dead items are removed once the purge has begun, and their chunks are kept for the desk.
 #[test]
 fn a_purge_begins_at_the_shelf_alone(rt: HostRuntime) -> Result<(), Fail> {
-    let rows = [
-        set(1000, b"a", 10, b"x", "stored"),
-        set(1000, b"b", 0, b"x", "stored"),
-        set(1000, b"c", 5, b"x", "stored"),
-        set(1000, b"d", 20, b"x", "stored"),
-        set(1000, b"e", 10, b"x", "stored"),
-    ];
-    let alloc = rt.alloc();
-    let mut store = open_with(alloc, 64, Constant(5056))?;
-    assert_eq!(rt; first_unlike(&mut store, alloc, &rows)?, None);
-    let mut shelves = store.into_parts().shelves;
-    // the second, the items that are removed, and those that are left
-    for (seconds, gone, stay) in [
-        (1004, 0, 5),
-        (1005, 1, 4),
-        (1010, 2, 2),
-        (1015, 0, 2),
-        (1020, 1, 1),
-    ] {
-        let has = match shelves.first_mut() {
-            Some(shelf) => begun_at(alloc, shelf, seconds),
-            None => None,
-        };
-        assert_eq!(rt; has, Some((gone, stay)));
+    let mut shelves = store_of_five(&rt, rt.alloc())?.into_parts().shelves;
+    match shelves.first_mut() {
+        Some(shelf) => purges_begin(&rt, rt.alloc(), shelf),
+        None => assert!(rt; false),
     }
     Ok(())
 }
@@ -187,7 +199,7 @@ fn store_of<K: KeyHash + Drop + Copy>(
 #[test]
 fn keys_are_counted_by_their_numbers(rt: HostRuntime) -> Result<(), Fail> {
     // The number of keys, a number, and how many keys have it.
-    let rows: [(usize, usize, u64); 12] = [
+    static ROWS: [(usize, usize, u64); 12] = [
         (0, 256, 0),
         (1, 256, 1),
         (1, 0, 0),
@@ -201,10 +213,10 @@ fn keys_are_counted_by_their_numbers(rt: HostRuntime) -> Result<(), Fail> {
         (100, 1024, 7),
         (250, 3840, 15),
     ];
-    for (many, number, want) in rows {
-        let mut store = store_of(rt.alloc(), ByLength, many)?;
-        let (_, has) = keys(&mut store, number);
-        assert!(rt; has == want, "{has} of {number} after {many} keys");
+    for (many, number, want) in &ROWS {
+        let mut store = store_of(rt.alloc(), ByLength, *many)?;
+        let (_, has) = keys(&mut store, *number);
+        assert!(rt; has == *want, "{has} of {number} after {many} keys");
     }
     Ok(())
 }
@@ -222,11 +234,15 @@ fn apart<K: KeyHash + Drop>(store: Store<K>) -> (u64, u64) {
 /// So the 33rd is a stray, and with the 34th a growth begins.
 #[test]
 fn keys_that_find_no_bucket_are_strays(rt: HostRuntime) -> Result<(), Fail> {
-    let rows: [(usize, (u64, u64)); 4] = [(32, (0, 0)), (33, (1, 0)), (34, (1, 30)), (35, (1, 28))];
-    for (many, want) in rows {
-        let store = store_of(rt.alloc(), Constant(0), many)?;
-        let has = apart(store);
-        assert!(rt; has == want, "{} and {} after {many} keys", has.0, has.1);
+    static ROWS: [(usize, (u64, u64)); 4] = [
+        (32, (0, 0)),
+        (33, (1, 0)),
+        (34, (1, 30)),
+        (35, (1, 28)),
+    ];
+    for (many, want) in &ROWS {
+        let has = apart(store_of(rt.alloc(), Constant(0), *many)?);
+        assert!(rt; has == *want, "{} and {} after {many} keys", has.0, has.1);
     }
     Ok(())
 }
@@ -234,7 +250,7 @@ fn keys_that_find_no_bucket_are_strays(rt: HostRuntime) -> Result<(), Fail> {
 /// Keys of one hash: a table takes 32, and the others are strays. From the 34th on a growth runs.
 #[test]
 fn strays_are_counted(rt: HostRuntime) -> Result<(), Fail> {
-    let rows: [(usize, usize, u64); 8] = [
+    static ROWS: [(usize, usize, u64); 8] = [
         (32, 0, 32),
         (33, 0, 33),
         (34, 0, 34),
@@ -244,11 +260,11 @@ fn strays_are_counted(rt: HostRuntime) -> Result<(), Fail> {
         (40, 4095, 0),
         (120, 0, 120),
     ];
-    for (many, number, want) in rows {
-        let mut store = store_of(rt.alloc(), Constant(0), many)?;
-        let has = keys(&mut store, number);
+    for (many, number, want) in &ROWS {
+        let mut store = store_of(rt.alloc(), Constant(0), *many)?;
+        let has = keys(&mut store, *number);
         assert!(rt;
-            has == (many, want),
+            has == (*many, *want),
             "{} of {number} after {many} keys",
             has.1
         );

@@ -22,19 +22,19 @@ use std::test::*;
 /// then.
 #[test]
 fn the_item_is_the_new_one(rt: HostRuntime) -> Result<(), Fail> {
-    let rows: [Row<'_>; 9] = [
-        set(1000, b"k", 10, b"one", "stored"),
-        set(1001, b"k", 0, b"two", "stored"),
+    static ROWS: [Row<'static>; 9] = [
+        (1000, b"k", Ask::Store(Verb::Set, 10, b"one"), STORED),
+        (1001, b"k", Ask::Store(Verb::Set, 0, b"two"), STORED),
         (1010, b"k", Ask::Get, Want::Hit(2, b"two")),
         (1010, b"k", Ask::Flush(10), Want::Told("flushed")),
         (1019, b"k", Ask::Get, Want::Hit(2, b"two")),
-        set(1020, b"k", 5, b"three", "stored"),
-        set(1020, b"k", 30, b"", "stored"),
+        (1020, b"k", Ask::Store(Verb::Set, 5, b"three"), STORED),
+        (1020, b"k", Ask::Store(Verb::Set, 30, b""), STORED),
         (1049, b"k", Ask::Get, Want::Hit(4, b"")),
         (1050, b"k", Ask::Get, Want::Told("miss")),
     ];
     let mut store = open(rt.alloc(), 4)?;
-    answers(&rt, rt.alloc(), &mut store, &rows)
+    answers(&rt, rt.alloc(), &mut store, &ROWS)
 }
 
 /// Sets the key `k` with these flags, and returns whether the step was taken.
@@ -62,15 +62,41 @@ fn flags_of(store: &mut Store<Fnv>, alloc: Global) -> Option<u32> {
     }
 }
 
+static FLAGS: [u32; 3] = [1, 2, 0];
+
+/// Checks that an item has the flags with which it was set.
+fn has_its_flags(rt: &impl Abort, alloc: Global, store: &mut Store<Fnv>, flags: u32) {
+    let stored = set_flags(store, alloc, flags);
+    assert!(rt; stored, "with flags {flags}");
+    let read = flags_of(store, alloc);
+    assert_eq!(rt; read, Some(flags));
+}
+
 #[test]
 fn the_flags_are_the_new_ones(rt: HostRuntime) -> Result<(), Fail> {
-    let alloc = rt.alloc();
-    let mut store = open(alloc, 4)?;
-    for flags in [1, 2, 0] {
-        let stored = set_flags(&mut store, alloc, flags);
-        assert!(rt; stored, "with flags {flags}");
-        let read = flags_of(&mut store, alloc);
-        assert_eq!(rt; read, Some(flags));
+    let mut store = open(rt.alloc(), 4)?;
+    for flags in &FLAGS {
+        has_its_flags(&rt, rt.alloc(), &mut store, *flags);
+    }
+    Ok(())
+}
+
+const STORED: Want<'static> = Want::Told("stored");
+
+/// Rows, and the chunks out of the smallest class after each.
+static KEEP_THE_ACCOUNT: [(Row<'static>, u32); 5] = [
+    ((1000, b"k", Ask::Store(Verb::Set, 0, b"one"), STORED), 1),
+    ((1000, b"k", Ask::Store(Verb::Set, 0, b"two"), STORED), 1),
+    ((1000, b"k", Ask::Store(Verb::Set, 0, b"three"), STORED), 1),
+    ((1000, b"k", Ask::Delete, Want::Told("deleted")), 0),
+    ((1000, b"k", Ask::Store(Verb::Set, 0, b"four"), STORED), 1),
+];
+
+/// Checks after each row the account of the smallest class, which has one page.
+fn keeps_the_account(rt: &impl Abort, alloc: Global, store: &mut Store<Fnv>) -> Result<(), Fail> {
+    for (row, want) in &KEEP_THE_ACCOUNT {
+        answers(rt, alloc, store, &[*row])?;
+        assert_eq!(rt; account(store, 96), (1, *want));
     }
     Ok(())
 }
@@ -78,20 +104,8 @@ fn the_flags_are_the_new_ones(rt: HostRuntime) -> Result<(), Fail> {
 /// The smallest class has a page and one chunk out after each set, and none after the delete.
 #[test]
 fn the_account_of_the_class_stays(rt: HostRuntime) -> Result<(), Fail> {
-    let rows: [(Row<'_>, u32); 5] = [
-        (set(1000, b"k", 0, b"one", "stored"), 1),
-        (set(1000, b"k", 0, b"two", "stored"), 1),
-        (set(1000, b"k", 0, b"three", "stored"), 1),
-        ((1000, b"k", Ask::Delete, Want::Told("deleted")), 0),
-        (set(1000, b"k", 0, b"four", "stored"), 1),
-    ];
-    let alloc = rt.alloc();
-    let mut store = open(alloc, 1)?;
-    for (row, want) in rows {
-        answers(&rt, alloc, &mut store, &[row])?;
-        assert_eq!(rt; account(&mut store, 96), (1, want));
-    }
-    Ok(())
+    let mut store = open(rt.alloc(), 1)?;
+    keeps_the_account(&rt, rt.alloc(), &mut store)
 }
 
 // A page has one chunk for a block of 600,000 bytes.
@@ -177,27 +191,33 @@ fn moves_between(
     Ok(())
 }
 
+static JOINED: [Row<'static>; 12] = [
+    (1000, b"k", Ask::Store(Verb::Set, 10, b"one"), STORED),
+    (1009, b"k", Ask::Store(Verb::Append, 0, b"two"), STORED),
+    (1009, b"k", Ask::Get, Want::Hit(2, b"onetwo")),
+    (
+        1010,
+        b"k",
+        Ask::Store(Verb::Append, 0, b"three"),
+        Want::Told("not stored"),
+    ),
+    (1010, b"k", Ask::Get, Want::Told("miss")),
+    (1010, b"k", Ask::Store(Verb::Set, 0, b"x"), STORED),
+    (1010, b"k", Ask::Flush(10), Want::Told("flushed")),
+    (1019, b"k", Ask::Store(Verb::Append, 0, b"y"), STORED),
+    (1020, b"k", Ask::Get, Want::Told("miss")),
+    (1020, b"k", Ask::Store(Verb::Set, 0, b"z"), STORED),
+    (1021, b"k", Ask::Store(Verb::Append, 0, b"!"), STORED),
+    (1021, b"k", Ask::Get, Want::Hit(6, b"z!")),
+];
+
 /// A join keeps the expiry, and has its own moment: a flush at 1020 drops what was joined before.
 ///
 /// Nothing is joined to a dead item. No key is read before its join.
 #[test]
 fn a_join_is_of_its_moment(rt: HostRuntime) -> Result<(), Fail> {
-    let rows: [Row<'_>; 12] = [
-        set(1000, b"k", 10, b"one", "stored"),
-        join(1009, Verb::Append, b"two", "stored"),
-        (1009, b"k", Ask::Get, Want::Hit(2, b"onetwo")),
-        join(1010, Verb::Append, b"three", "not stored"),
-        (1010, b"k", Ask::Get, Want::Told("miss")),
-        set(1010, b"k", 0, b"x", "stored"),
-        (1010, b"k", Ask::Flush(10), Want::Told("flushed")),
-        join(1019, Verb::Append, b"y", "stored"),
-        (1020, b"k", Ask::Get, Want::Told("miss")),
-        set(1020, b"k", 0, b"z", "stored"),
-        join(1021, Verb::Append, b"!", "stored"),
-        (1021, b"k", Ask::Get, Want::Hit(6, b"z!")),
-    ];
     let mut store = open(rt.alloc(), 4)?;
-    assert_eq!(rt; first_unread(&mut store, rt.alloc(), &rows), None);
+    assert_eq!(rt; first_unread(&mut store, rt.alloc(), &JOINED), None);
     Ok(())
 }
 

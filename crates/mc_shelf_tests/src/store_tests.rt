@@ -81,69 +81,65 @@ fn answers_with_each(rt: &impl Abort, alloc: Global, rows: &[Row<'_>]) -> Result
 
 #[test]
 fn each_key_has_its_item(rt: HostRuntime) -> Result<(), Fail> {
-    let rows: [Row<'_>; 11] = [
+    static ROWS: [Row<'static>; 11] = [
         (1000, b"a", Ask::Get, Want::Told("miss")),
-        set(1000, b"a", 0, b"x", "stored"),
-        set(1000, b"b", 0, b"y", "stored"),
-        set(1000, b"k", 0, b"9", "stored"),
+        (1000, b"a", Ask::Store(Verb::Set, 0, b"x"), STORED),
+        (1000, b"b", Ask::Store(Verb::Set, 0, b"y"), STORED),
+        (1000, b"k", Ask::Store(Verb::Set, 0, b"9"), STORED),
         (1000, b"k", Ask::Incr(1), Want::Number(10)),
         (1000, b"a", Ask::Get, Want::Hit(1, b"x")),
         (1000, b"b", Ask::Delete, Want::Told("deleted")),
         (1000, b"b", Ask::Delete, Want::Told("not found")),
         (1000, b"k", Ask::Get, Want::Hit(4, b"10")),
-        set(1000, b"a", 0, b"z", "stored"),
+        (1000, b"a", Ask::Store(Verb::Set, 0, b"z"), STORED),
         (1000, b"a", Ask::Get, Want::Hit(5, b"z")),
     ];
-    answers_with_each(&rt, rt.alloc(), &rows)
+    answers_with_each(&rt, rt.alloc(), &ROWS)
 }
+
+static FLUSHES: [Row<'static>; 14] = [
+    (1000, b"a", Ask::Store(Verb::Set, 0, b"x"), STORED),
+    (1000, b"k", Ask::Flush(10), Want::Told("flushed")),
+    (1005, b"b", Ask::Store(Verb::Set, 0, b"y"), STORED),
+    (1009, b"a", Ask::Get, Want::Hit(1, b"x")),
+    (1010, b"a", Ask::Get, Want::Told("miss")),
+    (1010, b"b", Ask::Get, Want::Told("miss")),
+    (1010, b"a", Ask::Store(Verb::Set, 0, b"z"), STORED),
+    (1010, b"k", Ask::Store(Verb::Set, 0, b"w"), STORED),
+    (1011, b"a", Ask::Get, Want::Hit(3, b"z")),
+    (1011, b"b", Ask::Flush(0), Want::Told("flushed")),
+    (1011, b"a", Ask::Get, Want::Told("miss")),
+    (1011, b"k", Ask::Get, Want::Told("miss")),
+    (1011, b"b", Ask::Store(Verb::Set, 0, b"v"), STORED),
+    (1011, b"b", Ask::Get, Want::Hit(5, b"v")),
+];
 
 #[test]
 fn a_flush_reaches_all_shelves(rt: HostRuntime) -> Result<(), Fail> {
-    let rows: [Row<'_>; 14] = [
-        set(1000, b"a", 0, b"x", "stored"),
-        (1000, b"k", Ask::Flush(10), Want::Told("flushed")),
-        set(1005, b"b", 0, b"y", "stored"),
-        (1009, b"a", Ask::Get, Want::Hit(1, b"x")),
-        (1010, b"a", Ask::Get, Want::Told("miss")),
-        (1010, b"b", Ask::Get, Want::Told("miss")),
-        set(1010, b"a", 0, b"z", "stored"),
-        set(1010, b"k", 0, b"w", "stored"),
-        (1011, b"a", Ask::Get, Want::Hit(3, b"z")),
-        (1011, b"b", Ask::Flush(0), Want::Told("flushed")),
-        (1011, b"a", Ask::Get, Want::Told("miss")),
-        (1011, b"k", Ask::Get, Want::Told("miss")),
-        set(1011, b"b", 0, b"v", "stored"),
-        (1011, b"b", Ask::Get, Want::Hit(5, b"v")),
-    ];
-    answers_with_each(&rt, rt.alloc(), &rows)
+    answers_with_each(&rt, rt.alloc(), &FLUSHES)
 }
 
 #[test]
 fn a_key_is_written_in_chunks(rt: HostRuntime) -> Result<(), Fail> {
-    let rows: [Row<'_>; 10] = [
+    static ROWS: [Row<'static>; 10] = [
         (1000, b"k", Ask::Get, Want::Told("miss")),
-        set(1000, b"k", 0, b"1", "stored"),
+        (1000, b"k", Ask::Store(Verb::Set, 0, b"1"), STORED),
         (
             1000,
             b"k",
             Ask::Store(Verb::Add, 0, b"2"),
             Want::Told("not stored"),
         ),
-        (
-            1000,
-            b"k",
-            Ask::Store(Verb::Append, 0, b"0"),
-            Want::Told("stored"),
-        ),
+        (1000, b"k", Ask::Store(Verb::Append, 0, b"0"), STORED),
         (1000, b"k", Ask::Incr(5), Want::Number(15)),
         (1000, b"k", Ask::Cas(1, b"x"), Want::Told("exists")),
-        (1000, b"k", Ask::Cas(3, b"x"), Want::Told("stored")),
+        (1000, b"k", Ask::Cas(3, b"x"), STORED),
         (1000, b"k", Ask::Incr(5), Want::Told("not numeric")),
         (1000, b"k", Ask::Delete, Want::Told("deleted")),
         (1000, b"k", Ask::Delete, Want::Told("not found")),
     ];
     let mut store = open(rt.alloc(), 1)?;
-    answers(&rt, rt.alloc(), &mut store, &rows)
+    answers(&rt, rt.alloc(), &mut store, &ROWS)
 }
 
 /// Drops the dead items of all shelves.
@@ -204,33 +200,74 @@ fn told_once(store: &mut Store<Fnv>, alloc: Global, key: u8, ask: Ask<'_>) -> &'
     told_of(&store.step(alloc, &step, now))
 }
 
+/// Checks what each step on a key of one byte is told at 1000. None is tried again.
+fn are_told_once(
+    rt: &impl Abort,
+    alloc: Global,
+    store: &mut Store<Fnv>,
+    asks: &[(u8, Ask<'_>)],
+    want: &str,
+) {
+    for (key, ask) in asks {
+        let told = told_once(store, alloc, *key, *ask);
+        assert!(rt; told == want, "{told}");
+    }
+}
+
+/// The one number that is left, and steps that need none.
+static LAST: [Row<'static>; 1] = [(1000, b"k", Ask::Store(Verb::Set, 0, b"1"), STORED)];
+
+static NEED_NONE: [Row<'static>; 3] = [
+    (1000, b"k", Ask::Get, Want::Hit(u64::MAX - 1, b"1")),
+    (1000, b"n", Ask::Get, Want::Told("miss")),
+    (1000, b"k", Ask::Delete, Want::Told("deleted")),
+];
+
+/// Writes that need a number.
+static NEED_ONE: [(u8, Ask<'static>); 3] = [
+    (b'k', Ask::Store(Verb::Set, 0, b"2")),
+    (b'n', Ask::Store(Verb::Set, 0, b"2")),
+    (b'k', Ask::Incr(14)),
+];
+
+/// Checks a store with one unique number left.
+fn numbers_are_spent(rt: &impl Abort, alloc: Global, store: &mut Store<Fnv>) -> Result<(), Fail> {
+    answers(rt, alloc, store, &LAST)?;
+    are_told_once(rt, alloc, store, &NEED_ONE, "numbers spent");
+    answers(rt, alloc, store, &NEED_NONE)
+}
+
 /// The one number left is used, and then each write gets the error that the numbers are used up.
 ///
 /// A new key's write does too, whatever memory there is. A step that needs no number goes on.
 #[test]
 fn spent_numbers_are_told(rt: HostRuntime) -> Result<(), Fail> {
-    let alloc = rt.alloc();
-    let mut store = open_at_the_last(alloc)?;
-    answers(
-        &rt,
-        alloc,
-        &mut store,
-        &[set(1000, b"k", 0, b"1", "stored")],
-    )?;
-    for (key, ask) in [
-        (b'k', Ask::Store(Verb::Set, 0, b"2")),
-        (b'n', Ask::Store(Verb::Set, 0, b"2")),
-        (b'k', Ask::Incr(14)),
-    ] {
-        let told = told_once(&mut store, alloc, key, ask);
-        assert!(rt; told == "numbers spent", "{told}");
-    }
-    let rows: [Row<'_>; 3] = [
-        (1000, b"k", Ask::Get, Want::Hit(u64::MAX - 1, b"1")),
-        (1000, b"n", Ask::Get, Want::Told("miss")),
-        (1000, b"k", Ask::Delete, Want::Told("deleted")),
-    ];
-    answers(&rt, alloc, &mut store, &rows)
+    let mut store = open_at_the_last(rt.alloc())?;
+    numbers_are_spent(&rt, rt.alloc(), &mut store)
+}
+
+/// A block of 60 bytes, a number with spaces behind it.
+const LONG: &[u8] = b"9                                                           ";
+
+/// A row that takes the one page for the class of its item.
+static TAKES_THE_PAGE: [Row<'static>; 1] = [(1000, b"k", Ask::Store(Verb::Set, 0, LONG), STORED)];
+
+/// Writes that ask for a chunk of another class.
+static NEED_A_PAGE: [(u8, Ask<'static>); 2] = [
+    (b'k', Ask::Incr(6)),
+    (b'n', Ask::Store(Verb::Set, 0, b"2")),
+];
+
+static NEED_NO_PAGE: [Row<'static>; 2] = [
+    (1000, b"k", Ask::Get, Want::Hit(1, LONG)),
+    (1000, b"k", Ask::Store(Verb::Append, 0, b" "), STORED),
+];
+
+/// Checks a store of one page.
+fn no_chunk_is_left(rt: &impl Abort, alloc: Global, store: &mut Store<Fnv>) -> Result<(), Fail> {
+    answers(rt, alloc, store, &TAKES_THE_PAGE)?;
+    are_told_once(rt, alloc, store, &NEED_A_PAGE, "no chunk");
+    answers(rt, alloc, store, &NEED_NO_PAGE)
 }
 
 /// The one page goes to the class of the longer item.
@@ -238,29 +275,8 @@ fn spent_numbers_are_told(rt: HostRuntime) -> Result<(), Fail> {
 /// A write without a chunk gets that reply at once, a new key's too, whatever memory there is.
 #[test]
 fn a_chunk_that_is_not_left_is_told(rt: HostRuntime) -> Result<(), Fail> {
-    let alloc = rt.alloc();
-    let mut store = open(alloc, 1)?;
-    let long = b"9                                                           ";
-    answers(
-        &rt,
-        alloc,
-        &mut store,
-        &[set(1000, b"k", 0, long, "stored")],
-    )?;
-    for (key, ask) in [(b'k', Ask::Incr(6)), (b'n', Ask::Store(Verb::Set, 0, b"2"))] {
-        let told = told_once(&mut store, alloc, key, ask);
-        assert!(rt; told == "no chunk", "{told}");
-    }
-    let rows: [Row<'_>; 2] = [
-        (1000, b"k", Ask::Get, Want::Hit(1, long)),
-        (
-            1000,
-            b"k",
-            Ask::Store(Verb::Append, 0, b" "),
-            Want::Told("stored"),
-        ),
-    ];
-    answers(&rt, alloc, &mut store, &rows)
+    let mut store = open(rt.alloc(), 1)?;
+    no_chunk_is_left(&rt, rt.alloc(), &mut store)
 }
 
 // A page has one chunk for a charge above 493552 bytes, and this store has one page.
@@ -397,13 +413,13 @@ fn tells_of_dead(
 
 #[test]
 fn a_store_of_parts_answers_as_before(rt: HostRuntime) -> Result<(), Fail> {
-    let first: [Row<'_>; 4] = [
-        set(1000, b"a", 0, b"x", "stored"),
-        set(1000, b"b", 10, b"y", "stored"),
-        set(1000, b"k", 0, b"9", "stored"),
+    static FIRST: [Row<'static>; 4] = [
+        (1000, b"a", Ask::Store(Verb::Set, 0, b"x"), STORED),
+        (1000, b"b", Ask::Store(Verb::Set, 10, b"y"), STORED),
+        (1000, b"k", Ask::Store(Verb::Set, 0, b"9"), STORED),
         (1000, b"k", Ask::Flush(20), Want::Told("flushed")),
     ];
-    let then: [Row<'_>; 6] = [
+    static THEN: [Row<'static>; 6] = [
         (1001, b"a", Ask::Get, Want::Hit(1, b"x")),
         (1001, b"k", Ask::Incr(1), Want::Number(10)),
         (1001, b"k", Ask::Get, Want::Hit(4, b"10")),
@@ -412,10 +428,10 @@ fn a_store_of_parts_answers_as_before(rt: HostRuntime) -> Result<(), Fail> {
         (1020, b"a", Ask::Get, Want::Told("miss")),
     ];
     let mut store = open(rt.alloc(), 64)?;
-    answers(&rt, rt.alloc(), &mut store, &first)?;
+    answers(&rt, rt.alloc(), &mut store, &FIRST)?;
     let mut store = remade(store);
     assert_eq!(rt; store.settings().shelves, 64);
-    answers(&rt, rt.alloc(), &mut store, &then)
+    answers(&rt, rt.alloc(), &mut store, &THEN)
 }
 
 /// Returns the reply to a step on the key of one byte at 1000.
@@ -426,28 +442,46 @@ fn answered(store: &mut Store<Constant>, alloc: Global, key: u8, ask: Ask<'_>) -
     told_of(&ask_step(store, alloc, &step, now))
 }
 
+/// Checks how many entries of a shelf's old table are moved, of 8.
+fn are_moved(rt: &impl Abort, store: &mut Store<Constant>, shelf: u32, want: usize) {
+    let moved = store.grow(shelf, 8);
+    assert!(rt; moved == want, "{moved} were moved, not {want}");
+}
+
+/// Sets 40 keys, and checks how many entries are moved after each.
+fn keys_move_entries(rt: &impl Abort, alloc: Global, store: &mut Store<Constant>) {
+    for key in 1..41 {
+        let told = answered(store, alloc, key, Ask::Store(Verb::Set, 0, b"x"));
+        assert!(rt; told == "stored", "{told} at key {key}");
+        are_moved(rt, store, 0, if key < 34 { 0 } else { 8 });
+    }
+}
+
+/// Checks that the 40 keys are there.
+fn keys_are_there(rt: &impl Abort, alloc: Global, store: &mut Store<Constant>) {
+    for key in 1..41 {
+        let told = answered(store, alloc, key, Ask::Get);
+        assert!(rt; told == "hit", "{told}");
+    }
+}
+
+/// Checks what is left to move then: 8 entries of the first shelf.
+fn eight_are_left(rt: &impl Abort, store: &mut Store<Constant>) {
+    are_moved(rt, store, 64, 0);
+    are_moved(rt, store, 0, 8);
+    are_moved(rt, store, 0, 0);
+}
+
 /// Keys of one hash: a table takes 32, and the others are strays.
 ///
 /// The table of 64 homes grows before the 34th comes, since there is a stray, and that of 128
 /// before the 38th. Each has 32 entries then, and 8 are moved after each key.
 #[test]
 fn entries_are_moved_while_a_table_grows(rt: HostRuntime) -> Result<(), Fail> {
-    let alloc = rt.alloc();
-    let mut store = open_with(alloc, 1, Constant(0))?;
-    for key in 1..41 {
-        let told = answered(&mut store, alloc, key, Ask::Store(Verb::Set, 0, b"x"));
-        assert!(rt; told == "stored", "{told}");
-        let moved = store.grow(0, 8);
-        let want = if key < 34 { 0 } else { 8 };
-        assert!(rt; moved == want, "{moved} were moved after key {key}");
-    }
-    for key in 1..41 {
-        let told = answered(&mut store, alloc, key, Ask::Get);
-        assert!(rt; told == "hit", "{told}");
-    }
-    assert_eq!(rt; store.grow(64, 8), 0);
-    assert_eq!(rt; store.grow(0, 8), 8);
-    assert_eq!(rt; store.grow(0, 8), 0);
+    let mut store = open_with(rt.alloc(), 1, Constant(0))?;
+    keys_move_entries(&rt, rt.alloc(), &mut store);
+    keys_are_there(&rt, rt.alloc(), &mut store);
+    eight_are_left(&rt, &mut store);
     Ok(())
 }
 
@@ -469,12 +503,7 @@ fn a_step_in_two_parts_is_the_whole_step(rt: HostRuntime) -> Result<(), Fail> {
         (1009, b"k", Ask::Get, Want::Hit(3, &long[..60])),
         set(1010, b"k", 0, &long[..61], "stored"),
         (1010, b"k", Ask::Get, Want::Hit(4, &long[..61])),
-        (
-            1010,
-            b"k",
-            Ask::Store(Verb::Append, 0, b"x"),
-            Want::Told("stored"),
-        ),
+        (1010, b"k", Ask::Store(Verb::Append, 0, b"x"), STORED),
         (1010, b"k", Ask::Get, Want::Hit(5, &long)),
         set(1010, b"k", 0, b"99", "stored"),
         (1010, b"k", Ask::Incr(1), Want::Number(100)),
