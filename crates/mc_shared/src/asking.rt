@@ -1,10 +1,8 @@
 //! A caller that takes steps as a session needs them.
-ghost use Rattle.std.specs.Prelude.{◌≡◌, ◌<◌, ◌≤◌, length, Err, IfOk, IfErr, OnErr};
-ghost use Rattle.mc_protocol.specs.Commands.{key_of};
+ghost use Rattle.std.specs.Prelude.{◌≡◌, ◌<◌, ◌≤◌};
 ghost use Rattle.mc_shared.specs.Asking.{AsksOnce, AsksStep, AsksInVain};
 ghost use Rattle.mc_shared.specs.History.{start_of, shelf_in, Purged};
-ghost use Rattle.mc_shared.specs.Past.{call};
-ghost use Rattle.mc_shared.specs.Steps.{entry_of, Agrees};
+ghost use Rattle.mc_shared.specs.Steps.{Agrees};
 
 use crate::patience::{Gate, Waiting};
 use crate::steps::reload;

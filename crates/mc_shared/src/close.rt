@@ -3,8 +3,7 @@ ghost use Rattle.std.specs.Prelude.{◌≡◌, ◌<◌, ◌≤◌, [], ℕ, vec_
 ghost use Rattle.mc_shared.specs.Shown.{SharedState, CallerState};
 ghost use Rattle.mc_shared.specs.History.{start_of};
 ghost use Rattle.mc_shared.specs.Past.{Whole};
-ghost use Rattle.mc_shared.specs.Seats.{SameSeat, RestsAt, shelves_at, start_at};
-ghost use Rattle.mc_shared.specs.Stacks.{holds_all};
+ghost use Rattle.mc_shared.specs.Seats.{RestsAt, shelves_at, start_at};
 ghost use Rattle.mc_shared.specs.Close.{Gathered, IsAfter};
 
 use crate::boxed::Boxed;

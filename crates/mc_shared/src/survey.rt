@@ -4,8 +4,7 @@
 //! a legal history that keeps the caller's past.
 ghost use Rattle.std.specs.Prelude.{◌≡◌, ◌*◌, ◌<◌, ◌≤◌};
 ghost use Rattle.mc_slab.specs.Classes.{chunks_a_page};
-ghost use Rattle.mc_slab.specs.Slabs.{pages_of, out_of};
-ghost use Rattle.mc_shelf.specs.Counts.{FitTogether, counts_of};
+ghost use Rattle.mc_shelf.specs.Counts.{FitTogether};
 ghost use Rattle.mc_shared.specs.History.{start_of};
 ghost use Rattle.mc_shared.specs.Steps.{Agrees};
 ghost use Rattle.mc_shared.specs.Survey.{AreCountsAfter, IsAccountAfter};

@@ -3,7 +3,7 @@
 //! A channel owns a connection's stream, its entry among the open connections, its readiness and
 //! its counters, and is a link over them. It is proved for any stream: contracts see the bytes that
 //! the stream gave and took, and how each answer comes of the stream's answer and the readiness.
-ghost use Rattle.std.specs.Prelude.{◌≡◌, ◌≤◌, ◌+◌, ◌++◌, length};
+ghost use Rattle.std.specs.Prelude.{◌≡◌, ◌+◌, ◌++◌, length};
 ghost use Rattle.mc_sockets.specs.Channels.{ReadsBy, WritesBy};
 ghost use Rattle.mc_sockets.specs.Streams.{MovesIn, MovesOut};
 

@@ -3,7 +3,7 @@
 //! A connection that is closed with unread input is reset, and its client may lose answers. So what
 //! its client sends on is read and dropped, up to 1 MiB. That is proved for any stream.
 ghost use Rattle.std.specs.Prelude.{◌≡◌, ◌↔◌, IsTrue};
-ghost use Rattle.mc_sockets.specs.Dropping.{after_drop, state_after, DropsInput, starts, Drops};
+ghost use Rattle.mc_sockets.specs.Dropping.{after_drop, state_after, DropsInput};
 
 use crate::stream::{Hindrance, Received, Stream};
 

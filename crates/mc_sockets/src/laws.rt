@@ -1,6 +1,6 @@
 //! Laws of readiness, each the contract of a function that does nothing.
 
-ghost use Rattle.std.specs.Prelude.{◌≡◌, ◌⊎◌, ℕ, true, false};
+ghost use Rattle.std.specs.Prelude.{◌≡◌, ◌⊎◌, ℕ, true};
 ghost use Rattle.mc_sockets.specs.declared.readiness.Readiness.{Readiness};
 ghost use Rattle.mc_sockets.specs.declared.readiness.Report.{Report};
 ghost use Rattle.mc_sockets.specs.declared.stream.Hindrance.TheVariants.{WouldBlock};

@@ -1,5 +1,5 @@
 //! The phases of accepting connections.
-ghost use Rattle.std.specs.Prelude.{◌≡◌, IsTrue};
+ghost use Rattle.std.specs.Prelude.{◌≡◌};
 ghost use Rattle.mc_sockets.specs.Phases.{phase_number, no_more_come, all_end, all_end_as_asked};
 
 use std::sync::atomic::{AtomicU32, Ordering};

@@ -4,7 +4,7 @@
 //! and no other, a link is ended by its own number, and a look changes the place alone that it is
 //! at. What the poll reports, and when, is unspecified (`links.rt`).
 ghost use Rattle.std.specs.Prelude.{◌≡◌, ◌<◌, ◌≤◌, ◌+◌, ◌-◌, ◌^◌, ◌++◌, [], length, option_to_list};
-ghost use Rattle.std.specs.Prelude.{IfSome, IsTrue, IsFalse, OnOk};
+ghost use Rattle.std.specs.Prelude.{IsTrue, IsFalse, OnOk};
 
 use crate::connection::Parting;
 use crate::place::Place;

@@ -70,7 +70,7 @@ impl Sent {
 
 /// A stream of bytes in both directions whose calls never block.
 pub trait Stream {
-    ghost use Rattle.std.specs.Prelude.{◌≡◌, ◌++◌, ℕ, List, Some, [], IfSome};
+    ghost use Rattle.std.specs.Prelude.{◌≡◌, ◌++◌, ℕ, List, [], IfSome};
     ghost use Rattle.mc_sockets.specs.Streams.{Flow, MovesIn, MovesOut};
     ghost use Rattle.mc_sockets.specs.declared.stream.Received.{Received};
     ghost use Rattle.mc_sockets.specs.declared.stream.Sent.{Sent};

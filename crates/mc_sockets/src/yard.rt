@@ -7,7 +7,7 @@
 //!
 //! A place is free, or a link has it, or what a link left lingers there. It is proved for whatever
 //! may linger.
-ghost use Rattle.std.specs.Prelude.{◌≡◌, ◌↔◌, IfSome, IfNone, IsTrue, Some};
+ghost use Rattle.std.specs.Prelude.{◌≡◌, ◌↔◌, IfSome, IsTrue, Some};
 ghost use Rattle.slab.specs.Slab.{get, with_value};
 
 use crate::channel::SocketChannel;

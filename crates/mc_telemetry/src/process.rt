@@ -2,13 +2,13 @@
 //!
 //! The names and units are those of Prometheus' client libraries. What can't be read is left out.
 //! Only the program's own thread may read files: a bound of files is assumed of one thread.
-ghost use Rattle.std.specs.Prelude.{◌≡◌, ◌==◌, ◌^◌, ◌-◌, min, IfOk, IfSome, slice_get};
+ghost use Rattle.std.specs.Prelude.{◌≡◌, ◌==◌, ◌-◌, IfOk, IfSome, slice_get};
 ghost use Rattle.std.specs.List.{after_last, count_by};
 ghost use Rattle.std.specs.Option.{option_copied};
 ghost use Rattle.std.specs.Str.{byte};
 ghost use Rattle.mc_protocol.specs.Words.{words};
 ghost use Rattle.mc_telemetry.specs.Processes.{cpu_of, field_of, figures_of};
-ghost use Rattle.mc_telemetry.specs.Processes.{names_in, resident_of, sum_of};
+ghost use Rattle.mc_telemetry.specs.Processes.{names_in, resident_of};
 
 use mc_metrics::ProcessReading;
 use mc_protocol::{first_word, number_up_to};

@@ -1,6 +1,5 @@
 //! Steps, each followed by some growth.
-ghost use Rattle.std.specs.Prelude.{◌≡◌, ◌<◌, ◌≤◌, ◌%◌, length, Err, IfOk, OnErr};
-ghost use Rattle.mc_protocol.specs.Commands.{key_of};
+ghost use Rattle.std.specs.Prelude.{◌≡◌, ◌<◌, ◌%◌};
 ghost use Rattle.mc_shared.specs.Asking.{AsksOnce, AsksStep, AsksInVain};
 ghost use Rattle.mc_shared.specs.History.{start_of, Purged};
 ghost use Rattle.mc_shared.specs.Steps.{Agrees};

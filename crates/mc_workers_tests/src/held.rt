@@ -74,7 +74,7 @@ impl<'a> Model for HeldLink<'a> {
 }
 
 impl<'a> HeldLink<'a> {
-    ghost use Rattle.std.specs.Prelude.{◌≡◌, ◌∷◌, [], length, Ok};
+    ghost use Rattle.std.specs.Prelude.{◌≡◌, length, Ok};
     ghost use Rattle.mc_guests.specs.Links.{Gives, IsWrite};
 
     /// Returns a link with this input and this expected output.

@@ -1,7 +1,7 @@
 //! Sessions by number.
 
 ghost use Rattle.std.specs.Prelude.{◌≡◌, [], ◌<◌, ◌≤◌, ◌↔◌, length, Some, None, Ok};
-ghost use Rattle.std.specs.Prelude.{IfSome, IfErr, OnOk, OnErr, IsTrue, IsFalse};
+ghost use Rattle.std.specs.Prelude.{IfSome, OnOk, OnErr, IsTrue};
 ghost use Rattle.std.specs.Option.{option_copied};
 ghost use Rattle.mc_session.specs.Turns.{fed, closed, sent};
 ghost use Rattle.mc_world.specs.Worlds.{numbered, open_session, changed};
