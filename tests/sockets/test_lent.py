@@ -11,8 +11,8 @@ from tests.lib.server import StillServer
 MB = 2**20
 GREATEST, PAGES = 8 * MB, 24
 REFUSED = b"SERVER_ERROR out of memory storing object\r\n"
-# Blocks that take a page or several, from just above half a page on.
-LENGTHS = [493_552 - 48 - 2, 1_000_000, 2 * MB - 48 - 3, 7_900_000]
+# Blocks in the smallest chunk that is lent, in larger ones up to half a page, and in a page or several.
+LENGTHS = [33_904 - 48 - 3, 130_000, 493_552 - 48 - 3, 493_552 - 48 - 2, 1_000_000, 2 * MB - 48 - 3, 7_900_000]
 
 
 # ---- what becomes of an item: each takes a client whose answers are the model's, and the item's length
@@ -110,7 +110,7 @@ class Writer(threading.Thread):
 
     def turn(self, peer):
         now, act = self.values[-1], self.random.random()
-        length = self.random.choice([100, 20_000, 400_000, 500_000, 1_000_000, 3_000_000, 7_900_000])
+        length = self.random.choice([100, 20_000, 60_000, 200_000, 400_000, 500_000, 1_000_000, 3_000_000, 7_900_000])
         if now is None or act < 0.4:
             self.changes(peer, b"set", (), self.part(length))
         elif act < 0.9:
@@ -137,7 +137,8 @@ class SlowReader(threading.Thread):
     def __init__(self, port, writers, seed, until, receives):
         super().__init__(daemon=True)
         self.port, self.writers, self.until, self.receives = port, writers, until, receives
-        self.random, self.fault, self.read, self.large = random.Random(seed), None, 0, 0
+        # (blocks that were read: all, those in chunks below a page that are lent, and those in pages)
+        self.random, self.fault, self.read, self.middle, self.large = random.Random(seed), None, 0, 0, 0
 
     def run(self):
         try:
@@ -172,7 +173,9 @@ class SlowReader(threading.Thread):
             data = b"".join(block(*part) for part in value)
             if data.startswith(begun):
                 peer.reads_slowly(data + b"\r\n", pause)
-                self.read, self.large = self.read + 1, self.large + (length > 493_552)
+                self.read += 1
+                self.middle += 33_904 < length <= 493_502
+                self.large += length > 493_502
                 return
         raise AssertionError(f"item {writer.key} of {length} bytes begins with {begun}, and is none of {possible}")
 
@@ -214,9 +217,10 @@ class Lent(ProgramCase):
                     raise it.fault
                 self.assertFalse(it.is_alive())
             self.assertTrue(server.runs())
-        changed, read, large = sum(it.sure for it in writers), sum(it.read for it in readers), sum(it.large for it in readers)
-        print(f"    {changed} changes, {read} blocks read, {large} of them of pages")
-        self.assertGreater(min(changed, large), 30)
+        changed, read = sum(it.sure for it in writers), sum(it.read for it in readers)
+        middle, large = sum(it.middle for it in readers), sum(it.large for it in readers)
+        print(f"    {changed} changes, {read} blocks read, {middle} of them of 34 KB to half a page, {large} of pages")
+        self.assertGreater(min(changed, middle, large), 30)
 
     def test_many_in_one_request_and_behind_it(self):
         """Large and small items in one get, and many gets in one write: each byte is as it is to be."""

@@ -12,9 +12,11 @@ from tests.lib.wait import until
 
 GREATEST = 8 * MB
 REFUSED = b"SERVER_ERROR out of memory storing object\r\n"
-# How many read nothing of an item of so many bytes, and what all may cost: a copy of one is between 0.4 and 7.8 MB.
+# How many read nothing of an item of so many bytes, and what all may cost: a copy of one is between 0.3 and 7.8 MB.
 READERS, SHARED = 40, 5 * MB
-LENGTHS = [500_000, 1_000_000, 7_900_000]
+LENGTHS = [480_000, 500_000, 1_000_000, 7_900_000]
+# Lengths of blocks, how many of them a page has, and how often each is written.
+CHUNKS = [(1_000_000, 1, 3), (300_000, 3, 2), (120_000, 8, 1), (40_000, 24, 1)]
 # Pages of a store, the limit of buffers in MiB, and what the program may have beside both.
 PAGES, LIMIT, BESIDE = 8, 32, 10 * MB
 # Who waits for room in the buffers has it in so many seconds.
@@ -59,6 +61,7 @@ BOUNDED = [
     ("a page that is set anew", 1_000_000, set_anew, 22, reads_nothing),
     ("a page that is appended to", 900_000, append, 80, reads_nothing),
     ("half a page that is appended to", 494_000, append, 80, reads_nothing),
+    ("a chunk of 202,152 bytes that is appended to", 200_000, append, 100, reads_nothing),
     ("a page, read but for its end", 900_000, append, 80, leaves_the_last),
     ("half a page, read but for its end", 494_000, append, 80, leaves_the_last),
 ]
@@ -139,22 +142,24 @@ class LentMemory(ProgramCase):
                     print(f"    {name}: {server.memory() - before >> 20} MB, {sum(bool(it.got) for it in readers)} readers")
                     costs(server, before, PAGES * MB + LIMIT * MB + BESIDE)
 
-    def test_each_page_is_written_while_it_is_read(self):
-        """Each page of a store is written while a client reads it, and again: what was reserved for copies isn't in memory afterwards."""
-        pages, limit, length = 64, 16, 1_000_000
-        with StillServer(pages=pages, workers=2, buffers=limit) as server, Peer(server.port) as peer:
-            told, before = Told(peer, pages, MB), server.memory()
-            for number in range(pages - 2):
-                told.asks(setting(b"page%d" % number, block(number, length)))
-            for number in list(range(pages - 2)) * 3:
-                asked = b"get page%d\r\n" % number
-                with Unread(server.port, asked) as reader:
-                    wanted = told.answer(asked)
-                    self.assertTrue(reader.begins())
-                    told.asks(b"append page%d 0 0 16\r\n%s\r\n" % (number, block(0, 16)))
-                    reader.reads_slowly(wanted, 0)
-            print(f"    {server.memory() - before >> 20} MB")
-            costs(server, before, pages * MB + limit * MB + BESIDE)
+    def test_each_chunk_is_written_while_it_is_read(self):
+        """Each chunk of a store is written while a client reads it, and again: what was reserved for copies isn't in memory afterwards."""
+        pages, limit = 64, 16
+        for length, many, rounds in CHUNKS:
+            with self.subTest(length), StillServer(pages=pages, workers=2, buffers=limit) as server, Peer(server.port) as peer:
+                told, before = Told(peer, pages, MB), server.memory()
+                numbers = range((pages - 2) * many)
+                for number in numbers:
+                    told.asks(setting(b"item%d" % number, block(number, length)))
+                for number in list(numbers) * rounds:
+                    asked = b"get item%d\r\n" % number
+                    with Unread(server.port, asked) as reader:
+                        wanted = told.answer(asked)
+                        self.assertTrue(reader.begins())
+                        told.asks(b"append item%d 0 0 16\r\n%s\r\n" % (number, block(0, 16)))
+                        reader.reads_slowly(wanted, 0)
+                print(f"    {length} bytes: {server.memory() - before >> 20} MB")
+                costs(server, before, pages * MB + limit * MB + BESIDE)
 
     def test_who_leaves_holds_nothing(self):
         """200 clients get an item that is set anew for each, and leave without reading it: its memory comes back."""
