@@ -8,14 +8,17 @@
 //! So each append compares what is reserved with what may be.
 
 ghost use Rattle.std.specs.Prelude.{◌≡◌, ◌+◌, ◌≤◌, drop, take, length, max, OnOk, IfOk, vec_capacity};
+ghost use Rattle.std.specs.Arc.{arc_value};
 ghost use Rattle.mc_bytes.specs.Queues.{twice};
 
 use crate::append::Append;
+use crate::large::Large;
 use crate::source::Source;
 use crate::spares::{self, Spares};
 use std::alloc::{AllocError, Global};
 use std::marker::Model;
 use std::mem;
+use std::sync::Arc;
 
 /// Bytes, and room behind them for sources. Contracts see the bytes, and the reserved memory.
 #[derive(Drop)]
@@ -41,7 +44,7 @@ impl Model for Buffer {
 }
 
 impl Buffer {
-    ghost use Rattle.std.specs.Prelude.{◌≡◌, ◌+◌, ◌-◌, ◌<◌, ◌≤◌, [], ◌++◌, drop, take, length, max, IsTrue, IsFalse, OnOk, OnErr, IfOk};
+    ghost use Rattle.std.specs.Prelude.{◌≡◌, ◌+◌, ◌-◌, ◌<◌, ◌≤◌, [], ◌++◌, drop, take, length, max, None, IsTrue, IsFalse, OnOk, OnErr, IfOk, IfSome};
     ghost use Rattle.mc_bytes.specs.Sources.{Brings};
     ghost use Rattle.mc_bytes.specs.Queues.{twice};
 
@@ -185,6 +188,41 @@ impl Buffer {
         true
     }
 
+    /// Moves the bytes to memory that several owners can have, and returns it: it begins with them.
+    ///
+    /// `None` if memory for its count is refused: then nothing changed.
+    pub fn share(&mut self, alloc: Global) -> Option<Arc<Large>>
+        ensures some { IfSome result (λ memory. length self.old.bytes ≤ length (arc_value memory).bytes.items) }
+        ensures front { IfSome result (λ memory.
+            take (length self.old.bytes) (arc_value memory).bytes.items ≡ self.old.bytes) }
+        ensures moved { IfSome result (λ _. self.new ≡ record { bytes = []; reserved = 0 }) }
+        ensures none { result ≡ None → self.new ≡ self.old }
+    {
+        let bytes = mem::replace(&mut self.all, Vec::new(alloc));
+        match Arc::new(alloc, Large { bytes }) {
+            Ok(mut memory) => {
+                if let Some(large) = Arc::get_mut(&mut memory) {
+                    fill_up(&mut large.bytes);
+                }
+                self.filled = 0;
+                Some(memory)
+            }
+            Err(refused) => {
+                let mut large = refused.value;
+                self.all = mem::replace(&mut large.bytes, Vec::new(alloc));
+                None
+            }
+        }
+    }
+
+    /// Keeps memory that is no longer wanted as a spare, unless others have it too.
+    pub fn keep(&self, memory: Arc<Large>, alloc: Global) {
+        if let (Ok(large), Some(spares)) = (Arc::try_unwrap(memory), &self.spares) {
+            let mut large = large;
+            spares.keep(mem::replace(&mut large.bytes, Vec::new(alloc)));
+        }
+    }
+
     /// Drops the first `front` bytes. What is left must not be longer than the front.
     pub fn drop_front(&mut self, front: usize)
         requires inside { front ≤ length self.old.bytes }
@@ -220,6 +258,15 @@ impl Buffer {
             }
         }
     }
+}
+
+/// Extends a vector with zeros as far as it has memory.
+fn fill_up(bytes: &mut Vec<u8>)
+    ensures front { take (length bytes.old.items) bytes.new.items ≡ bytes.old.items }
+    ensures long { length bytes.old.items ≤ length bytes.new.items }
+{
+    let reserved = bytes.capacity();
+    let _ = bytes.resize(reserved, 0);
 }
 
 /// Writes bytes over the front of a spare.

@@ -1,9 +1,10 @@
 //! A part of memory that several owners read, and nobody writes.
 
-ghost use Rattle.std.specs.Prelude.{◌≡◌, ◌-◌, ◌≤◌, length, take, drop, IfSome};
+ghost use Rattle.std.specs.Prelude.{◌≡◌, ◌+◌, ◌-◌, ◌≤◌, length, take, drop, IfSome};
 ghost use Rattle.std.specs.Arc.{arc_value};
 
 use crate::large::Large;
+use std::cell::Cell;
 use std::marker::Model;
 use std::sync::Arc;
 
@@ -16,6 +17,8 @@ pub struct Lent {
     memory: Arc<Large>,
     from: usize,
     to: usize,
+    /// Memory that was left in exchange for this one.
+    left: Cell<Option<Arc<Large>>>,
 }
 
 impl Model for Lent {
@@ -36,7 +39,12 @@ impl Lent {
         requires within { to ≤ length (arc_value memory).bytes.items }
         ensures { result ≡ take (to - from) (drop from (arc_value memory).bytes.items) }
     {
-        Lent { memory, from, to }
+        Lent {
+            memory,
+            from,
+            to,
+            left: Cell::new(None),
+        }
     }
 
     /// Returns the part once more: its memory has one more owner. It takes no memory.
@@ -49,6 +57,46 @@ impl Lent {
             Ok(memory) => Some(Lent::of(memory, self.from, self.to)),
             Err(_) => None,
         }
+    }
+
+    /// Returns its bytes from one place up to another: the memory has one more owner. It takes no
+    /// memory.
+    ///
+    /// `None` if the memory has too many owners.
+    pub fn part(&self, from: usize, to: usize) -> Option<Lent>
+        requires order { from ≤ to }
+        requires within { to ≤ length self.now }
+        ensures { IfSome result (λ lent. lent ≡ take (to - from) (drop from self.now)) }
+    {
+        match Arc::try_clone(&self.memory) {
+            Ok(memory) => Some(Lent::of(memory, self.from + from, self.from + to)),
+            Err(_) => None,
+        }
+    }
+
+    /// Returns its memory, which has one more owner, and the place at which the part begins there.
+    ///
+    /// `None` if the memory has too many owners.
+    pub fn memory(&self) -> Option<(Arc<Large>, usize)>
+        ensures within { IfSome result (λ found.
+            found.1 + length self.now ≤ length (arc_value found.0).bytes.items) }
+        ensures part { IfSome result (λ found.
+            self.now ≡ take (length self.now) (drop found.1 (arc_value found.0).bytes.items)) }
+    {
+        match Arc::try_clone(&self.memory) {
+            Ok(memory) => Some((memory, self.from)),
+            Err(_) => None,
+        }
+    }
+
+    /// Leaves other memory to the holder of the part, in exchange for the part's own.
+    pub fn leave(&self, memory: Arc<Large>) {
+        self.left.set(Some(memory));
+    }
+
+    /// Takes the memory that was left, if some was.
+    pub fn take_left(&self) -> Option<Arc<Large>> {
+        self.left.replace(None)
     }
 
     /// Lends the bytes.

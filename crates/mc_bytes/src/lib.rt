@@ -7,7 +7,8 @@
 //! A [`Buffer`] has bytes and room behind them. A [`Queue`] is a buffer with a count of consumed
 //! bytes. A [`Source`] writes into a queue's room, so a piece is read where it will stay. A text
 //! appends itself as a value of [`Append`]. [`Spares`] are large buffers between two uses. A
-//! [`Lent`] is a part of [`Large`] memory that is shared, and read where it stays.
+//! [`Lent`] is a part of [`Large`] memory that is shared, and read where it stays. A queue can
+//! share its memory so; who keeps it may leave other memory in exchange.
 //!
 //! Contracts see a queue as the bytes that aren't consumed, the number of bytes in its memory, with
 //! consumed ones in front of them, and the number of bytes reserved. They promise exactly which

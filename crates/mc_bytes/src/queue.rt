@@ -12,10 +12,13 @@ ghost use Rattle.mc_bytes.specs.Queues.{begun};
 
 use crate::append::Append;
 use crate::buffer::Buffer;
+use crate::large::Large;
+use crate::lent::Lent;
 use crate::source::Source;
 use crate::spares::Spares;
 use std::alloc::{AllocError, Global};
 use std::marker::Model;
+use std::sync::Arc;
 
 /// The memory in bytes that an idle empty queue keeps: enough for the first piece of a stream.
 pub const FIRST_PIECE: usize = 2048;
@@ -23,8 +26,8 @@ pub const FIRST_PIECE: usize = 2048;
 /// Room for a whole text is reserved once one part in `SHARE` of it has arrived.
 const SHARE: usize = 16;
 
-/// Bytes that are reserved beyond a text, so that what arrives with its end needs no further room.
-const BEHIND: usize = 16384;
+/// Bytes that a text may reserve beyond 17 times what is there.
+const BEYOND: usize = 16384;
 
 /// Bytes that are appended at the end and consumed at the front.
 ///
@@ -54,7 +57,7 @@ impl<const KEPT: usize> Model for Queue<KEPT> {
 }
 
 impl<const KEPT: usize> Queue<KEPT> {
-    ghost use Rattle.std.specs.Prelude.{◌≡◌, ◌↔◌, ◌+◌, ◌*◌, ◌<◌, ◌≤◌, [], ◌++◌, drop, take, length, max, IsTrue, OnOk, OnErr, IfOk};
+    ghost use Rattle.std.specs.Prelude.{◌≡◌, ◌↔◌, ◌+◌, ◌*◌, ◌<◌, ◌≤◌, [], ◌++◌, drop, take, length, max, None, IsTrue, OnOk, OnErr, IfOk, IfSome};
     ghost use Rattle.mc_bytes.specs.Sources.{Brings};
     ghost use Rattle.mc_bytes.specs.Queues.{nothing_held, first_piece, twice, begun};
     ghost use Rattle.mc_bytes.specs.Queues.{IsHalfFull, IsGrown, IsGrownForText};
@@ -148,12 +151,13 @@ impl<const KEPT: usize> Queue<KEPT> {
         self.push_behind(bytes)
     }
 
-    /// Appends bytes of a text of `whole` bytes, whose earlier ones are in the queue.
+    /// Appends bytes of a text that wants `whole` bytes of memory, whose earlier ones are in the
+    /// queue.
     ///
-    /// If `whole` is above `KEPT` and a sixteenth of the text is there, room for all of it is
-    /// reserved at once, and nothing is moved from then on. So a text that is announced and never
-    /// comes reserves at most 17 times the bytes that came, and 16399 bytes. If that reservation is
-    /// refused, the queue grows as bytes come. An error leaves the bytes unchanged.
+    /// If `whole` is above `KEPT` and a sixteenth of it is there, room for all of it is reserved at
+    /// once, and nothing is moved from then on. So a text that is announced and never comes reserves
+    /// at most 17 times the bytes that came, and 16399 bytes. If that reservation is refused, the
+    /// queue grows as bytes come. An error leaves the bytes unchanged.
     pub fn push_part(&mut self, bytes: &[u8], whole: usize) -> Result<(), AllocError>
         ensures ok { OnOk result (self.new.bytes ≡ self.old.bytes ++ bytes.now) }
         ensures err { OnErr result (self.new.bytes ≡ self.old.bytes) }
@@ -259,6 +263,25 @@ impl<const KEPT: usize> Queue<KEPT> {
         self.taken = 0;
     }
 
+    /// Moves the bytes to memory that several owners can have, and lends them from there.
+    ///
+    /// `None` if memory for its count is refused: then nothing changed.
+    pub fn share(&mut self) -> Option<Lent>
+        ensures lent { IfSome result (λ lent. lent ≡ self.old.bytes) }
+        ensures moved { IfSome result (λ _. self.new ≡ nothing_held) }
+        ensures none { result ≡ None → self.new ≡ self.old }
+    {
+        let (from, to) = (self.taken, self.buffer.len());
+        let memory = self.buffer.share(self.alloc)?;
+        self.taken = 0;
+        Some(Lent::of(memory, from, to))
+    }
+
+    /// Keeps memory that is no longer wanted as a spare, unless others have it too.
+    pub fn keep(&self, memory: Arc<Large>) {
+        self.buffer.keep(memory, self.alloc);
+    }
+
     /// Appends bytes behind those in memory.
     fn push_behind(&mut self, bytes: &[u8]) -> Result<(), AllocError>
         ensures ok { OnOk result (self.new.bytes ≡ self.old.bytes ++ bytes.now) }
@@ -284,7 +307,8 @@ impl<const KEPT: usize> Queue<KEPT> {
         }
     }
 
-    /// Reserves room for `whole` bytes and a few more, if a sixteenth of them is there.
+    /// Reserves exactly `whole` bytes if a sixteenth of them is there, or takes a spare that has at
+    /// most an eighth more.
     fn make_room(&mut self, whole: usize)
         requires { IsHalfFull self.old }
         ensures same { self.new.bytes ≡ self.old.bytes }
@@ -294,8 +318,8 @@ impl<const KEPT: usize> Queue<KEPT> {
     {
         let there = self.len();
         if KEPT < whole && whole / SHARE <= there && there < whole {
-            let missing = (whole - there).saturating_add(BEHIND);
-            self.buffer.reserve(missing, begun(there));
+            let most = whole.saturating_add(whole / 8);
+            self.buffer.reserve(whole - there, most.min(begun(there)));
         }
         self.buffer.give_back(KEPT, self.alloc);
     }
@@ -307,5 +331,5 @@ fn begun(there: usize) -> usize
 {
     there
         .saturating_mul(SHARE + 1)
-        .saturating_add(BEHIND + SHARE - 1)
+        .saturating_add(BEYOND + SHARE - 1)
 }
