@@ -114,10 +114,11 @@ cut_room class k size length is size_is room = subst (λ (n : ℕ). n ≤ length
 
 -- what was cut is a chunk of the class
 pub cut_chunk : (class k size : ℕ) (memory first : List ℕ) → class ≡ k → size_of k ≡ size → first ≡ take size memory
-    → ◌≡◌ {A = ChunksState} (record { class = k; count = 1; bytes = first }) (record { class = class; count = 1; bytes = take (size_of class) memory })
+    → ◌≡◌ {A = ChunksState} (record { class = k; count = 1; bytes = first; head = first }) (record { class = class; count = 1; bytes = take (size_of class) memory; head = take (size_of class) memory })
 cut_chunk class k size memory first is size_is cut =
     let bytes : first ≡ take (size_of class) memory = cut ∙ ap (λ (n : ℕ). take n memory) (sym (ap (λ (j : ℕ). size_of j) is ∙ size_is)) in
-    ap (λ (b : List ℕ). record { class = k; count = 1; bytes = b }) bytes ∙ ap (λ (j : ℕ). record { class = j; count = 1; bytes = take (size_of class) memory }) (sym is)
+    ap (λ (b : List ℕ). record { class = k; count = 1; bytes = b; head = b }) bytes
+    ∙ ap (λ (j : ℕ). record { class = j; count = 1; bytes = take (size_of class) memory; head = take (size_of class) memory }) (sym is)
 
 -- while chunks are to be cut, there is memory for one
 pub room_left : (made count size left : ℕ) → made < count → made * size + left ≡ count * size → size ≤ left

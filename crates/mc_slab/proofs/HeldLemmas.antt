@@ -1,5 +1,5 @@
 -- The bytes of the first chunk, wherever it lies.
-use Rattle.std.proofs.Common.{◌≡◌, ℕ, ◌*◌, ◌≤◌, List, length, take, refl, sym, ap, subst, ◌∙◌, arith}
+use Rattle.std.proofs.Common.{◌≡◌, ℕ, ◌*◌, ◌<◌, ◌≤◌, inl, inr, List, length, take, refl, sym, ap, subst, ◌∙◌, arith}
 use Rattle.std.proofs.lemmas.List.{take_all, length-take-le}
 use Rattle.std.proofs.Math.Nat.{mul-le-mul_right}
 use Rattle.mc_slab.specs.Classes.{size_of}
@@ -41,20 +41,20 @@ first_is (C23 bytes) are = one_first 23 bytes.now are.size
 first_is (C24 bytes) are = one_first 24 bytes.now are.size
 first_is (C25 bytes) are = one_first 25 bytes.now are.size
 first_is (C26 bytes) are = one_first 26 bytes.now are.size
-first_is (C27 block) are = one_first 27 block.value are.size
-first_is (C28 block) are = one_first 28 block.value are.size
-first_is (C29 block) are = one_first 29 block.value are.size
-first_is (C30 block) are = one_first 30 block.value are.size
-first_is (C31 block) are = one_first 31 block.value are.size
-first_is (C32 block) are = one_first 32 block.value are.size
-first_is (C33 block) are = one_first 33 block.value are.size
-first_is (C34 block) are = one_first 34 block.value are.size
-first_is (C35 block) are = one_first 35 block.value are.size
-first_is (C36 block) are = one_first 36 block.value are.size
-first_is (C37 block) are = one_first 37 block.value are.size
-first_is (C38 block) are = one_first 38 block.value are.size
-first_is (C39 block) are = one_first 39 block.value are.size
-first_is (Sheets sheet) are = ap (λ (n : ℕ). take n sheet.value.1) (sym size_of-last)
+first_is (C27 lone) are = one_first 27 lone.value.bytes are.size
+first_is (C28 lone) are = one_first 28 lone.value.bytes are.size
+first_is (C29 lone) are = one_first 29 lone.value.bytes are.size
+first_is (C30 lone) are = one_first 30 lone.value.bytes are.size
+first_is (C31 lone) are = one_first 31 lone.value.bytes are.size
+first_is (C32 lone) are = one_first 32 lone.value.bytes are.size
+first_is (C33 lone) are = one_first 33 lone.value.bytes are.size
+first_is (C34 lone) are = one_first 34 lone.value.bytes are.size
+first_is (C35 lone) are = one_first 35 lone.value.bytes are.size
+first_is (C36 lone) are = one_first 36 lone.value.bytes are.size
+first_is (C37 lone) are = one_first 37 lone.value.bytes are.size
+first_is (C38 lone) are = one_first 38 lone.value.bytes are.size
+first_is (C39 lone) are = one_first 39 lone.value.bytes are.size
+first_is (Sheets sheet) are = ap (λ (n : ℕ). take n sheet.value.1.0) (sym size_of-last)
 
 -- and of a lone chunk they are all
 pub first_lone : (chunks : ChunksState) (first : List ℕ) → AreChunks chunks → first ≡ take (size_of chunks.class) chunks.bytes → chunks.count ≡ 1 → first ≡ chunks.bytes
@@ -78,3 +78,16 @@ pub first_cut : (held : Held) (class size : ℕ) → AreChunks (chunks_in held) 
 first_cut held class size are class_is size_is =
     let is : size ≡ length (first_in held) = first_size held class size are class_is size_is in
     take_all size (first_in held) (omega arith) ∙ first_is held are
+
+-- below class 27 that is the head
+pub head_cut : (held : Held) (class size : ℕ) → AreChunks (chunks_in held) → class ≡ (chunks_in held).class → size ≡ size_of class → (chunks_in held).class < 27
+    → take size (first_in held) ≡ (chunks_in held).head
+head_cut held class size are class_is size_is below =
+    let one : (chunks_in held).count ≡ 1 = elim are.is_need.pages [
+      | inl one ↦ one
+      | inr last ↦ absurd (omega arith)
+    ] in
+    let is : size ≡ length (first_in held) = first_size held class size are class_is size_is in
+    take_all size (first_in held) (omega arith)
+    ∙ first_lone (chunks_in held) (first_in held) are (first_is held are) one
+    ∙ sym (are.is_head.same below)

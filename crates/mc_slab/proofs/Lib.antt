@@ -1,3 +1,4 @@
+pub mod BlockLemmas
 pub mod ChunkLemmas
 pub mod ClassLemmas
 pub mod CutLemmas

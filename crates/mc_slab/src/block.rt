@@ -4,6 +4,9 @@
 //! more owner of the memory, whose bytes stay as they are. A write finds out whether there is such
 //! a reader. If so, the reader keeps the memory, and the chunk goes on in a copy.
 //!
+//! A chunk may also take over the memory of bytes that are to be written to it, which saves their
+//! copy. The memory that it had goes to who held those bytes.
+//!
 //! A write can't fail, so memory for a copy is reserved when the chunk is made. It is touched only
 //! if other memory for a copy is refused.
 
@@ -12,6 +15,8 @@ ghost use Rattle.std.specs.Prelude.{
   ◌+◌,
   ◌-◌,
   ◌≤◌,
+  ◌↔◌,
+  ◌++◌,
   [],
   length,
   take,
@@ -23,7 +28,6 @@ ghost use Rattle.std.specs.Prelude.{
   IsFalse,
   vec_capacity,
 };
-ghost use Rattle.std.specs.Arc.{arc_value};
 ghost use Rattle.mc_slab.specs.Chunks.{with_part};
 ghost use Rattle.mc_slab.specs.Blocks.{bytes_in, is_shared, IsBlock};
 
@@ -32,6 +36,10 @@ use std::alloc::{AllocError, Global};
 use std::marker::Model;
 use std::mem;
 use std::sync::Arc;
+
+/// Bytes beside its own that a chunk's memory may have, so that it can take over memory in which
+/// something stands before the block. With more, chunks would keep more memory than their pages.
+pub const BESIDE: usize = 512;
 
 /// Bytes of a chunk that can be lent. Contracts see the bytes.
 #[derive(Drop)]
@@ -44,8 +52,14 @@ pub(crate) struct Block {
 enum Memory {
     /// In memory that can't be lent.
     Own(Large),
-    /// In memory that can be lent. Beside it, as much is reserved for a copy.
-    Shared { large: Arc<Large>, spare: Large },
+    /// In memory that can be lent: `size` bytes from the place `from` on. Memory that was taken
+    /// over has other bytes before and behind. Beside it, `size` bytes are reserved for a copy.
+    Shared {
+        large: Arc<Large>,
+        spare: Large,
+        from: usize,
+        size: usize,
+    },
     /// They were moved out for a moment.
     Hollow,
 }
@@ -66,7 +80,7 @@ impl Block {
     pub(crate) fn new(alloc: Global, size: usize) -> Result<Block, AllocError>
         ensures { IfOk result (λ block. length block ≡ size) }
     {
-        let bytes = Vec::with_capacity(alloc, size)?;
+        let bytes = Vec::with_capacity(alloc, size.saturating_add(BESIDE))?;
         let mut large = Large { bytes };
         large.bytes.resize(size, 0)?;
         Ok(Block {
@@ -80,7 +94,12 @@ impl Block {
     {
         match &self.memory {
             Memory::Own(large) => large.bytes.as_slice(),
-            Memory::Shared { large, .. } => large.bytes.as_slice(),
+            Memory::Shared {
+                large,
+                from,
+                size,
+                ..
+            } => part_of(large.bytes.as_slice(), *from, *size),
             Memory::Hollow => unreachable!(),
         }
     }
@@ -94,12 +113,31 @@ impl Block {
         ensures { IfSome result (λ lent. lent ≡ take (to - from) (drop from self.now)) }
     {
         match &self.memory {
-            Memory::Shared { large, .. } => match Arc::try_clone(large) {
-                Ok(large) => Some(Lent::of(large, from, to)),
+            Memory::Shared {
+                large,
+                from: place,
+                ..
+            } => match Arc::try_clone(large) {
+                Ok(large) => Some(Lent::of(large, *place + from, *place + to)),
                 Err(_) => None,
             },
             Memory::Own(_) | Memory::Hollow => None,
         }
+    }
+
+    /// Takes the memory of a part over as its own: the bytes begin with the part's. Its former
+    /// memory is left with the part.
+    ///
+    /// `false` if it doesn't, and nothing changed: if the bytes lie in memory that can't be lent, or
+    /// the part's memory is smaller than they are, or much larger.
+    pub(crate) fn take_over(&mut self, part: &Lent) -> bool
+        requires { length part.now ≤ length self.old }
+        ensures taken { IsTrue result → take (length part.now) self.new ≡ part.now }
+        ensures size { length self.new ≡ length self.old }
+        ensures kept { IsFalse result → self.new ≡ self.old }
+    {
+        let Block { memory } = self;
+        exchange(memory, part)
     }
 
     /// Copies `part` to the place `at`. The other bytes are unchanged.
@@ -121,7 +159,7 @@ fn shared(alloc: Global, large: Large) -> Memory
     ensures value { bytes_in result ≡ large.bytes.items }
     ensures block { IsBlock result }
 {
-    match Vec::with_capacity(alloc, large.bytes.len()) {
+    match Vec::with_capacity(alloc, large.bytes.len().saturating_add(BESIDE)) {
         Ok(bytes) => shared_beside(large, Large { bytes }),
         Err(_) => Memory::Own(large),
     }
@@ -135,8 +173,14 @@ fn shared_beside(large: Large, spare: Large) -> Memory
     ensures block { IsBlock result }
 {
     let alloc = *spare.bytes.allocator();
+    let size = large.bytes.len();
     match Arc::new(alloc, large) {
-        Ok(large) => Memory::Shared { large, spare },
+        Ok(large) => Memory::Shared {
+            large,
+            spare,
+            from: 0,
+            size,
+        },
         Err(refused) => Memory::Own(refused.value),
     }
 }
@@ -156,10 +200,13 @@ fn write_in_place(memory: &mut Memory, at: usize, part: &[u8]) -> bool
 {
     match memory {
         Memory::Own(large) => write_part(&mut large.bytes, at, part),
-        Memory::Shared { large, .. } => match Arc::get_mut(large) {
-            Some(large) => write_part(&mut large.bytes, at, part),
-            None => return false,
-        },
+        Memory::Shared { large, from, .. } => {
+            let place = *from + at;
+            match Arc::get_mut(large) {
+                Some(large) => write_part(&mut large.bytes, place, part),
+                None => return false,
+            }
+        }
         Memory::Hollow => unreachable!(),
     }
     true
@@ -178,11 +225,17 @@ fn written_copy(memory: Memory, at: usize, part: &[u8]) -> Memory
     ensures block { IsBlock result }
 {
     match memory {
-        Memory::Shared { large, spare } => {
+        Memory::Shared {
+            large,
+            spare,
+            from,
+            size,
+        } => {
             let alloc = *spare.bytes.allocator();
-            match Vec::with_capacity(alloc, large.bytes.len()) {
-                Ok(bytes) => shared_beside(copy_into(Large { bytes }, large, at, part), spare),
-                Err(_) => shared(alloc, copy_into(spare, large, at, part)),
+            let old = part_of(large.bytes.as_slice(), from, size);
+            match Vec::with_capacity(alloc, size.saturating_add(BESIDE)) {
+                Ok(bytes) => shared_beside(copy_into(Large { bytes }, old, at, part), spare),
+                Err(_) => shared(alloc, copy_into(spare, old, at, part)),
             }
         }
         Memory::Own(_) | Memory::Hollow => unreachable!(),
@@ -190,24 +243,80 @@ fn written_copy(memory: Memory, at: usize, part: &[u8]) -> Memory
 }
 
 /// Returns a copy in empty memory that has room for it, with `part` at the place `at`.
-fn copy_into(empty: Large, large: Arc<Large>, at: usize, part: &[u8]) -> Large
+///
+/// The bytes that the part takes the place of aren't copied.
+fn copy_into(empty: Large, bytes: &[u8], at: usize, part: &[u8]) -> Large
     requires empty { empty.bytes.items ≡ [] }
-    requires room { length (arc_value large).bytes.items ≤ vec_capacity empty.bytes }
-    requires within { at + length part.now ≤ length (arc_value large).bytes.items }
-    ensures value { result.bytes.items ≡ with_part (arc_value large).bytes.items at part.now }
-    ensures size { length result.bytes.items ≡ length (arc_value large).bytes.items }
+    requires room { length bytes.now ≤ vec_capacity empty.bytes }
+    requires within { at + length part.now ≤ length bytes.now }
+    ensures value { result.bytes.items ≡ with_part bytes.now at part.now }
+    ensures size { length result.bytes.items ≡ length bytes.now }
 {
+    let (front, rest) = bytes.split_at(at);
+    let (_, behind) = rest.split_at(part.len());
     let mut copy = empty;
-    append_reserved(&mut copy.bytes, large.bytes.as_slice());
-    write_part(&mut copy.bytes, at, part);
+    append_reserved(&mut copy.bytes, front);
+    append_reserved(&mut copy.bytes, part);
+    append_reserved(&mut copy.bytes, behind);
     copy
+}
+
+/// Exchanges the memory for that of a part unless it can't be lent or that doesn't fit, and returns
+/// whether it did.
+///
+/// If not, the memory is unchanged. If so, the part has what it was.
+fn exchange(memory: &mut Memory, part: &Lent) -> bool
+    requires block { IsBlock memory.old }
+    requires room { length part.now ≤ length (bytes_in memory.old) }
+    ensures taken { IsTrue result → take (length part.now) (bytes_in memory.new) ≡ part.now }
+    ensures size { length (bytes_in memory.new) ≡ length (bytes_in memory.old) }
+    ensures kept { IsFalse result → memory.new ≡ memory.old }
+    ensures block { IsBlock memory.new }
+{
+    match memory {
+        Memory::Shared {
+            large,
+            from,
+            size,
+            ..
+        } => match part.memory() {
+            Some((other, place)) => {
+                if !fits(other.bytes.len(), place, *size) {
+                    return false;
+                }
+                *from = place;
+                part.leave(mem::replace(large, other));
+                true
+            }
+            None => false,
+        },
+        Memory::Own(_) | Memory::Hollow => false,
+    }
+}
+
+/// Returns whether memory of `len` bytes has `size` from a place on, and few others.
+fn fits(len: usize, place: usize, size: usize) -> bool
+    requires { place ≤ len }
+    ensures { IsTrue result ↔ (place + size ≤ len) × (len ≤ size + 512) }
+{
+    size <= len - place && len - size <= BESIDE
+}
+
+/// Lends `size` bytes from a place on.
+fn part_of(bytes: &[u8], from: usize, size: usize) -> &[u8]
+    requires { from + size ≤ length bytes.now }
+    ensures { result.now ≡ take size (drop from bytes.now) }
+{
+    let (_, rest) = bytes.split_at(from);
+    let (part, _) = rest.split_at(size);
+    part
 }
 
 /// Appends bytes to a vector that has room for them.
 fn append_reserved(out: &mut Vec<u8>, bytes: &[u8])
-    requires room { length out.old.items + length bytes.now ≤ vec_capacity out.old }
-    requires empty { out.old.items ≡ [] }
-    ensures { out.new.items ≡ bytes.now }
+    requires { length out.old.items + length bytes.now ≤ vec_capacity out.old }
+    ensures items { out.new.items ≡ out.old.items ++ bytes.now }
+    ensures room { vec_capacity out.old ≤ vec_capacity out.new }
 {
     let _ = out.extend_from_slice(bytes);
 }

@@ -3,16 +3,25 @@
 //! `Chunks` may be dropped. Dropped chunks stay counted as in use. A linear type would need a
 //! destructor by hand in each type that holds chunks.
 
-ghost use Rattle.std.specs.Prelude.{◌≡◌, ◌+◌, ◌-◌, ◌<◌, ◌≤◌, length, take, drop, IfOk, IfSome};
-ghost use Rattle.mc_slab.specs.Chunks.{ChunksState, AreChunks, AreChunksOf, chunk_at, need_in, with_part};
+ghost use Rattle.std.specs.Prelude.{◌≡◌, ◌+◌, ◌-◌, ◌<◌, ◌≤◌, length, take, drop, IfOk, IfSome, IsTrue, IsFalse};
+ghost use Rattle.mc_slab.specs.Chunks.{
+  ChunksState,
+  AreChunks,
+  AreChunksOf,
+  TakesOver,
+  chunk_at,
+  need_in,
+  with_part,
+  written_cut,
+};
 ghost use Rattle.mc_slab.specs.Classes.{size_of};
 ghost use Rattle.mc_slab.specs.Helds.{chunks_in};
 ghost use Rattle.mc_slab.specs.declared.held.Held.TheVariants.{Sheets};
 
-use crate::block::Block;
 use crate::class::Class;
 use crate::cut;
 use crate::held::{self, Held};
+use crate::lone::Lone;
 use crate::need::Need;
 use crate::sheet::Sheet;
 use mc_bytes::Lent;
@@ -21,11 +30,13 @@ use std::marker::Model;
 
 /// One chunk of a class, or two to eight chunks of a page each.
 ///
-/// Contracts see the class, the count, and the bytes of the chunks one after another. Chunks are
-/// moved and never copied. Chunks that are dropped without being given back to their slab stay out
-/// in the slab's account for ever. Memory of a class below 27 stays with the process until it ends,
-/// even if the chunk or its slab is dropped. From class 27 on each chunk is memory of its own, which
-/// is freed once the chunk is dropped and no part of it is lent.
+/// Contracts see the class, the count, the bytes of the chunks one after another, and their head,
+/// which holds an item's header and key. Below class 27 the head is the bytes of the chunk; from
+/// class 27 on it is 304 bytes beside them, which aren't lent. Chunks are moved and never copied.
+/// Chunks that are dropped without being given back to their slab stay out in the slab's account for
+/// ever. Memory of a class below 27 stays with the process until it ends, even if the chunk or its
+/// slab is dropped. From class 27 on each chunk is memory of its own, which is freed once the chunk
+/// is dropped and no part of it is lent.
 #[derive(Drop)]
 pub struct Chunks {
     held: Held,
@@ -51,6 +62,14 @@ impl Chunks {
         ensures are { AreChunks self.now }
     {
         held::need(&self.held)
+    }
+
+    /// Lends the bytes of the head: those of the chunk below class 27, else 304 bytes beside them.
+    pub fn head(&self) -> &[u8]
+        ensures value { result.now ≡ self.now.head }
+        ensures are { AreChunks self.now }
+    {
+        held::head(&self.held)
     }
 
     /// Lends the bytes of the first chunk, as many as the class's size.
@@ -94,13 +113,43 @@ impl Chunks {
 
     /// Copies `part` to the place `at` of the bytes, counted from 0 over all chunks.
     ///
-    /// The other bytes are unchanged.
+    /// The other bytes are unchanged, and so is the head from class 27 on.
     pub fn write_at(&mut self, at: usize, part: &[u8])
         requires { at + length part.now ≤ length self.old.bytes }
-        ensures value { self.new ≡ record self.old { bytes = with_part self.old.bytes at part.now } }
+        ensures cut { self.old.class < 27 → self.new ≡ written_cut self.old at part.now }
+        ensures lent { 27 ≤ self.old.class
+            → self.new ≡ record self.old { bytes = with_part self.old.bytes at part.now } }
         ensures are { AreChunks self.new }
     {
         held::write_at(&mut self.held, at, part);
+    }
+
+    /// Copies `part` to the place `at` of the head.
+    ///
+    /// The head's other bytes are unchanged, and so are the chunks' bytes from class 27 on.
+    pub fn write_head(&mut self, at: usize, part: &[u8])
+        requires { at + length part.now ≤ length self.old.head }
+        ensures cut { self.old.class < 27 → self.new ≡ written_cut self.old at part.now }
+        ensures lent { 27 ≤ self.old.class
+            → self.new ≡ record self.old { head = with_part self.old.head at part.now } }
+        ensures are { AreChunks self.new }
+    {
+        held::write_head(&mut self.held, at, part);
+    }
+
+    /// Takes the memory of a part over as its own: the chunk begins with the part's bytes, and those
+    /// behind them are unspecified. Its former memory is left with the part.
+    ///
+    /// It copies nothing, and takes no memory. `false` if it doesn't: below class 27, for several
+    /// chunks, if the chunk can't be lent, and if the part's memory is smaller than the chunk from the
+    /// part's begin on, or more than 512 bytes larger. Then nothing changed.
+    pub fn take_over(&mut self, part: &Lent) -> bool
+        requires { length part.now ≤ length self.old.bytes }
+        ensures taken { IsTrue result → TakesOver self.old part.now self.new }
+        ensures kept { IsFalse result → self.new ≡ self.old }
+        ensures are { AreChunks self.new }
+    {
+        held::take_over(&mut self.held, part)
     }
 
     /// Cuts one chunk of a class below 27 off the front of memory.
@@ -123,8 +172,8 @@ impl Chunks {
         requires { (27 ≤ class) × (class < 40) }
         ensures { IfOk result (AreChunksOf (record { class = class; count = 1 })) }
     {
-        let block = Block::new(alloc, class.size() as usize)?;
-        Ok(of_block(class, Box::new(alloc, block)?))
+        let lone = Lone::new(alloc, class.size() as usize)?;
+        Ok(of_lone(class, Box::new(alloc, lone)?))
     }
 
     /// Allocates one chunk of the last class, of zeros. The only error is a refused allocation.
@@ -159,14 +208,15 @@ impl Chunks {
     }
 }
 
-/// Returns the chunk of a class from 27 to 39 whose memory is the block.
-fn of_block(class: Class, block: Box<Block>) -> Chunks
+/// Returns the chunk of a class from 27 to 39 whose memory is given.
+fn of_lone(class: Class, lone: Box<Lone>) -> Chunks
     requires class { (27 ≤ class) × (class < 40) }
-    requires size { length block.value ≡ size_of class }
+    requires size { length lone.value.bytes ≡ size_of class }
+    requires head { length lone.value.head ≡ 304 }
     ensures { AreChunksOf (record { class = class; count = 1 }) result }
 {
     Chunks {
-        held: held::of_block(class, block),
+        held: held::of_lone(class, lone),
     }
 }
 

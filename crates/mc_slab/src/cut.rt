@@ -36,8 +36,12 @@ macro_rules! cut_one {
 pub(crate) fn cut(class: Class, memory: &'static mut [u8]) -> (Held, &'static mut [u8])
     requires class { class < 27 }
     requires room { size_of class ≤ length memory.old }
-    ensures chunk { chunks_in result.0
-        ≡ record { class = class; count = 1; bytes = take (size_of class) memory.entry.now } }
+    ensures chunk { chunks_in result.0 ≡ record {
+      class = class;
+      count = 1;
+      bytes = take (size_of class) memory.entry.now;
+      head = take (size_of class) memory.entry.now;
+    } }
     ensures rest { result.1.now ≡ drop (size_of class) memory.entry.now }
 {
     let number = class.number();
@@ -56,8 +60,12 @@ pub(crate) fn cut(class: Class, memory: &'static mut [u8]) -> (Held, &'static mu
 fn cut_tiny(class: Class, memory: &'static mut [u8]) -> (Held, &'static mut [u8])
     requires class { (1 ≤ class) × (class ≤ 8) }
     requires room { size_of class ≤ length memory.old }
-    ensures chunk { chunks_in result.0
-        ≡ record { class = class; count = 1; bytes = take (size_of class) memory.entry.now } }
+    ensures chunk { chunks_in result.0 ≡ record {
+      class = class;
+      count = 1;
+      bytes = take (size_of class) memory.entry.now;
+      head = take (size_of class) memory.entry.now;
+    } }
     ensures rest { result.1.now ≡ drop (size_of class) memory.entry.now }
 {
     each_class!(tiny cut_one! class memory)
@@ -67,8 +75,12 @@ fn cut_tiny(class: Class, memory: &'static mut [u8]) -> (Held, &'static mut [u8]
 fn cut_small(class: Class, memory: &'static mut [u8]) -> (Held, &'static mut [u8])
     requires class { (9 ≤ class) × (class ≤ 16) }
     requires room { size_of class ≤ length memory.old }
-    ensures chunk { chunks_in result.0
-        ≡ record { class = class; count = 1; bytes = take (size_of class) memory.entry.now } }
+    ensures chunk { chunks_in result.0 ≡ record {
+      class = class;
+      count = 1;
+      bytes = take (size_of class) memory.entry.now;
+      head = take (size_of class) memory.entry.now;
+    } }
     ensures rest { result.1.now ≡ drop (size_of class) memory.entry.now }
 {
     each_class!(small cut_one! class memory)
@@ -78,8 +90,12 @@ fn cut_small(class: Class, memory: &'static mut [u8]) -> (Held, &'static mut [u8
 fn cut_middle(class: Class, memory: &'static mut [u8]) -> (Held, &'static mut [u8])
     requires class { (17 ≤ class) × (class ≤ 24) }
     requires room { size_of class ≤ length memory.old }
-    ensures chunk { chunks_in result.0
-        ≡ record { class = class; count = 1; bytes = take (size_of class) memory.entry.now } }
+    ensures chunk { chunks_in result.0 ≡ record {
+      class = class;
+      count = 1;
+      bytes = take (size_of class) memory.entry.now;
+      head = take (size_of class) memory.entry.now;
+    } }
     ensures rest { result.1.now ≡ drop (size_of class) memory.entry.now }
 {
     each_class!(middle cut_one! class memory)
@@ -89,8 +105,12 @@ fn cut_middle(class: Class, memory: &'static mut [u8]) -> (Held, &'static mut [u
 fn cut_large(class: Class, memory: &'static mut [u8]) -> (Held, &'static mut [u8])
     requires class { (25 ≤ class) × (class ≤ 26) }
     requires room { size_of class ≤ length memory.old }
-    ensures chunk { chunks_in result.0
-        ≡ record { class = class; count = 1; bytes = take (size_of class) memory.entry.now } }
+    ensures chunk { chunks_in result.0 ≡ record {
+      class = class;
+      count = 1;
+      bytes = take (size_of class) memory.entry.now;
+      head = take (size_of class) memory.entry.now;
+    } }
     ensures rest { result.1.now ≡ drop (size_of class) memory.entry.now }
 {
     each_class!(large cut_one! class memory)

@@ -1,19 +1,27 @@
 //! Where chunks are: behind a thin pointer whose tag is the class.
 //!
 //! A chunk takes 16 bytes of memory: an enum whose variant is the class and which holds a thin
-//! pointer, below class 27 to an array of that class's length, else to a block. A slice would take
+//! pointer, below class 27 to an array of that class's length, else to a block with its head. A slice would take
 //! 24 bytes. The class is read from the tag alone, and a chunk's length from the table of sizes and
 //! not from its variant, because match arms that differ in a constant compile to a jump table. A
 //! chunk is written by `write_at` and lends no mutable slice: a method that lends one isn't proved
 //! if its length is an invariant.
 
-ghost use Rattle.std.specs.Prelude.{◌≡◌, ◌+◌, ◌-◌, ◌<◌, ◌≤◌, length, take, drop, IfSome};
-ghost use Rattle.mc_slab.specs.Chunks.{AreChunks, chunk_at, need_in, with_part};
+ghost use Rattle.std.specs.Prelude.{◌≡◌, ◌+◌, ◌-◌, ◌<◌, ◌≤◌, length, take, drop, IfSome, IsTrue, IsFalse};
+ghost use Rattle.mc_slab.specs.Chunks.{
+  AreChunks,
+  IsHead,
+  TakesOver,
+  chunk_at,
+  need_in,
+  with_part,
+  written_cut,
+};
 ghost use Rattle.mc_slab.specs.Classes.{size_of};
 ghost use Rattle.mc_slab.specs.Helds.{chunks_in, first_in};
 
-use crate::block::Block;
 use crate::class::{CLASSES, Class, LENT, each_class};
+use crate::lone::Lone;
 use crate::need::Need;
 use crate::sheet::Sheet;
 use mc_bytes::Lent;
@@ -50,19 +58,19 @@ pub(crate) enum Held {
     C24(&'static mut [u8; 17352]),
     C25(&'static mut [u8; 21696]),
     C26(&'static mut [u8; 27120]),
-    C27(Box<Block>),
-    C28(Box<Block>),
-    C29(Box<Block>),
-    C30(Box<Block>),
-    C31(Box<Block>),
-    C32(Box<Block>),
-    C33(Box<Block>),
-    C34(Box<Block>),
-    C35(Box<Block>),
-    C36(Box<Block>),
-    C37(Box<Block>),
-    C38(Box<Block>),
-    C39(Box<Block>),
+    C27(Box<Lone>),
+    C28(Box<Lone>),
+    C29(Box<Lone>),
+    C30(Box<Lone>),
+    C31(Box<Lone>),
+    C32(Box<Lone>),
+    C33(Box<Lone>),
+    C34(Box<Lone>),
+    C35(Box<Lone>),
+    C36(Box<Lone>),
+    C37(Box<Lone>),
+    C38(Box<Lone>),
+    C39(Box<Lone>),
     Sheets(Box<Sheet>),
 }
 
@@ -87,27 +95,27 @@ macro_rules! match_one {
     };
 }
 
-/// Matches on where chunks lie that can be lent. Blocks share one arm.
+/// Matches on where chunks lie that can be lent. Lone ones share one arm.
 macro_rules! match_lent {
-    ($held:ident { $block:ident => $one:expr, $sheet:ident => $last:expr, }
+    ($held:ident { $lone:ident => $one:expr, $sheet:ident => $last:expr, }
         $($number:literal $variant:ident $size:literal $end:tt)*) => {
         match $held {
-            $(Held::$variant($block) => $one,)*
+            $(Held::$variant($lone) => $one,)*
             Held::Sheets($sheet) => $last,
             _ => unreachable!(),
         }
     };
 }
 
-/// Returns where a chunk of a class from 27 to 39 lies whose memory is the block.
+/// Returns where a chunk of a class from 27 to 39 lies whose memory is given.
 ///
 /// The last of these classes has the default arm.
 macro_rules! of_class {
-    ($class:ident $block:ident $($number:literal $variant:ident $size:literal),*;
+    ($class:ident $lone:ident $($number:literal $variant:ident $size:literal),*;
         $last:literal $default:ident $greatest:literal,) => {
         match $class.number() {
-            $($number => Held::$variant($block),)*
-            _ => Held::$default($block),
+            $($number => Held::$variant($lone),)*
+            _ => Held::$default($lone),
         }
     };
 }
@@ -171,8 +179,33 @@ fn lent_bytes(held: &Held) -> &[u8]
     ensures { result.now ≡ first_in held.now }
 {
     each_class!(lent match_lent! held {
-        block => block.bytes(),
+        lone => lone.bytes(),
         sheet => sheet.first(),
+    })
+}
+
+/// Lends the bytes of the head.
+pub(crate) fn head(held: &Held) -> &[u8]
+    requires { AreChunks (chunks_in held.now) }
+    ensures { result.now ≡ (chunks_in held.now).head }
+{
+    let class = class(held);
+    if class.number() >= LENT {
+        return lent_head(held);
+    }
+    // The length is read from the table of sizes, as in `first`.
+    &cut_bytes(held)[..class.size() as usize]
+}
+
+/// Lends the bytes of the head of chunks that can be lent.
+#[inline(never)]
+fn lent_head(held: &Held) -> &[u8]
+    requires { 27 ≤ (chunks_in held.now).class }
+    ensures { result.now ≡ (chunks_in held.now).head }
+{
+    each_class!(lent match_lent! held {
+        lone => lone.head(),
+        sheet => sheet.head(),
     })
 }
 
@@ -192,7 +225,7 @@ pub(crate) fn lend(held: &Held, at: usize, from: usize, to: usize) -> Option<Len
         return None;
     }
     if class < CLASSES {
-        block(held).lend(from, to)
+        lone(held).lend(from, to)
     } else {
         sheet(held).lend(at, from, to)
     }
@@ -200,12 +233,15 @@ pub(crate) fn lend(held: &Held, at: usize, from: usize, to: usize) -> Option<Len
 
 /// Copies `part` to the place `at` of the bytes, counted over all chunks.
 ///
-/// The other bytes are unchanged.
+/// The other bytes are unchanged, and so is the head from class 27 on.
 pub(crate) fn write_at(held: &mut Held, at: usize, part: &[u8])
     requires { at + length part.now ≤ length (chunks_in held.old).bytes }
-    ensures { chunks_in held.new ≡ record (chunks_in held.old) {
-      bytes = with_part (chunks_in held.old).bytes at part.now;
-    } }
+    ensures cut { (chunks_in held.old).class < 27
+        → chunks_in held.new ≡ written_cut (chunks_in held.old) at part.now }
+    ensures lent { 27 ≤ (chunks_in held.old).class
+        → chunks_in held.new ≡ record (chunks_in held.old) {
+          bytes = with_part (chunks_in held.old).bytes at part.now;
+        } }
 {
     if class(held).number() < LENT {
         return write_cut(held, at, part);
@@ -213,13 +249,46 @@ pub(crate) fn write_at(held: &mut Held, at: usize, part: &[u8])
     write_lent(held, at, part);
 }
 
+/// Copies `part` to the place `at` of the head.
+///
+/// Its other bytes are unchanged, and so are those of the chunks from class 27 on.
+pub(crate) fn write_head(held: &mut Held, at: usize, part: &[u8])
+    requires head { IsHead (chunks_in held.old) }
+    requires room { at + length part.now ≤ length (chunks_in held.old).head }
+    ensures cut { (chunks_in held.old).class < 27
+        → chunks_in held.new ≡ written_cut (chunks_in held.old) at part.now }
+    ensures lent { 27 ≤ (chunks_in held.old).class
+        → chunks_in held.new ≡ record (chunks_in held.old) {
+          head = with_part (chunks_in held.old).head at part.now;
+        } }
+{
+    if class(held).number() >= LENT {
+        return write_lent_head(held, at, part);
+    }
+    write_cut(held, at, part);
+}
+
+/// Takes the memory of a part over as that of the chunk: its bytes begin with the part's.
+///
+/// `false` if it doesn't, as below class 27 and for several chunks, and nothing changed.
+pub(crate) fn take_over(held: &mut Held, part: &Lent) -> bool
+    requires { length part.now ≤ length (chunks_in held.old).bytes }
+    ensures taken { IsTrue result
+        → TakesOver (chunks_in held.old) part.now (chunks_in held.new) }
+    ensures kept { IsFalse result → chunks_in held.new ≡ chunks_in held.old }
+{
+    if class(held).number() < LENT {
+        return false;
+    }
+    take_over_lent(held, part)
+}
+
 /// Copies `part` to the place `at` of a chunk of a class below 27.
+#[inline]
 fn write_cut(held: &mut Held, at: usize, part: &[u8])
     requires class { (chunks_in held.old).class < 27 }
     requires room { at + length part.now ≤ length (chunks_in held.old).bytes }
-    ensures { chunks_in held.new ≡ record (chunks_in held.old) {
-      bytes = with_part (chunks_in held.old).bytes at part.now;
-    } }
+    ensures { chunks_in held.new ≡ written_cut (chunks_in held.old) at part.now }
 {
     each_class!(cut match_one! held {
         bytes => write_part(&mut bytes[..], at, part),
@@ -237,13 +306,43 @@ fn write_lent(held: &mut Held, at: usize, part: &[u8])
     } }
 {
     each_class!(lent match_lent! held {
-        block => block.write_at(at, part),
+        lone => lone.write_at(at, part),
         sheet => sheet.write_at(at, part),
     })
 }
 
+/// Takes the memory of a part over as that of a chunk that can be lent, and returns whether it did.
+#[inline(never)]
+fn take_over_lent(held: &mut Held, part: &Lent) -> bool
+    requires class { 27 ≤ (chunks_in held.old).class }
+    requires room { length part.now ≤ length (chunks_in held.old).bytes }
+    ensures taken { IsTrue result
+        → TakesOver (chunks_in held.old) part.now (chunks_in held.new) }
+    ensures kept { IsFalse result → chunks_in held.new ≡ chunks_in held.old }
+{
+    each_class!(lent match_lent! held {
+        lone => lone.take_over(part),
+        sheet => sheet.take_over(part),
+    })
+}
+
+/// Copies `part` to the place `at` of the head of chunks that can be lent.
+#[inline(never)]
+fn write_lent_head(held: &mut Held, at: usize, part: &[u8])
+    requires class { 27 ≤ (chunks_in held.old).class }
+    requires room { at + length part.now ≤ length (chunks_in held.old).head }
+    ensures { chunks_in held.new ≡ record (chunks_in held.old) {
+      head = with_part (chunks_in held.old).head at part.now;
+    } }
+{
+    each_class!(lent match_lent! held {
+        lone => lone.write_head(at, part),
+        sheet => sheet.write_head(at, part),
+    })
+}
+
 /// Copies `part` to the place `at` of `bytes`.
-fn write_part(bytes: &mut [u8], at: usize, part: &[u8])
+pub(crate) fn write_part(bytes: &mut [u8], at: usize, part: &[u8])
     requires { at + length part.now ≤ length bytes.old }
     ensures { bytes.new ≡ with_part bytes.old at part.now }
 {
@@ -262,27 +361,32 @@ fn copy(bytes: &mut [u8], part: &[u8])
     bytes.copy_from_slice(part);
 }
 
-/// Lends the block of a chunk of a class from 27 to 39.
-fn block(held: &Held) -> &Block
+/// Lends the memory of a chunk of a class from 27 to 39.
+fn lone(held: &Held) -> &Lone
     requires { (27 ≤ (chunks_in held.now).class) × ((chunks_in held.now).class < 40) }
-    ensures { result.now ≡ (chunks_in held.now).bytes }
+    ensures { result.now.bytes ≡ (chunks_in held.now).bytes }
 {
-    each_class!(lent match_one! held { block => block, _ => unreachable!(), })
+    each_class!(lent match_one! held { lone => lone, _ => unreachable!(), })
 }
 
-/// Returns where a chunk of a class from 27 to 39 lies whose memory is the block.
-pub(crate) fn of_block(class: Class, block: Box<Block>) -> Held
+/// Returns where a chunk of a class from 27 to 39 lies whose memory is given.
+pub(crate) fn of_lone(class: Class, lone: Box<Lone>) -> Held
     requires { (27 ≤ class) × (class < 40) }
-    ensures { chunks_in result ≡ record { class = class; count = 1; bytes = block.value } }
+    ensures { chunks_in result ≡ record {
+      class = class;
+      count = 1;
+      bytes = lone.value.bytes;
+      head = lone.value.head;
+    } }
 {
-    each_class!(lent of_class! class block)
+    each_class!(lent of_class! class lone)
 }
 
 /// Lends the sheet of chunks of the last class.
 pub(crate) fn sheet(held: &Held) -> &Sheet
     requires { (chunks_in held.now).class ≡ 40 }
     ensures { (result.now.0 ≡ (chunks_in held.now).count)
-        × (result.now.1 ≡ (chunks_in held.now).bytes) }
+        × (result.now.1.0 ≡ (chunks_in held.now).bytes) }
 {
     match held {
         Held::Sheets(sheet) => sheet,
@@ -294,7 +398,8 @@ pub(crate) fn sheet(held: &Held) -> &Sheet
 pub(crate) fn into_sheet(held: Held) -> Box<Sheet>
     requires { (chunks_in held).class ≡ 40 }
     ensures { (result.value.0 ≡ (chunks_in held.entry).count)
-        × (result.value.1 ≡ (chunks_in held.entry).bytes) }
+        × (result.value.1.0 ≡ (chunks_in held.entry).bytes)
+        × (result.value.1.1 ≡ (chunks_in held.entry).head) }
 {
     match held {
         Held::Sheets(sheet) => sheet,

@@ -12,8 +12,11 @@
 //! left, and keeps for each class the free chunks and the memory that isn't cut yet. [`Chunks`] are
 //! what is taken and given back: they are moved and never copied. A part of a chunk of class 27 to
 //! 40, of 33904 bytes and more, can be lent beyond a borrow ([`Chunks::lend`]): the reader keeps its
-//! bytes, and a write meanwhile goes to a copy of the chunk. [`Pages`] are memory that is allocated
-//! before a slab is at hand, so that a thread holds a shared slab only briefly.
+//! bytes, and a write meanwhile goes to a copy of the chunk. Such a chunk can also take over memory
+//! that a block was read into, and leave its own ([`Chunks::take_over`]). An item's header and key
+//! stand in the head of its chunks ([`Chunks::head`]), which from class 27 on is memory beside the
+//! chunk and isn't lent. [`Pages`] are memory that is allocated before a slab is at hand, so that a
+//! thread holds a shared slab only briefly.
 //!
 //! Contracts see a slab as its limit of pages and, for each class, its pages and the chunks that
 //! are out. `take_all` fails as full exactly if the unused chunks and those of the pages left are
@@ -29,8 +32,10 @@ mod block;
 mod chunks;
 mod class;
 mod cut;
+mod head;
 mod held;
 mod laws;
+mod lone;
 mod need;
 mod run;
 mod sheet;
@@ -38,6 +43,7 @@ mod slab;
 mod stock;
 mod whole;
 
+pub use block::BESIDE;
 pub use chunks::Chunks;
 pub use class::{Class, class_of};
 pub use laws::{ready_is_enough, table_of_classes, wanted_pages_are_least};

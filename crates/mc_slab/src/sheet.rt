@@ -1,9 +1,10 @@
 //! A chunk of a page's size, and the chunks that are linked behind it.
 
-ghost use Rattle.std.specs.Prelude.{◌≡◌, ◌+◌, ◌-◌, ◌*◌, ◌<◌, ◌≤◌, List, ◌++◌, length, take, drop, ℕ, IfOk, IfSome};
+ghost use Rattle.std.specs.Prelude.{◌≡◌, ◌+◌, ◌-◌, ◌*◌, ◌<◌, ◌≤◌, ◌++◌, length, take, drop, IfOk, IfSome, IsTrue, IsFalse};
 ghost use Rattle.mc_slab.specs.Chunks.{with_part};
 ghost use Rattle.mc_slab.specs.Sheets.{sheets_in};
 
+use crate::head::Head;
 use crate::whole::{WHOLE, Whole};
 use mc_bytes::Lent;
 use std::alloc::{AllocError, Global};
@@ -13,10 +14,11 @@ use std::mem;
 /// A chunk of a page's size, and the chunks that are linked behind it.
 ///
 /// Its box is allocated with the chunk, so that linking takes no memory. Contracts see the number
-/// of chunks, and their bytes one after another.
+/// of chunks, their bytes one after another, and the head of the first.
 #[cycle(sheet)]
 #[derive(Drop)]
 pub(crate) struct Sheet {
+    head: Head,
     node: Node,
 }
 
@@ -33,11 +35,11 @@ enum Node {
 impl Model for Sheet {
     ghost use Rattle.std.specs.Prelude.{ℕ, List};
 
-    ghost Value = { ℕ × List ℕ };
+    ghost Value = { ℕ × (List ℕ × List ℕ) };
 
     ghost use Rattle.mc_slab.specs.Sheets.{sheets_in};
 
-    ghost view = { λ s. sheets_in s.node };
+    ghost view = { λ s. ((sheets_in s.node).0, ((sheets_in s.node).1, s.head)) };
 
     ghost size = { λ s. s.0 };
 
@@ -49,16 +51,28 @@ impl Model for Sheet {
 impl Sheet {
     /// Allocates one sheet of zeros in its box. The only error is a refused allocation.
     pub(crate) fn new(alloc: Global) -> Result<Box<Sheet>, AllocError>
-        ensures { IfOk result (λ sheet.
-            (sheet.value.0 ≡ 1) × (length sheet.value.1 ≡ 1048576)) }
+        ensures { IfOk result (λ sheet. (sheet.value.0 ≡ 1)
+            × (length sheet.value.1.0 ≡ 1048576) × (length sheet.value.1.1 ≡ 304)) }
     {
-        let whole = Whole::new(alloc)?;
-        Ok(Box::new(
-            alloc,
-            Sheet {
-                node: Node::Last(whole),
-            },
-        )?)
+        let sheet = Sheet {
+            head: Head::new(),
+            node: Node::Last(Whole::new(alloc)?),
+        };
+        Ok(Box::new(alloc, sheet)?)
+    }
+
+    /// Lends the bytes of the head.
+    pub(crate) fn head(&self) -> &[u8]
+        ensures { result.now ≡ self.now.1.1 }
+    {
+        self.head.bytes()
+    }
+
+    /// States that its head has 304 bytes. It does nothing.
+    pub(crate) fn has_head(&self)
+        ensures { length self.now.1.1 ≡ 304 }
+    {
+        self.head.is_head();
     }
 
     /// Returns the number of chunks.
@@ -78,7 +92,7 @@ impl Sheet {
     #[tactic(auto, using(crate::proofs::SheetLemmas::first_here, crate::proofs::SheetLemmas::first_alone))]
     pub(crate) fn first(&self) -> &[u8]
         requires { 1 ≤ self.now.0 }
-        ensures { result.now ≡ take 1048576 self.now.1 }
+        ensures { result.now ≡ take 1048576 self.now.1.0 }
     {
         match &self.node {
             Node::Last(whole) => whole.bytes(),
@@ -91,7 +105,7 @@ impl Sheet {
     #[inline(never)]
     pub(crate) fn part(&self, at: usize) -> &[u8]
         requires { at < self.now.0 }
-        ensures { result.now ≡ take 1048576 (drop (at * 1048576) self.now.1) }
+        ensures { result.now ≡ take 1048576 (drop (at * 1048576) self.now.1.0) }
     {
         if at == 0 {
             return self.first();
@@ -115,7 +129,7 @@ impl Sheet {
         requires order { from ≤ to }
         requires within { to ≤ 1048576 }
         ensures { IfSome result (λ lent. lent
-            ≡ take (to - from) (drop from (take 1048576 (drop (at * 1048576) self.now.1)))) }
+            ≡ take (to - from) (drop from (take 1048576 (drop (at * 1048576) self.now.1.0)))) }
     {
         if at == 0 {
             return self.lend_first(from, to);
@@ -135,7 +149,7 @@ impl Sheet {
         requires order { from ≤ to }
         requires within { to ≤ 1048576 }
         ensures { IfSome result (λ lent. lent
-            ≡ take (to - from) (drop from (take 1048576 self.now.1))) }
+            ≡ take (to - from) (drop from (take 1048576 self.now.1.0))) }
     {
         match &self.node {
             Node::Last(whole) => whole.lend(from, to),
@@ -146,9 +160,11 @@ impl Sheet {
 
     /// Puts one sheet in front of others. It takes no memory.
     pub(crate) fn in_front(mut sheet: Box<Sheet>, behind: Box<Sheet>) -> Box<Sheet>
-        requires one { (sheet.value.0 ≡ 1) × (length sheet.value.1 ≡ 1048576) }
-        ensures { result.value
-            ≡ (1 + behind.value.0, sheet.value.1 ++ behind.value.1) }
+        requires one { (sheet.value.0 ≡ 1) × (length sheet.value.1.0 ≡ 1048576) }
+        ensures { result.value ≡ (
+          1 + behind.value.0,
+          (sheet.value.1.0 ++ behind.value.1.0, sheet.value.1.1),
+        ) }
     {
         let node = mem::replace(&mut sheet.node, Node::Hollow);
         sheet.node = before(node, behind);
@@ -158,13 +174,18 @@ impl Sheet {
     /// Splits the first sheet from the others. It takes no memory.
     pub(crate) fn taken_off(mut sheet: Box<Sheet>) -> (Box<Sheet>, Box<Sheet>)
         requires { 2 ≤ sheet.value.0 }
-        ensures one { (result.0.value.0 ≡ 1) × (length result.0.value.1 ≡ 1048576) }
+        ensures one { (result.0.value.0 ≡ 1)
+            × (length result.0.value.1.0 ≡ 1048576) }
         ensures behind { (1 + result.1.value.0 ≡ sheet.value.0)
-            × (1048576 + length result.1.value.1 ≡ length sheet.value.1) }
+            × (1048576 + length result.1.value.1.0 ≡ length sheet.value.1.0) }
+        ensures heads { (length result.0.value.1.1 ≡ 304)
+            × (length result.1.value.1.1 ≡ 304) }
     {
         let node = mem::replace(&mut sheet.node, Node::Hollow);
         let (node, behind) = part_node(node);
         sheet.node = node;
+        sheet.has_head();
+        behind.has_head();
         (sheet, behind)
     }
 
@@ -174,8 +195,9 @@ impl Sheet {
     #[cycle(write_at)]
     #[inline(never)]
     pub(crate) fn write_at(&mut self, at: usize, part: &[u8])
-        requires { at + length part.now ≤ length self.old.1 }
-        ensures { self.new ≡ (self.old.0, with_part self.old.1 at part.now) }
+        requires { at + length part.now ≤ length self.old.1.0 }
+        ensures { self.new
+            ≡ (self.old.0, (with_part self.old.1.0 at part.now, self.old.1.1)) }
     {
         match &mut self.node {
             Node::Last(whole) => write_last(whole, at, part),
@@ -183,13 +205,41 @@ impl Sheet {
             Node::Hollow => {}
         }
     }
+
+    /// Takes the memory of a part over as that of its only chunk: the bytes begin with the part's.
+    /// Its former memory is left with the part.
+    ///
+    /// `false` if it doesn't, as for several chunks, and nothing changed.
+    #[inline(never)]
+    pub(crate) fn take_over(&mut self, part: &Lent) -> bool
+        requires { length part.now ≤ length self.old.1.0 }
+        ensures one { IsTrue result → self.old.0 ≡ 1 }
+        ensures taken { IsTrue result → take (length part.now) self.new.1.0 ≡ part.now }
+        ensures size { length self.new.1.0 ≡ length self.old.1.0 }
+        ensures same { (self.new.0 ≡ self.old.0) × (self.new.1.1 ≡ self.old.1.1) }
+        ensures kept { IsFalse result → self.new ≡ self.old }
+    {
+        match &mut self.node {
+            Node::Last(whole) => take_over_last(whole, part),
+            Node::Before(_, _) | Node::Hollow => false,
+        }
+    }
+
+    /// Copies `part` to the place `at` of the head. Everything else is unchanged.
+    pub(crate) fn write_head(&mut self, at: usize, part: &[u8])
+        requires { at + length part.now ≤ length self.old.1.1 }
+        ensures { self.new
+            ≡ (self.old.0, (self.old.1.0, with_part self.old.1.1 at part.now)) }
+    {
+        self.head.write_at(at, part);
+    }
 }
 
 /// Returns the node of one chunk with others behind it.
 fn before(node: Node, behind: Box<Sheet>) -> Node
     requires { ((sheets_in node).0 ≡ 1) × (length (sheets_in node).1 ≡ 1048576) }
     ensures { sheets_in result
-        ≡ (1 + behind.value.0, (sheets_in node).1 ++ behind.value.1) }
+        ≡ (1 + behind.value.0, (sheets_in node).1 ++ behind.value.1.0) }
 {
     match node {
         Node::Last(whole) => Node::Before(whole, behind),
@@ -207,7 +257,7 @@ fn part_node(node: Node) -> (Node, Box<Sheet>)
     ensures one { ((sheets_in result.0).0 ≡ 1)
         × (length (sheets_in result.0).1 ≡ 1048576) }
     ensures behind { (1 + result.1.value.0 ≡ (sheets_in node).0)
-        × (1048576 + length result.1.value.1 ≡ length (sheets_in node).1) }
+        × (1048576 + length result.1.value.1.0 ≡ length (sheets_in node).1) }
 {
     match node {
         Node::Before(whole, behind) => {
@@ -227,13 +277,25 @@ fn write_last(whole: &mut Whole, at: usize, part: &[u8])
     whole.write_at(at, part);
 }
 
+/// Takes the memory of a part over as that of the last chunk, and returns whether it did.
+fn take_over_last(whole: &mut Whole, part: &Lent) -> bool
+    requires { length part.now ≤ length whole.old }
+    ensures taken { IsTrue result → take (length part.now) whole.new ≡ part.now }
+    ensures size { length whole.new ≡ length whole.old }
+    ensures kept { IsFalse result → whole.new ≡ whole.old }
+{
+    whole.is_whole();
+    whole.take_over(part)
+}
+
 /// Copies `part` to the place `at` of a chunk and those behind it.
 #[cycle(write_at)]
 fn write_before(whole: &mut Whole, behind: &mut Sheet, at: usize, part: &[u8])
-    requires { at + length part.now ≤ length (whole.old ++ behind.old.1) }
-    ensures value { whole.new ++ behind.new.1
-        ≡ with_part (whole.old ++ behind.old.1) at part.now }
-    ensures count { behind.new.0 ≡ behind.old.0 }
+    requires { at + length part.now ≤ length (whole.old ++ behind.old.1.0) }
+    ensures value { whole.new ++ behind.new.1.0
+        ≡ with_part (whole.old ++ behind.old.1.0) at part.now }
+    ensures count { (behind.new.0 ≡ behind.old.0)
+        × (behind.new.1.1 ≡ behind.old.1.1) }
 {
     whole.is_whole();
     if at >= WHOLE {

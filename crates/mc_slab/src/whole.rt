@@ -1,6 +1,6 @@
 //! A chunk of a page's size, whose bytes can be lent beyond a borrow.
 
-ghost use Rattle.std.specs.Prelude.{◌≡◌, ◌+◌, ◌-◌, ◌≤◌, length, take, drop, IfOk, IfSome};
+ghost use Rattle.std.specs.Prelude.{◌≡◌, ◌+◌, ◌-◌, ◌≤◌, length, take, drop, IfOk, IfSome, IsTrue, IsFalse};
 ghost use Rattle.mc_slab.specs.Chunks.{with_part};
 
 use crate::block::Block;
@@ -63,6 +63,19 @@ impl Whole {
         ensures whole { length self.now ≡ 1048576 }
     {
         self.block.lend(from, to)
+    }
+
+    /// Takes the memory of a part over as its own: the bytes begin with the part's. Its former
+    /// memory is left with the part.
+    ///
+    /// `false` if it doesn't, and nothing changed.
+    pub(crate) fn take_over(&mut self, part: &Lent) -> bool
+        requires { length part.now ≤ 1048576 }
+        ensures taken { IsTrue result → take (length part.now) self.new ≡ part.now }
+        ensures whole { length self.new ≡ 1048576 }
+        ensures kept { IsFalse result → self.new ≡ self.old }
+    {
+        self.block.take_over(part)
     }
 
     /// Copies `part` to the place `at`. The other bytes are unchanged.

@@ -15,7 +15,7 @@ lend-requires-else-class-lt-CLASSES-clause-within c =
 pub returns-then-class-lt-CLASSES : goal.returns-then-class-lt-CLASSES
 returns-then-class-lt-CLASSES c =
     let below : (chunks_in c.args.held.now).class < 40 = omega (arith, c.class.ensures, c.number-class.ensures.value, c.if-class-lt-CLASSES.true) in
-    let chunk = c.block.ensures ∙ (lone_at (chunks_in c.args.held.now) c.args.at c.requires.are below c.requires.place).1 in
+    let chunk = c.lone.ensures ∙ (lone_at (chunks_in c.args.held.now) c.args.at c.requires.are below c.requires.place).1 in
     lent_of c.lend.result c.args.from c.args.to _ _ chunk c.lend.ensures
 
 pub returns-else-class-lt-CLASSES : goal.returns-else-class-lt-CLASSES

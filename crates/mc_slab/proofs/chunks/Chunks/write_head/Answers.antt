@@ -1,0 +1,16 @@
+use Rattle.std.proofs.Common.{◌+◌, ◌≤◌, length, sym, subst}
+use Rattle.mc_slab.specs.Chunks.{ChunksState, AreChunks}
+use Rattle.mc_slab.specs.Helds.{chunks_in}
+use Rattle.mc_slab.proofs.ChunkLemmas.{headed_are}
+use Rattle.mc_slab.proofs.chunks.Chunks.write_head.Goals as goal
+
+are : (c : goal.After-write_head) → AreChunks (chunks_in c.write_head.new.held)
+are c =
+    let room = subst (λ (s : ChunksState). c.args.at + length c.args.part.now ≤ length s.head) (sym c.self.view_is) c.requires in
+    headed_are (chunks_in c.self.inside.held) (chunks_in c.write_head.new.held) c.args.at c.args.part.now c.self.invariant room c.write_head.ensures.cut c.write_head.ensures.lent
+
+pub invariant_of-self : goal.invariant_of-self
+invariant_of-self c = are c
+
+pub returns-clause-are : goal.returns-clause-are
+returns-clause-are c = are c
