@@ -1,10 +1,13 @@
 -- What a write at an offset leaves, and what a header reads as that was written number by number.
-use Rattle.std.proofs.Common.{◌≡◌, ℕ, ◌+◌, ◌-◌, ◌^◌, ◌<◌, ◌≤◌, List, [], ◌++◌, length, take, drop, refl, sym, ap, subst, ◌∙◌, append_assoc, arith}
+use Rattle.std.proofs.Common.{◌≡◌, ◌⊎◌, inl, inr, ℕ, ◌+◌, ◌-◌, ◌^◌, ◌<◌, ◌≤◌, List, [], ◌++◌, length, take, drop, refl, sym, ap, subst, ◌∙◌, append_assoc, arith}
 use Rattle.std.proofs.lemmas.List.{length-append, length-take-le, length-drop, take_all, take_at, drop_at, drop-drop, append-nil, take-append-drop}
+use Rattle.std.proofs.lemmas.Bool.{cases_lt, le-leb, lt-leb}
 use Rattle.std.proofs.Math.ListN.{drop_of_length-le}
 use Rattle.byteorder.specs.Numbers.{little_number-reads_back}
 use Rattle.mc_slab.specs.Chunks.{with_part}
-use Rattle.mc_item.specs.Layout.{number_at, number_bytes, expires_number, moment_number, header_in}
+use Rattle.mc_slab.specs.Chunks.{ChunksState}
+use Rattle.mc_item.specs.Items.{start_of}
+use Rattle.mc_item.specs.Layout.{number_at, number_bytes, expires_number, moment_number, header_in, KeepsBytes}
 use Rattle.std.specs.Prelude.{◌==◌, if◌then◌else◌}
 use Rattle.mc_time.specs.declared.expiry.Expiry.{Expiry}
 use Rattle.mc_time.specs.declared.expiry.Expiry.TheVariants.{Never, At}
@@ -136,3 +139,27 @@ drop-further near far xs ys within same =
     let left : drop far xs ≡ drop (far - near) (drop near xs) = rw (drop-drop (far - near) near xs, place) refl in
     let right : drop far ys ≡ drop (far - near) (drop near ys) = rw (drop-drop (far - near) near ys, place) refl in
     left ∙ ap (drop (far - near)) same ∙ sym right
+
+-- where a block begins in the bytes, below class 27 and from there on
+pub start_of-below : (class key : ℕ) → class < 27 → start_of class key ≡ 48 + key
+unfolding start_of
+start_of-below class key below = rw (lt-leb 27 class below) refl
+
+pub start_of-above : (class key : ℕ) → 27 ≤ class → start_of class key ≡ 0
+unfolding start_of
+start_of-above class key above = rw (le-leb 27 class above) refl
+
+pub start_of-most : (class key : ℕ) → start_of class key ≤ 48 + key
+start_of-most class key = go (cases_lt class 27)
+  where
+    go : (class < 27) ⊎ (27 ≤ class) → start_of class key ≤ 48 + key
+    go (inl below) = let is = start_of-below class key below in omega arith
+    go (inr above) = let is = start_of-above class key above in omega arith
+
+-- what is behind the header has stayed from there on
+pub bytes_behind : (old new : ChunksState) (key : ℕ) → KeepsBytes old new 48 → drop (start_of old.class key) new.bytes ≡ drop (start_of old.class key) old.bytes
+bytes_behind old new key keeps = go (cases_lt old.class 27)
+  where
+    go : (old.class < 27) ⊎ (27 ≤ old.class) → drop (start_of old.class key) new.bytes ≡ drop (start_of old.class key) old.bytes
+    go (inl below) = let is = start_of-below old.class key below in drop-further 48 (start_of old.class key) new.bytes old.bytes (omega arith) keeps.behind
+    go (inr above) = ap (drop (start_of old.class key)) (keeps.beside above)

@@ -7,16 +7,8 @@ use Rattle.std.proofs.lemmas.List.{take-append-le, take-append-drop, nil_from_le
 use Rattle.std.proofs.Math.Seq.{take-append-add}
 use Rattle.std.proofs.Math.Nat.{suc-mul}
 use Rattle.mc_slab.specs.Chunks.{with_part}
+use Rattle.mc_slab.proofs.BlockLemmas.{drop-take-sub}
 use Rattle.mc_item.specs.Items.{pieces}
-
--- what is left of a front, once more was left out than it has or not
-drop-take-sub : (n m : ℕ) (xs : List ℕ) → drop n (take m xs) ≡ take (m - n) (drop n xs)
-drop-take-sub zero m xs = let same : m ≡ m - 0 = omega arith in ap (λ (k : ℕ). take k xs) same
-drop-take-sub (suc n) zero xs = let none : 0 ≡ 0 - suc n = omega arith in ap (λ (k : ℕ). take k (drop (suc n) xs)) none
-drop-take-sub (suc n) (suc m) [] = sym (take_all (suc m - suc n) [] (omega arith))
-drop-take-sub (suc n) (suc m) (x ∷ xs) =
-    let same : m - n ≡ suc m - suc n = omega arith in
-    drop-take-sub n m xs ∙ ap (λ (k : ℕ). take k (drop n xs)) same
 
 -- a front of a front
 take-take-min : (n m : ℕ) (xs : List ℕ) → take n (take m xs) ≡ take (min n m) xs
@@ -143,29 +135,6 @@ take-written near at part bytes before within =
     take-append-le near (take at bytes ++ part) _ far
     ∙ take-append-le near (take at bytes) part (omega arith)
     ∙ take-take near at bytes before
-
--- and what is behind it shows the part
-pub block-written : (start many at : ℕ) (part bytes : List ℕ) → at + length part ≤ many → start + many ≤ length bytes
-    → take many (drop start (with_part bytes (start + at) part)) ≡ with_part (take many (drop start bytes)) at part
-block-written start many at part bytes within room =
-    let front : length (take (start + at) bytes) ≡ start + at = length-take-le (start + at) bytes (omega arith) in
-    let xs : List ℕ = drop start bytes in
-    let rest : List ℕ = drop (start + at + length part) bytes in
-    let from : drop start (take (start + at) bytes) ≡ take at xs = drop-take start at bytes in
-    let far : start ≤ length (take (start + at) bytes ++ part) = rw (length-append (take (start + at) bytes) part) (omega arith) in
-    let cut : drop start (with_part bytes (start + at) part) ≡ take at xs ++ part ++ rest =
-    drop-append-le start (take (start + at) bytes ++ part) rest far
-    ∙ ap (λ (l : List ℕ). l ++ rest) (drop-append-le start (take (start + at) bytes) part (omega arith) ∙ ap (λ (l : List ℕ). l ++ part) from) in
-    let size : length (take at xs) ≡ at = length-take-le at xs (simp length-drop (omega arith)) in
-    let written : length (take at xs ++ part) ≡ at + length part = length-append (take at xs) part ∙ omega arith in
-    let whole : length (take at xs ++ part) + (many - (at + length part)) ≡ many = omega arith in
-    let taken : take many (take at xs ++ part ++ rest) ≡ take at xs ++ part ++ take (many - (at + length part)) rest =
-    sym (ap (λ (n : ℕ). take n (take at xs ++ part ++ rest)) whole) ∙ take-append-add (take at xs ++ part) rest (many - (at + length part)) in
-    let short : take at (take many xs) ≡ take at xs = take-take at many xs (omega arith) in
-    let behind : drop (at + length part) (take many xs) ≡ take (many - (at + length part)) rest =
-    drop-take-sub (at + length part) many xs
-    ∙ ap (take (many - (at + length part))) (drop-drop (at + length part) start bytes ∙ ap (λ (n : ℕ). drop n bytes) (omega arith)) in
-    ap (take many) cut ∙ taken ∙ sym (rw (short, behind) refl)
 
 -- bytes of which a front ends with a part, and the rest stayed
 pub with_part-from : (at : ℕ) (part new old : List ℕ) → take (at + length part) new ≡ take at old ++ part → drop (at + length part) new ≡ drop (at + length part) old → new ≡ with_part old at part

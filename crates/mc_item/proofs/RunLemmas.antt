@@ -1,19 +1,21 @@
 -- What a run of bytes shows in which a header, a key and a block were written.
-use Rattle.std.proofs.Common.{◌≡◌, ℕ, ◌+◌, ◌-◌, ◌*◌, ◌^◌, ◌<◌, ◌≤◌, zero, suc, inl, inr, List, ◌++◌, length, take, drop, refl, sym, ap, subst, ◌∙◌, append_assoc, min, Some, arith}
+use Rattle.std.proofs.Common.{◌≡◌, ◌⊎◌, ℕ, ◌+◌, ◌-◌, ◌*◌, ◌^◌, ◌<◌, ◌≤◌, zero, suc, inl, inr, List, ◌++◌, length, take, drop, refl, sym, ap, subst, ◌∙◌, append_assoc, min, Some, arith}
 use Rattle.std.proofs.lemmas.Nat.{mul-le}
 use Rattle.std.proofs.Math.Nat.{suc-mul}
-use Rattle.std.proofs.lemmas.List.{length-take-le, length-drop, take_all, take_at, drop_at, drop-drop, drop-take, take-take, take-append-drop}
+use Rattle.std.proofs.lemmas.Bool.{cases_lt}
+use Rattle.std.proofs.lemmas.List.{length-take-le, length-drop, take_all, take_at, drop_at, drop-append-le, drop-take, take-take}
 use Rattle.std.proofs.Math.Seq.{take-add}
 use Rattle.byteorder.specs.Numbers.{little_from-take}
 use Rattle.mc_slab.specs.Classes.{size_of}
 use Rattle.mc_slab.specs.Needs.{NeedState, size_in}
-use Rattle.mc_slab.specs.Chunks.{ChunksState, AreChunks, chunk_at, need_in, with_part}
+use Rattle.mc_slab.specs.Chunks.{ChunksState, AreChunks, chunk_at, need_in, with_part, written_cut}
+use Rattle.mc_slab.proofs.BlockLemmas.{block-written}
 use Rattle.mc_slab.proofs.ClassLemmas.{size_of-last, size_of-most}
-use Rattle.mc_item.specs.Items.{ItemState, IsItem, charge_of, front_of, parts_of}
-use Rattle.mc_item.specs.Layout.{number_at, header_in, item_in, key_in, block_in, key_length_in, block_length_in, HoldsItem}
+use Rattle.mc_item.specs.Items.{ItemState, IsItem, charge_of, front_of, parts_of, start_of}
+use Rattle.mc_item.specs.Layout.{number_at, header_in, item_in, key_in, block_in, block_start, key_length_in, block_length_in, HoldsItem, KeepsBytes, KeepsHead}
 use Rattle.mc_item.specs.declared.header.Header.{Header}
-use Rattle.mc_item.proofs.LayoutLemmas.{length-with_part}
-use Rattle.mc_item.proofs.PartLemmas.{concat-cut, length-pieces, slice_get-pieces, first_part, later_part, take-written, block-written, with_part-behind}
+use Rattle.mc_item.proofs.LayoutLemmas.{length-with_part, drop-with_part, start_of-below, start_of-most}
+use Rattle.mc_item.proofs.PartLemmas.{concat-cut, length-pieces, slice_get-pieces, first_part, later_part, take-written, with_part-behind}
 use Rattle.std.specs.Prelude.{slice_get}
 use Rattle.std.specs.List.{concat}
 
@@ -39,65 +41,76 @@ header_in-take bytes =
 pub header_in-front : (xs ys : List ℕ) → take 48 xs ≡ take 48 ys → header_in xs ≡ header_in ys
 header_in-front xs ys same = sym (header_in-take xs) ∙ ap header_in same ∙ header_in-take ys
 
--- an item's run: its header, its key and its block
-pub record Lies (header : Header) (key block bytes : List ℕ) : Type 0 where
-  pub header_is : header_in bytes ≡ header
+-- a head in which a header and a key stand
+pub record Headed (header : Header) (key head : List ℕ) : Type 0 where
+  pub header_is : header_in head ≡ header
+  pub key_is : take (length key) (drop 48 head) ≡ key
+
+-- an item in chunks of a class: its header and its key in the head, and its block in the bytes
+pub record Lies (class : ℕ) (header : Header) (key block head bytes : List ℕ) : Type 0 where
+  pub headed : Headed header key head
   pub key_length : header.key_length ≡ length key
   pub block_length : header.block_length ≡ length block
-  pub key_is : take (length key) (drop 48 bytes) ≡ key
-  pub block_is : take (length block) (drop (48 + length key) bytes) ≡ block
+  pub block_is : take (length block) (drop (start_of class (length key)) bytes) ≡ block
 
--- a front, a key and a block that begin the bytes
-pub record Begins (front key block bytes : List ℕ) : Type 0 where
-  pub size : length front ≡ 48
-  pub begins : take (48 + length key + length block) bytes ≡ front ++ (key ++ block)
+-- what was written behind a front
+pub behind_at : (n : ℕ) (front block bytes : List ℕ) → length front ≡ n → take (n + length block) bytes ≡ front ++ block → take (length block) (drop n bytes) ≡ block
+behind_at n front block bytes size is = sym (drop-take n (length block) bytes) ∙ ap (drop n) is ∙ drop_at front block n size
 
-begins_whole : (front key block bytes : List ℕ) → Begins front key block bytes → bytes ≡ front ++ (key ++ (block ++ drop (48 + length key + length block) bytes))
-begins_whole front key block bytes b =
-    sym (take-append-drop (48 + length key + length block) bytes) ∙ rw b.begins (simp append_assoc)
+-- a key that was written behind a header
+pub Headed-put : (header : Header) (key headed head : List ℕ) → header_in headed ≡ header → 48 ≤ length headed → take (48 + length key) head ≡ take 48 headed ++ key → Headed header key head
+Headed-put header key headed head is long before =
+    let size : length (take 48 headed) ≡ 48 = length-take-le 48 headed long in
+    let front : take 48 head ≡ take 48 headed =
+    sym (take-take 48 (48 + length key) head (omega arith)) ∙ ap (take 48) before ∙ take_at (take 48 headed) key 48 size in
+    record {
+      header_is = header_in-front head headed front ∙ is;
+      key_is = behind_at 48 (take 48 headed) key head size before;
+    }
 
-pub front_is : (front key block bytes : List ℕ) → Begins front key block bytes → take 48 bytes ≡ front
-front_is front key block bytes b = ap (take 48) (begins_whole front key block bytes b) ∙ take_at front _ 48 b.size
+-- a head that stayed in front of a place behind the key
+Headed-front : (header : Header) (key old new : List ℕ) (n : ℕ) → Headed header key old → 48 + length key ≤ n → take n new ≡ take n old → Headed header key new
+Headed-front header key old new n headed within same =
+    let whole : take (48 + length key) new ≡ take (48 + length key) old =
+    sym (take-take (48 + length key) n new within) ∙ ap (take (48 + length key)) same ∙ take-take (48 + length key) n old within in
+    let front : take 48 new ≡ take 48 old = sym (take-take 48 n new (omega arith)) ∙ ap (take 48) same ∙ take-take 48 n old (omega arith) in
+    record {
+      header_is = header_in-front new old front ∙ headed.header_is;
+      key_is = sym (drop-take 48 (length key) new) ∙ ap (drop 48) whole ∙ drop-take 48 (length key) old ∙ headed.key_is;
+    }
 
-behind_front : (front key block bytes : List ℕ) → Begins front key block bytes → drop 48 bytes ≡ key ++ (block ++ drop (48 + length key + length block) bytes)
-behind_front front key block bytes b = ap (drop 48) (begins_whole front key block bytes b) ∙ drop_at front _ 48 b.size
+-- the head of chunks of a class that stayed in front of a place in the block
+pub Headed-kept : (class : ℕ) (header : Header) (key : List ℕ) (old new : ChunksState) (n : ℕ) → old.class ≡ class → Headed header key old.head
+    → start_of class (length key) ≤ n → KeepsHead old new n → Headed header key new.head
+Headed-kept class header key old new n same headed within keeps = go (cases_lt class 27)
+  where
+    go : (class < 27) ⊎ (27 ≤ class) → Headed header key new.head
+    go (inl below) =
+        let start = start_of-below class (length key) below in
+        Headed-front header key old.head new.head n headed (omega arith) keeps.front
+    go (inr above) = subst (Headed header key) (sym (keeps.beside (omega (arith, above, same)))) headed
 
-behind_key : (front key block bytes : List ℕ) → Begins front key block bytes → drop (48 + length key) bytes ≡ block ++ drop (48 + length key + length block) bytes
-behind_key front key block bytes b =
-    sym (drop-drop (length key) 48 bytes) ∙ ap (drop (length key)) (behind_front front key block bytes b) ∙ drop_at key _ (length key) refl
+-- a header and a key, whatever is in the bytes
+pub Lies-Headed : (header : Header) (key : List ℕ) (chunks : ChunksState) → Headed header key chunks.head → header.key_length ≡ length key
+    → 48 + length key + header.block_length ≤ length chunks.bytes → Lies chunks.class header key (block_in chunks) chunks.head chunks.bytes
+Lies-Headed header key chunks headed k room =
+    let k' : key_length_in chunks.head ≡ length key = ap (λ (h : Header). h.key_length) headed.header_is ∙ k in
+    let l' : block_length_in chunks.head ≡ header.block_length = ap (λ (h : Header). h.block_length) headed.header_is in
+    let start : ℕ = start_of chunks.class (length key) in
+    let is : block_in chunks ≡ take header.block_length (drop start chunks.bytes) =
+    ap (λ (n : ℕ). take n (drop (block_start chunks) chunks.bytes)) l' ∙ ap (λ (n : ℕ). take header.block_length (drop (start_of chunks.class n) chunks.bytes)) k' in
+    let most = start_of-most chunks.class (length key) in
+    let size : length (block_in chunks) ≡ header.block_length =
+    ap length is ∙ length-take-le header.block_length (drop start chunks.bytes) (simp length-drop (omega arith)) in
+    record {
+      headed = headed;
+      key_length = k;
+      block_length = sym size;
+      block_is = ap (λ (n : ℕ). take n (drop start chunks.bytes)) size ∙ sym is;
+    }
 
--- a header, a key and a block that were written one behind the other
-pub Lies-Begins : (header : Header) (front key block bytes headed : List ℕ) → Begins front key block bytes → front ≡ take 48 headed → header_in headed ≡ header
-    → header.key_length ≡ length key → header.block_length ≡ length block → Lies header key block bytes
-Lies-Begins header front key block bytes headed b from is k l = record {
-  header_is = header_in-front bytes headed (front_is front key block bytes b ∙ from) ∙ is;
-  key_length = k;
-  block_length = l;
-  key_is = ap (take (length key)) (behind_front front key block bytes b) ∙ take_at key _ (length key) refl;
-  block_is = ap (take (length block)) (behind_key front key block bytes b) ∙ take_at block _ (length block) refl;
-}
-
--- a header and a key that were written one behind the other, whatever is behind them
-pub Lies-Headed : (header : Header) (key headed bytes : List ℕ) → header_in headed ≡ header → header.key_length ≡ length key → 48 ≤ length headed
-    → 48 + length key + header.block_length ≤ length bytes → take (48 + length key) bytes ≡ take 48 headed ++ key → Lies header key (block_in bytes) bytes
-Lies-Headed header key headed bytes is k long room before =
-    let block : List ℕ = take header.block_length (drop (48 + length key) bytes) in
-    let size : length block ≡ header.block_length = length-take-le header.block_length (drop (48 + length key) bytes) (simp length-drop (omega arith)) in
-    let begins : Begins (take 48 headed) key block bytes = record {
-      size = length-take-le 48 headed long;
-      begins = ap (λ (n : ℕ). take (48 + length key + n) bytes) size
-          ∙ take-add (48 + length key) header.block_length bytes
-          ∙ ap (λ (xs : List ℕ). xs ++ block) before
-          ∙ append_assoc (take 48 headed) key block;
-    } in
-    let lies = Lies-Begins header (take 48 headed) key block bytes headed begins refl is k (sym size) in
-    let k' : key_length_in bytes ≡ length key = ap (λ (h : Header). h.key_length) lies.header_is ∙ k in
-    let l' : block_length_in bytes ≡ header.block_length = ap (λ (h : Header). h.block_length) lies.header_is in
-    let same : block ≡ block_in bytes = rw (k', l') refl in
-    subst (λ (b : List ℕ). Lies header key b bytes) same lies
-
--- the item that chunks with such a run show
-pub item_in-Lies : (header : Header) (key block : List ℕ) (chunks old : ChunksState) → Lies header key block chunks.bytes → need_in chunks ≡ need_in old
+-- the item that such chunks show
+pub item_in-Lies : (header : Header) (key block : List ℕ) (chunks old : ChunksState) → Lies old.class header key block chunks.head chunks.bytes → need_in chunks ≡ need_in old
     → item_in chunks ≡ record {
       hash = header.hash;
       key = key;
@@ -111,48 +124,68 @@ pub item_in-Lies : (header : Header) (key block : List ℕ) (chunks old : Chunks
       count = old.count;
     }
 item_in-Lies header key block chunks old lies same =
-    let k : key_length_in chunks.bytes ≡ length key = ap (λ (h : Header). h.key_length) lies.header_is ∙ lies.key_length in
-    let l : block_length_in chunks.bytes ≡ length block = ap (λ (h : Header). h.block_length) lies.header_is ∙ lies.block_length in
-    let key_is : key_in chunks.bytes ≡ key = rw k lies.key_is in
-    let block_is : block_in chunks.bytes ≡ block = rw (k, l) lies.block_is in
+    let k : key_length_in chunks.head ≡ length key = ap (λ (h : Header). h.key_length) lies.headed.header_is ∙ lies.key_length in
+    let l : block_length_in chunks.head ≡ length block = ap (λ (h : Header). h.block_length) lies.headed.header_is ∙ lies.block_length in
+    let key_is : key_in chunks.head ≡ key = rw k lies.headed.key_is in
+    let class : chunks.class ≡ old.class = ap (λ (n : NeedState). n.class) same in
+    let block_is : block_in chunks ≡ block = rw (k, l, class) lies.block_is in
     let item : Header → List ℕ → List ℕ → NeedState → ItemState =
     λ h a b n. record { hash = h.hash; key = a; flags = h.flags; expiry = h.expiry; block = b; unique = h.unique; updated = h.updated; class = n.class; count = n.count } in
-    ap (λ (h : Header). item h (key_in chunks.bytes) (block_in chunks.bytes) (need_in chunks)) lies.header_is
-    ∙ ap (λ (a : List ℕ). item header a (block_in chunks.bytes) (need_in chunks)) key_is
+    ap (λ (h : Header). item h (key_in chunks.head) (block_in chunks) (need_in chunks)) lies.headed.header_is
+    ∙ ap (λ (a : List ℕ). item header a (block_in chunks) (need_in chunks)) key_is
     ∙ ap (λ (b : List ℕ). item header key b (need_in chunks)) block_is
     ∙ ap (λ (n : NeedState). item header key block n) same
 
 -- and it is one
-pub HoldsItem-Lies : (header : Header) (key block : List ℕ) (chunks : ChunksState) → Lies header key block chunks.bytes → AreChunks chunks → length key ≤ 250
+pub HoldsItem-Lies : (class : ℕ) (header : Header) (key block : List ℕ) (chunks : ChunksState) → Lies class header key block chunks.head chunks.bytes → AreChunks chunks → length key ≤ 250
     → 48 + length key + length block ≤ length chunks.bytes → header.updated ≤ 2 ^ 62 → HoldsItem chunks
-HoldsItem-Lies header key block chunks lies are short room latest =
-    let k : key_length_in chunks.bytes ≡ length key = ap (λ (h : Header). h.key_length) lies.header_is ∙ lies.key_length in
-    let l : block_length_in chunks.bytes ≡ length block = ap (λ (h : Header). h.block_length) lies.header_is ∙ lies.block_length in
+HoldsItem-Lies class header key block chunks lies are short room latest =
+    let k : key_length_in chunks.head ≡ length key = ap (λ (h : Header). h.key_length) lies.headed.header_is ∙ lies.key_length in
+    let l : block_length_in chunks.head ≡ length block = ap (λ (h : Header). h.block_length) lies.headed.header_is ∙ lies.block_length in
     record {
       are = are;
       key = omega arith;
       room = omega arith;
-      updated = subst (λ (h : Header). h.updated ≤ 2 ^ 62) (sym lies.header_is) latest;
+      updated = subst (λ (h : Header). h.updated ≤ 2 ^ 62) (sym lies.headed.header_is) latest;
     }
 
--- how long a key and a block are that lie in the chunks
-pub length-key_in : (chunks : ChunksState) → HoldsItem chunks → length (key_in chunks.bytes) ≡ key_length_in chunks.bytes
-length-key_in chunks holds =
-    let room = holds.room in
-    length-take-le (key_length_in chunks.bytes) (drop 48 chunks.bytes) (simp length-drop (omega arith))
+-- a header and a key have room in the head of chunks in which they have room
+pub head_room : (chunks : ChunksState) (key rest : ℕ) → AreChunks chunks → key ≤ 250 → 48 + key + rest ≤ length chunks.bytes → 48 + key ≤ length chunks.head
+head_room chunks key rest are short room = go (cases_lt chunks.class 27)
+  where
+    go : (chunks.class < 27) ⊎ (27 ≤ chunks.class) → 48 + key ≤ length chunks.head
+    go (inl below) = let same : length chunks.head ≡ length chunks.bytes = ap length (are.is_head.same below) in omega arith
+    go (inr above) = let size : length chunks.head ≡ 304 = are.is_head.beside above in omega arith
 
-pub length-block_in : (chunks : ChunksState) → HoldsItem chunks → length (block_in chunks.bytes) ≡ block_length_in chunks.bytes
+pub head_reach : (chunks : ChunksState) → HoldsItem chunks → 48 + key_length_in chunks.head ≤ length chunks.head
+head_reach chunks holds = head_room chunks (key_length_in chunks.head) (block_length_in chunks.head) holds.are holds.key holds.room
+
+-- how long a key and a block are that lie in the chunks
+pub length-key_in : (chunks : ChunksState) → HoldsItem chunks → length (key_in chunks.head) ≡ key_length_in chunks.head
+length-key_in chunks holds =
+    let room = head_reach chunks holds in
+    length-take-le (key_length_in chunks.head) (drop 48 chunks.head) (simp length-drop (omega arith))
+
+pub length-block_in : (chunks : ChunksState) → HoldsItem chunks → length (block_in chunks) ≡ block_length_in chunks.head
 length-block_in chunks holds =
     let room = holds.room in
-    length-take-le (block_length_in chunks.bytes) (drop (48 + key_length_in chunks.bytes) chunks.bytes) (simp length-drop (omega arith))
+    let most = start_of-most chunks.class (key_length_in chunks.head) in
+    length-take-le (block_length_in chunks.head) (drop (block_start chunks) chunks.bytes) (simp length-drop (omega arith))
+
+-- the head of an item whose header was written anew
+pub Headed-anew : (chunks : ChunksState) (header : Header) (head : List ℕ) → HoldsItem chunks → header_in head ≡ header → drop 48 head ≡ drop 48 chunks.head → Headed header (key_in chunks.head) head
+Headed-anew chunks header head holds is behind = record {
+  header_is = is;
+  key_is = rw (length-key_in chunks holds) (ap (take (key_length_in chunks.head)) behind);
+}
 
 -- what such an item's charge is, and that it is one
-pub charge_of-item_in : (chunks : ChunksState) → HoldsItem chunks → charge_of (item_in chunks) ≡ 48 + key_length_in chunks.bytes + block_length_in chunks.bytes
+pub charge_of-item_in : (chunks : ChunksState) → HoldsItem chunks → charge_of (item_in chunks) ≡ 48 + key_length_in chunks.head + block_length_in chunks.head
 charge_of-item_in chunks holds = rw (length-key_in chunks holds, length-block_in chunks holds) refl
 
 pub IsItem-item_in : (chunks : ChunksState) → HoldsItem chunks → IsItem (item_in chunks)
 IsItem-item_in chunks holds =
-    let key : length (key_in chunks.bytes) ≤ 250 = rw (length-key_in chunks holds) holds.key in
+    let key : length (key_in chunks.head) ≤ 250 = rw (length-key_in chunks holds) holds.key in
     let fits : charge_of (item_in chunks) ≤ size_in (need_in chunks) = rw (charge_of-item_in chunks holds, ← holds.are.size) holds.room in
     record { is_need = holds.are.is_need; key = key; fits = fits }
 
@@ -164,7 +197,7 @@ chunks_most chunks are =
     rw are.size most
 
 -- room for a block in the chunks is room in their bytes
-pub room_in : (chunks : ChunksState) (size : ℕ) → HoldsItem chunks → 48 + length (key_in chunks.bytes) + size ≤ size_in (need_in chunks) → 48 + key_length_in chunks.bytes + size ≤ length chunks.bytes
+pub room_in : (chunks : ChunksState) (size : ℕ) → HoldsItem chunks → 48 + length (key_in chunks.head) + size ≤ size_in (need_in chunks) → 48 + key_length_in chunks.head + size ≤ length chunks.bytes
 room_in chunks size holds room = rw (← length-key_in chunks holds, holds.are.size) room
 
 -- the header and the key of an item lie in its first chunk
@@ -177,8 +210,20 @@ head_within item is =
       | inr last ↦ subst (λ (class : ℕ). 48 + length item.key ≤ size_of class) (sym last) (rw size_of-last short)
     ]
 
-pub head_fits : (chunks : ChunksState) → HoldsItem chunks → 48 + key_length_in chunks.bytes ≤ size_of chunks.class
+pub head_fits : (chunks : ChunksState) → HoldsItem chunks → 48 + key_length_in chunks.head ≤ size_of chunks.class
 head_fits chunks holds = rw (← length-key_in chunks holds) (head_within (item_in chunks) (IsItem-item_in chunks holds))
+
+-- so the block begins within it
+pub start_fits : (chunks : ChunksState) → HoldsItem chunks → block_start chunks ≤ size_of chunks.class
+start_fits chunks holds =
+    let head = head_fits chunks holds in
+    let most = start_of-most chunks.class (key_length_in chunks.head) in
+    omega arith
+
+-- where it begins, as the key's length is read
+pub start_read : (chunks : ChunksState) (head : List ℕ) (start key : ℕ) → start ≡ start_of chunks.class key → key ≡ key_length_in head → header_in head ≡ header_in chunks.head
+    → start ≡ block_start chunks
+start_read chunks head start key is read same = is ∙ ap (start_of chunks.class) (read ∙ ap (λ (h : Header). h.key_length) same)
 
 -- chunk by chunk they have room in the bytes
 pub chunk_within : (chunks : ChunksState) (at : ℕ) → AreChunks chunks → at < chunks.count → at * size_of chunks.class + size_of chunks.class ≤ length chunks.bytes
@@ -193,23 +238,11 @@ first_within chunks are =
     let within = chunk_within chunks 0 are (omega arith) in
     omega arith
 
--- so they are read from there
-pub key_in-front : (size : ℕ) (bytes : List ℕ) → 48 + key_length_in bytes ≤ size → (header_in (take size bytes) ≡ header_in bytes) × (key_in (take size bytes) ≡ key_in bytes)
-key_in-front size bytes within =
-    let head : header_in (take size bytes) ≡ header_in bytes = header_in-front (take size bytes) bytes (take-take 48 size bytes (omega arith)) in
-    let length_is : key_length_in (take size bytes) ≡ key_length_in bytes = ap (λ (h : Header). h.key_length) head in
-    let place : 48 + (size - 48) ≡ size = omega arith in
-    let behind : drop 48 (take size bytes) ≡ take (size - 48) (drop 48 bytes) = ap (λ (n : ℕ). drop 48 (take n bytes)) (sym place) ∙ drop-take 48 (size - 48) bytes in
-    let key : key_in (take size bytes) ≡ key_in bytes =
-    ap (λ (n : ℕ). take n (drop 48 (take size bytes))) length_is
-    ∙ ap (take (key_length_in bytes)) behind
-    ∙ take-take (key_length_in bytes) (size - 48) (drop 48 bytes) (omega arith) in
-    (head, key)
-
 -- how much room a block has behind its part in the first chunk
 pub block_room : (item : ItemState) → IsItem item → length item.block ≤ front_of item + (item.count - 1) * size_of item.class
 block_room item is =
     let head = head_within item is in
+    let most = start_of-most item.class (length item.key) in
     let fits = is.fits in
     let some = is.is_need.some in
     let one : suc (item.count - 1) ≡ item.count = omega arith in
@@ -222,48 +255,48 @@ pub concat-parts_of : (item : ItemState) → IsItem item → concat (parts_of it
 concat-parts_of item is = concat-cut (front_of item) (size_of item.class) (item.count - 1) item.block (block_room item is)
 
 -- the first part
-pub part-first : (chunks : ChunksState) (part : List ℕ) → HoldsItem chunks → (start end : ℕ) → start ≡ 48 + key_length_in chunks.bytes
-    → end ≡ start + block_length_in chunks.bytes → part ≡ take (min end (size_of chunks.class) - start) (drop start (take (size_of chunks.class) chunks.bytes))
+pub part-first : (chunks : ChunksState) (part : List ℕ) → HoldsItem chunks → (start end : ℕ) → start ≡ block_start chunks
+    → end ≡ start + block_length_in chunks.head → part ≡ take (min end (size_of chunks.class) - start) (drop start (take (size_of chunks.class) chunks.bytes))
     → slice_get (parts_of (item_in chunks)) 0 ≡ Some part
 part-first chunks part holds start end from to is =
-    let key = length-key_in chunks holds in
-    let head = head_fits chunks holds in
-    let front : front_of (item_in chunks) ≡ size_of chunks.class - start = omega arith in
-    let cut = first_part start (block_length_in chunks.bytes) (size_of chunks.class) chunks.bytes (omega arith) in
+    let fits = start_fits chunks holds in
+    let front : front_of (item_in chunks) ≡ size_of chunks.class - start =
+    ap (λ (n : ℕ). size_of chunks.class - start_of chunks.class n) (length-key_in chunks holds) ∙ ap (λ (n : ℕ). size_of chunks.class - n) (sym from) in
+    let cut = first_part start (block_length_in chunks.head) (size_of chunks.class) chunks.bytes (omega arith) in
     ap Some
-    (ap (λ (n : ℕ). take n (block_in chunks.bytes)) front
-    ∙ ap (λ (n : ℕ). take (size_of chunks.class - start) (take (block_length_in chunks.bytes) (drop n chunks.bytes))) (sym from)
+    (ap (λ (n : ℕ). take n (block_in chunks)) front
+    ∙ ap (λ (n : ℕ). take (size_of chunks.class - start) (take (block_length_in chunks.head) (drop n chunks.bytes))) (sym from)
     ∙ sym cut
     ∙ ap (λ (n : ℕ). take (min n (size_of chunks.class) - start) (drop start (take (size_of chunks.class) chunks.bytes))) (sym to)
     ∙ sym is)
 
 -- and those behind
-pub part-later : (chunks : ChunksState) (part : List ℕ) → HoldsItem chunks → (start end at : ℕ) → start ≡ 48 + key_length_in chunks.bytes
-    → end ≡ start + block_length_in chunks.bytes → suc at < chunks.count
+pub part-later : (chunks : ChunksState) (part : List ℕ) → HoldsItem chunks → (start end at : ℕ) → start ≡ block_start chunks
+    → end ≡ start + block_length_in chunks.head → suc at < chunks.count
     → part ≡ take (min (end - suc at * size_of chunks.class) (size_of chunks.class)) (chunk_at chunks (suc at)) → slice_get (parts_of (item_in chunks)) (suc at) ≡ Some part
 part-later chunks part holds start end at from to below is =
     let size : ℕ = size_of chunks.class in
-    let key = length-key_in chunks holds in
-    let head = head_fits chunks holds in
-    let front : front_of (item_in chunks) ≡ size - start = omega arith in
+    let fits = start_fits chunks holds in
+    let front : front_of (item_in chunks) ≡ size - start =
+    ap (λ (n : ℕ). size - start_of chunks.class n) (length-key_in chunks holds) ∙ ap (λ (n : ℕ). size - n) (sym from) in
     let place : suc at * size ≡ size + at * size = suc-mul at size ∙ omega arith in
-    let cut = later_part start (block_length_in chunks.bytes) size at chunks.bytes (omega arith) in
-    slice_get-pieces size (chunks.count - 1) (drop (front_of (item_in chunks)) (block_in chunks.bytes)) at (omega arith)
+    let cut = later_part start (block_length_in chunks.head) size at chunks.bytes (omega arith) in
+    slice_get-pieces size (chunks.count - 1) (drop (front_of (item_in chunks)) (block_in chunks)) at (omega arith)
     ∙ ap Some
-    (ap (λ (n : ℕ). take size (drop (at * size) (drop n (block_in chunks.bytes)))) front
-    ∙ ap (λ (n : ℕ). take size (drop (at * size) (drop (size - start) (take (block_length_in chunks.bytes) (drop n chunks.bytes))))) (sym from)
+    (ap (λ (n : ℕ). take size (drop (at * size) (drop n (block_in chunks)))) front
+    ∙ ap (λ (n : ℕ). take size (drop (at * size) (drop (size - start) (take (block_length_in chunks.head) (drop n chunks.bytes))))) (sym from)
     ∙ sym cut
     ∙ ap (λ (n : ℕ). take (min (n - (size + at * size)) size) (take size (drop (size + at * size) chunks.bytes))) (sym to)
     ∙ ap (λ (n : ℕ). take (min (end - n) size) (take size (drop n chunks.bytes))) (sym place)
     ∙ sym is)
 
 -- the first part of an item of one chunk is its whole block
-pub part-lone : (chunks : ChunksState) (part : List ℕ) → HoldsItem chunks → chunks.count ≡ 1 → slice_get (parts_of (item_in chunks)) 0 ≡ Some part → part ≡ block_in chunks.bytes
+pub part-lone : (chunks : ChunksState) (part : List ℕ) → HoldsItem chunks → chunks.count ≡ 1 → slice_get (parts_of (item_in chunks)) 0 ≡ Some part → part ≡ block_in chunks
 part-lone chunks part holds one is =
     let room = block_room (item_in chunks) (IsItem-item_in chunks holds) in
     let none : (chunks.count - 1) * size_of chunks.class ≡ 0 * size_of chunks.class = ap (λ (n : ℕ). (n - 1) * size_of chunks.class) one in
-    let all : take (front_of (item_in chunks)) (block_in chunks.bytes) ≡ block_in chunks.bytes = take_all (front_of (item_in chunks)) (block_in chunks.bytes) (omega arith) in
-    let same : take (front_of (item_in chunks)) (block_in chunks.bytes) ≡ part = cc in
+    let all : take (front_of (item_in chunks)) (block_in chunks) ≡ block_in chunks = take_all (front_of (item_in chunks)) (block_in chunks) (omega arith) in
+    let same : take (front_of (item_in chunks)) (block_in chunks) ≡ part = cc in
     sym same ∙ all
 
 -- so many parts
@@ -280,31 +313,34 @@ length-chunk_at chunks at are below =
     length-take-le (size_of chunks.class) (drop (at * size_of chunks.class) chunks.bytes) (simp length-drop (omega arith))
 
 -- a part behind the first
-pub part-behind : (chunks : ChunksState) (part : List ℕ) → HoldsItem chunks → (start end at : ℕ) → start ≡ 48 + key_length_in chunks.bytes
-    → end ≡ start + block_length_in chunks.bytes → 1 ≤ at → at < chunks.count
+pub part-behind : (chunks : ChunksState) (part : List ℕ) → HoldsItem chunks → (start end at : ℕ) → start ≡ block_start chunks
+    → end ≡ start + block_length_in chunks.head → 1 ≤ at → at < chunks.count
     → part ≡ take (min (end - at * size_of chunks.class) (size_of chunks.class)) (chunk_at chunks at) → slice_get (parts_of (item_in chunks)) at ≡ Some part
 part-behind chunks part holds start end zero from to some below is = absurd (omega arith)
 part-behind chunks part holds start end (suc at) from to some below is = part-later chunks part holds start end at from to below is
 
--- a run in whose block a part was written
-pub Lies-written : (chunks : ChunksState) (at : ℕ) (part : List ℕ) → HoldsItem chunks → at + length part ≤ block_length_in chunks.bytes
-    → Lies (header_in chunks.bytes) (key_in chunks.bytes) (with_part (block_in chunks.bytes) at part) (with_part chunks.bytes (48 + key_length_in chunks.bytes + at) part)
-Lies-written chunks at part holds within =
-    let k : ℕ = key_length_in chunks.bytes in
-    let many : ℕ = block_length_in chunks.bytes in
-    let new : List ℕ = with_part chunks.bytes (48 + k + at) part in
+-- an item in whose block a part was written
+pub Lies-written : (chunks new : ChunksState) (at : ℕ) (part : List ℕ) → HoldsItem chunks → at + length part ≤ block_length_in chunks.head
+    → KeepsHead chunks new (block_start chunks + at) → new.bytes ≡ with_part chunks.bytes (block_start chunks + at) part
+    → Lies chunks.class (header_in chunks.head) (key_in chunks.head) (with_part (block_in chunks) at part) new.head new.bytes
+Lies-written chunks new at part holds within keeps is =
+    let start : ℕ = block_start chunks in
+    let many : ℕ = block_length_in chunks.head in
     let room = holds.room in
-    let key : length (key_in chunks.bytes) ≡ k = length-key_in chunks holds in
-    let block : length (block_in chunks.bytes) ≡ many = length-block_in chunks holds in
-    let written : length (with_part (block_in chunks.bytes) at part) ≡ many = length-with_part at part (block_in chunks.bytes) (omega arith) ∙ block in
-    let front : take (48 + k) new ≡ take (48 + k) chunks.bytes = take-written (48 + k) (48 + k + at) part chunks.bytes (omega arith) (omega arith) in
+    let most = start_of-most chunks.class (key_length_in chunks.head) in
+    let key : length (key_in chunks.head) ≡ key_length_in chunks.head = length-key_in chunks holds in
+    let begin : start_of chunks.class (length (key_in chunks.head)) ≡ start = ap (start_of chunks.class) key in
+    let block : length (block_in chunks) ≡ many = length-block_in chunks holds in
+    let written : length (with_part (block_in chunks) at part) ≡ many = length-with_part at part (block_in chunks) (omega arith) ∙ block in
     record {
-      header_is = header_in-front new chunks.bytes (take-written 48 (48 + k + at) part chunks.bytes (omega arith) (omega arith));
+      headed = Headed-kept chunks.class (header_in chunks.head) (key_in chunks.head) chunks new (start + at) refl
+          (Headed-anew chunks (header_in chunks.head) chunks.head holds refl refl) (omega arith) keeps;
       key_length = sym key;
       block_length = sym written;
-      key_is = ap (λ (n : ℕ). take n (drop 48 new)) key ∙ sym (drop-take 48 k new) ∙ ap (drop 48) front ∙ drop-take 48 k chunks.bytes;
-      block_is = ap (λ (n : ℕ). take n (drop (48 + length (key_in chunks.bytes)) new)) written ∙ ap (λ (n : ℕ). take many (drop (48 + n) new)) key
-          ∙ block-written (48 + k) many at part chunks.bytes within (omega arith);
+      block_is = ap (λ (n : ℕ). take n (drop (start_of chunks.class (length (key_in chunks.head))) new.bytes)) written
+          ∙ ap (λ (n : ℕ). take many (drop n new.bytes)) begin
+          ∙ ap (λ (bytes : List ℕ). take many (drop start bytes)) is
+          ∙ block-written start many at part chunks.bytes within (omega arith);
     }
 
 -- all its parts
@@ -336,14 +372,93 @@ block_most item is =
     let most : item.count * size_of item.class ≤ 8 * 1048576 = mul-le item.count (size_of item.class) 8 1048576 is.is_need.most size in
     omega arith
 
--- the run of an item that ends where its block does, where what is behind the header has stayed
-pub run_behind : (chunks : ChunksState) (headed : List ℕ) → drop 48 headed ≡ drop 48 chunks.bytes
-    → take (48 + key_length_in chunks.bytes + block_length_in chunks.bytes) headed ≡ take 48 headed ++ (key_in chunks.bytes ++ block_in chunks.bytes)
-run_behind chunks headed behind =
-    let k : ℕ = key_length_in chunks.bytes in
-    let many : ℕ = block_length_in chunks.bytes in
-    let place : 48 + k + many ≡ 48 + (k + many) = omega arith in
-    ap (λ (n : ℕ). take n headed) place
-    ∙ take-add 48 (k + many) headed
-    ∙ ap (λ (rest : List ℕ). take 48 headed ++ take (k + many) rest) behind
-    ∙ ap (λ (rest : List ℕ). take 48 headed ++ rest) (take-add k many (drop 48 chunks.bytes) ∙ ap (λ (rest : List ℕ). key_in chunks.bytes ++ take many rest) (drop-drop k 48 chunks.bytes))
+-- the block of an item behind which more was written, where what is behind the header has stayed
+pub block_behind : (chunks : ChunksState) (more headed bytes : List ℕ) → HoldsItem chunks → drop (block_start chunks) headed ≡ drop (block_start chunks) chunks.bytes
+    → length headed ≡ length chunks.bytes
+    → take (block_start chunks + block_length_in chunks.head + length more) bytes ≡ take (block_start chunks + block_length_in chunks.head) headed ++ more
+    → take (block_length_in chunks.head + length more) (drop (block_start chunks) bytes) ≡ block_in chunks ++ more
+block_behind chunks more headed bytes holds kept size is =
+    let start : ℕ = block_start chunks in
+    let many : ℕ = block_length_in chunks.head in
+    let room = holds.room in
+    let most = start_of-most chunks.class (key_length_in chunks.head) in
+    let place : start + (many + length more) ≡ start + many + length more = omega arith in
+    let front : length (take (start + many) headed) ≡ start + many = length-take-le (start + many) headed (omega arith) in
+    sym (drop-take start (many + length more) bytes)
+    ∙ ap (λ (n : ℕ). drop start (take n bytes)) place
+    ∙ ap (drop start) is
+    ∙ drop-append-le start (take (start + many) headed) more (omega arith)
+    ∙ ap (λ (xs : List ℕ). xs ++ more) (drop-take start many headed ∙ ap (take many) kept)
+
+-- what a write into the bytes leaves
+pub record Wrote (old new : ChunksState) (at : ℕ) (part : List ℕ) : Type 0 where
+  pub need : need_in new ≡ need_in old
+  pub bytes : new.bytes ≡ with_part old.bytes at part
+  pub head : KeepsHead old new at
+
+pub wrote : (old new : ChunksState) (at : ℕ) (part : List ℕ) → AreChunks old → at + length part ≤ length old.bytes → (old.class < 27 → new ≡ written_cut old at part)
+    → (27 ≤ old.class → new ≡ record old { bytes = with_part old.bytes at part }) → Wrote old new at part
+wrote old new at part are within cut lent = go (cases_lt old.class 27)
+  where
+    go : (old.class < 27) ⊎ (27 ≤ old.class) → Wrote old new at part
+    go (inl below) = record {
+      need = ap need_in (cut below);
+      bytes = ap (λ (s : ChunksState). s.bytes) (cut below);
+      head = record {
+        front = ap (λ (s : ChunksState). take at s.head) (cut below) ∙ take-written at at part old.bytes (omega arith) within ∙ ap (take at) (sym (are.is_head.same below));
+        beside = λ above. absurd (omega arith);
+      };
+    }
+    go (inr above) = record {
+      need = ap need_in (lent above);
+      bytes = ap (λ (s : ChunksState). s.bytes) (lent above);
+      head = record {
+        front = ap (λ (s : ChunksState). take at s.head) (lent above);
+        beside = λ _. ap (λ (s : ChunksState). s.head) (lent above);
+      };
+    }
+
+-- what a write into the head leaves
+pub record WroteHead (old new : ChunksState) (at : ℕ) (part : List ℕ) : Type 0 where
+  pub need : need_in new ≡ need_in old
+  pub head : new.head ≡ with_part old.head at part
+  pub bytes : KeepsBytes old new (at + length part)
+  pub size : length new.bytes ≡ length old.bytes
+
+pub wrote_head : (old new : ChunksState) (at : ℕ) (part : List ℕ) → AreChunks old → at + length part ≤ length old.head → (old.class < 27 → new ≡ written_cut old at part)
+    → (27 ≤ old.class → new ≡ record old { head = with_part old.head at part }) → WroteHead old new at part
+wrote_head old new at part are within cut lent = go (cases_lt old.class 27)
+  where
+    go : (old.class < 27) ⊎ (27 ≤ old.class) → WroteHead old new at part
+    go (inl below) =
+        let same : old.head ≡ old.bytes = are.is_head.same below in
+        let long : length old.head ≡ length old.bytes = ap length same in
+        record {
+          need = ap need_in (cut below);
+          head = ap (λ (s : ChunksState). s.head) (cut below) ∙ ap (λ (l : List ℕ). with_part l at part) (sym same);
+          bytes = record {
+            behind = ap (λ (s : ChunksState). drop (at + length part) s.bytes) (cut below) ∙ drop-with_part at part old.bytes (omega arith);
+            beside = λ above. absurd (omega arith);
+          };
+          size = ap (λ (s : ChunksState). length s.bytes) (cut below) ∙ length-with_part at part old.bytes (omega arith);
+        }
+    go (inr above) = record {
+      need = ap need_in (lent above);
+      head = ap (λ (s : ChunksState). s.head) (lent above);
+      bytes = record {
+        behind = ap (λ (s : ChunksState). drop (at + length part) s.bytes) (lent above);
+        beside = λ _. ap (λ (s : ChunksState). s.bytes) (lent above);
+      };
+      size = ap (λ (s : ChunksState). length s.bytes) (lent above);
+    }
+
+-- a head that has stayed twice
+pub KeepsHead-twice : (old mid new : ChunksState) (near far : ℕ) → need_in mid ≡ need_in old → near ≤ far → KeepsHead old mid near → KeepsHead mid new far → KeepsHead old new near
+KeepsHead-twice old mid new near far same order first second =
+    let class : mid.class ≡ old.class = ap (λ (n : NeedState). n.class) same in
+    let front : take near new.head ≡ take near mid.head =
+    sym (take-take near far new.head order) ∙ ap (take near) second.front ∙ take-take near far mid.head order in
+    record {
+      front = front ∙ first.front;
+      beside = λ above. second.beside (omega (arith, above, class)) ∙ first.beside above;
+    }

@@ -1,5 +1,5 @@
 -- What contracts see of an item.
-use Rattle.std.specs.Prelude.{ℕ, zero, suc, ◌+◌, ◌-◌, ◌≤◌, List, [], ◌∷◌, length, take, drop, refl}
+use Rattle.std.specs.Prelude.{ℕ, zero, suc, ◌+◌, ◌-◌, ◌≤◌, List, [], ◌∷◌, length, take, drop, nat_le, refl, if◌then◌else◌}
 use Rattle.std.specs.Coded.{Coded, code_by, coded×, coded_ℕ, coded_list}
 use Rattle.mc_time.specs.declared.expiry.Expiry.{Expiry}
 use Rattle.mc_time.specs.Stored.{coded_expiry}
@@ -45,9 +45,14 @@ abbrev pub pieces : (size count : ℕ) → List ℕ → List (List ℕ)
 pieces size zero bytes = []
 pieces size (suc count) bytes = take size bytes ∷ pieces size count (drop size bytes)
 
--- how much of an item's block lies in its first chunk at most, behind its header and its key
+-- where the block of an item with so long a key begins in the bytes of its chunks: behind its header and its key, or at
+-- their begin from class 27 on, where header and key lie in the head beside them
+unfoldable pub start_of : (class key : ℕ) → ℕ
+start_of class key = if nat_le 27 class then 0 else header_size + key
+
+-- how much of an item's block lies in its first chunk at most
 abbrev pub front_of : ItemState → ℕ
-front_of item = size_of item.class - (header_size + length item.key)
+front_of item = size_of item.class - start_of item.class (length item.key)
 
 -- an item's block, cut where its chunks end
 abbrev pub parts_of : ItemState → List (List ℕ)

@@ -1,5 +1,6 @@
--- How an item lies in its chunks, whose bytes are one after another: a header of 48 bytes, the key, and the block, in one
--- run. What is behind is of any content.
+-- How an item lies in its chunks: in their head a header of 48 bytes and the key, and in their bytes the block. Below class
+-- 27, where the head is the bytes, the block begins where the key ends, so that the three are one run. From class 27 on it
+-- begins at place 0 of the bytes. All else is of any content.
 --
 -- The header's numbers stand with their lowest byte first:
 --
@@ -12,12 +13,12 @@
 --       32       8   the second at which it was updated
 --       40       4   the key's length
 --       44       4   the block's length
-use Rattle.std.specs.Prelude.{ℕ, ◌+◌, ◌≤◌, ◌^◌, ◌==◌, List, length, take, drop, if◌then◌else◌}
+use Rattle.std.specs.Prelude.{◌≡◌, ℕ, ◌+◌, ◌≤◌, ◌^◌, ◌==◌, List, length, take, drop, if◌then◌else◌}
 use Rattle.byteorder.specs.Endian.{little_number, little_bytes}
 use Rattle.mc_time.specs.declared.expiry.Expiry.{Expiry}
 use Rattle.mc_time.specs.declared.expiry.Expiry.TheVariants.{Never, At}
 use Rattle.mc_slab.specs.Chunks.{ChunksState, AreChunks}
-use Rattle.mc_item.specs.Items.{ItemState, header_size, longest_key}
+use Rattle.mc_item.specs.Items.{ItemState, header_size, longest_key, start_of}
 use Rattle.mc_item.specs.declared.header.Header.{Header}
 
 -- the number in so many bytes from the offset on
@@ -81,28 +82,42 @@ moment_number (At moment) = moment
 abbrev pub key_in : List ℕ → List ℕ
 key_in bytes = take (key_length_in bytes) (drop header_size bytes)
 
--- the item's block, behind its key
-abbrev pub block_in : List ℕ → List ℕ
-block_in bytes = take (block_length_in bytes) (drop (header_size + key_length_in bytes) bytes)
+-- where the item's block begins in the bytes
+abbrev pub block_start : ChunksState → ℕ
+block_start chunks = start_of chunks.class (key_length_in chunks.head)
+
+-- the item's block
+abbrev pub block_in : ChunksState → List ℕ
+block_in chunks = take (block_length_in chunks.head) (drop (block_start chunks) chunks.bytes)
 
 -- the item that lies in chunks
 abbrev pub item_in : ChunksState → ItemState
 item_in chunks = record {
-  hash = hash_in chunks.bytes;
-  key = key_in chunks.bytes;
-  flags = flags_in chunks.bytes;
-  expiry = expiry_in chunks.bytes;
-  block = block_in chunks.bytes;
-  unique = unique_in chunks.bytes;
-  updated = updated_in chunks.bytes;
+  hash = hash_in chunks.head;
+  key = key_in chunks.head;
+  flags = flags_in chunks.head;
+  expiry = expiry_in chunks.head;
+  block = block_in chunks;
+  unique = unique_in chunks.head;
+  updated = updated_in chunks.head;
   class = chunks.class;
   count = chunks.count;
 }
 
--- An item lies in the chunks: the key is not too long, the run ends within them, and the moment is one.
+-- An item lies in the chunks: the key is not too long, the block ends within them, and the moment is one.
 pub record HoldsItem (chunks : ChunksState) : Type 0 where
   pub are : AreChunks chunks
-  pub key : key_length_in chunks.bytes ≤ longest_key
-  pub room : header_size + key_length_in chunks.bytes + block_length_in chunks.bytes
+  pub key : key_length_in chunks.head ≤ longest_key
+  pub room : header_size + key_length_in chunks.head + block_length_in chunks.head
       ≤ length chunks.bytes
-  pub updated : updated_in chunks.bytes ≤ 2 ^ 62
+  pub updated : updated_in chunks.head ≤ 2 ^ 62
+
+-- the head in front of a place has stayed, and from class 27 on all of it
+pub record KeepsHead (old new : ChunksState) (place : ℕ) : Type 0 where
+  pub front : take place new.head ≡ take place old.head
+  pub beside : 27 ≤ old.class → new.head ≡ old.head
+
+-- the bytes behind a place have stayed, and from class 27 on all of them
+pub record KeepsBytes (old new : ChunksState) (place : ℕ) : Type 0 where
+  pub behind : drop place new.bytes ≡ drop place old.bytes
+  pub beside : 27 ≤ old.class → new.bytes ≡ old.bytes

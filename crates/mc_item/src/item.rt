@@ -1,6 +1,6 @@
 //! An item in its chunks.
 
-ghost use Rattle.std.specs.Prelude.{◌≡◌, ◌+◌, ◌<◌, ◌≤◌, ◌++◌, length, decimal, Some, IfSome, slice_get, OnOk, OnErr, vec_capacity};
+ghost use Rattle.std.specs.Prelude.{◌≡◌, ◌+◌, ◌<◌, ◌≤◌, ◌++◌, [], length, decimal, Some, IfSome, slice_get, OnOk, OnErr, vec_capacity};
 ghost use Rattle.std.specs.List.{concat};
 ghost use Rattle.mc_slab.specs.Chunks.{AreChunks, need_in, with_part};
 ghost use Rattle.mc_slab.specs.Needs.{size_in};
@@ -39,6 +39,8 @@ pub struct Parts<'a> {
     pub first: &'a [u8],
     /// The rest of the block.
     pub second: &'a [u8],
+    /// The memory of the whole block, if its chunks may take it over. `first` is then empty.
+    pub lent: Option<&'a Lent>,
     /// The client's flags.
     pub flags: u32,
     /// When it expires.
@@ -66,11 +68,12 @@ pub struct Head<'a> {
     pub updated: Moment,
 }
 
-/// An item in its chunks: a header of 48 bytes, the key and the block, one after another.
+/// An item in its chunks: a header of 48 bytes, the key and the block.
 ///
-/// The header and the key are in the first chunk. Contracts see the item's fields, and the class
-/// and number of its chunks. An item is moved and never copied. An item that is dropped without
-/// giving its chunks back stays out in the slab's account for ever. Only `append_to` takes memory.
+/// The header and the key are in the head of the chunks, and the block is in their bytes, from class
+/// 27 on at place 0. Contracts see the item's fields, and the class and number of its chunks. An
+/// item is moved and never copied. An item that is dropped without giving its chunks back stays out
+/// in the slab's account for ever. Only `append_to` takes memory.
 #[derive(Drop)]
 pub struct Item {
     chunks: Chunks,
@@ -92,11 +95,14 @@ impl Model for Item {
 impl Item {
     /// Writes an item of these parts into chunks.
     ///
-    /// It copies the key and the block, and takes no memory.
+    /// It copies the key and the block, and takes no memory. A block whose memory is lent isn't
+    /// copied if the chunks take that over.
     pub fn write(mut chunks: Chunks, parts: Parts<'_>) -> Item
         requires key { length parts.key.now ≤ longest_key }
         requires room { header_size + length parts.key.now
             + length parts.first.now + length parts.second.now ≤ length chunks.bytes }
+        requires lent { IfSome parts.lent (λ lent.
+            (parts.first.now ≡ []) × (lent.now ≡ parts.second.now)) }
         ensures value { result ≡ record {
           hash = parts.entry.hash;
           key = parts.entry.key.now;
@@ -119,7 +125,14 @@ impl Item {
             key_length: parts.key.len() as u32,
             block_length: length_in(&chunks, parts.first.len() + parts.second.len()),
         };
-        write_item(&mut chunks, header, parts.key, parts.first, parts.second);
+        write_item(
+            &mut chunks,
+            header,
+            parts.key,
+            parts.first,
+            parts.second,
+            parts.lent,
+        );
         Item { chunks }
     }
 
@@ -183,11 +196,13 @@ impl Item {
         }
     }
 
-    /// Writes other parts into its chunks, in place. It copies the key and the block.
+    /// Writes other parts into its chunks, in place, as `write` does.
     pub fn rewrite(&mut self, parts: Parts<'_>)
         requires key { length parts.key.now ≤ longest_key }
         requires room { header_size + length parts.key.now + length parts.first.now
             + length parts.second.now ≤ size_in (item_need self.old) }
+        requires lent { IfSome parts.lent (λ lent.
+            (parts.first.now ≡ []) × (lent.now ≡ parts.second.now)) }
         ensures value { self.new ≡ record {
           hash = parts.entry.hash;
           key = parts.entry.key.now;
@@ -216,6 +231,7 @@ impl Item {
             parts.key,
             parts.first,
             parts.second,
+            parts.lent,
         );
     }
 

@@ -1,9 +1,10 @@
-//! Items in chunks: the header, the key and the block of an item are one run of its chunks' memory.
+//! Items in chunks: the header and the key are in the head of the chunks, the block in their bytes.
 //!
 //! A cache holds many small items, so the overhead of an item must be small, and a read must not
-//! follow pointers. An item here is 48 bytes of numbers, its key and its block, one behind the
-//! other in its chunks (`specs/Layout.antt` has the table of offsets). The sum of their lengths is
-//! its charge, by which classes and limits go.
+//! follow pointers. An item here is 48 bytes of numbers, its key and its block
+//! (`specs/Layout.antt` has the table of offsets). The sum of their lengths is its charge, by which
+//! classes and limits go. Below class 27 they lie one behind the other. From there on the block can
+//! be lent while the header changes, so header and key lie beside it, and it begins at place 0.
 //!
 //! An [`Item`] owns its chunks (of `mc_slab`), and returns them by `into_chunks`. It is written
 //! whole from [`Parts`], or begun from a [`Head`] with the block filled in later. Each change in

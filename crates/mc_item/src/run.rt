@@ -1,4 +1,4 @@
-//! Writes an item's run of bytes.
+//! Writes an item's header and key into the head of its chunks, and its block into their bytes.
 
 ghost use Rattle.std.specs.Prelude.{
   ◌≡◌,
@@ -8,18 +8,21 @@ ghost use Rattle.std.specs.Prelude.{
   ◌≤◌,
   ◌^◌,
   ◌++◌,
+  [],
   length,
   take,
   drop,
   decimal,
   Some,
   IfSome,
+  IsTrue,
+  IsFalse,
   slice_get,
   vec_capacity,
 };
 ghost use Rattle.mc_slab.specs.Classes.{size_of};
-ghost use Rattle.mc_slab.specs.Chunks.{AreChunks, chunk_at, need_in, with_part};
-ghost use Rattle.mc_item.specs.Items.{header_size, longest_key, parts_of};
+ghost use Rattle.mc_slab.specs.Chunks.{AreChunks, TakesOver, chunk_at, need_in, with_part};
+ghost use Rattle.mc_item.specs.Items.{header_size, longest_key, parts_of, start_of};
 ghost use Rattle.mc_item.specs.Layout.{
   block_in,
   block_length_in,
@@ -29,6 +32,8 @@ ghost use Rattle.mc_item.specs.Layout.{
   key_length_in,
   updated_in,
   HoldsItem,
+  KeepsBytes,
+  KeepsHead,
 };
 
 use crate::header::{HEADER, Header, block_length_in, key_length_in};
@@ -37,31 +42,73 @@ use mc_bytes::Lent;
 use mc_slab::Chunks;
 use mc_time::{Expiry, Moment};
 
-/// Lends the bytes of an item's first chunk, which has its header and its key.
+/// The first class whose chunks can be lent, and have their head beside them.
+const LENT: u8 = 27;
+
+/// Lends the bytes that begin with an item's header and its key.
+#[inline]
 pub(crate) fn front(chunks: &Chunks) -> &[u8]
     requires { HoldsItem chunks.now }
-    ensures value { result.now ≡ take (size_of chunks.now.class) chunks.now.bytes }
-    ensures header { header_in result.now ≡ header_in chunks.now.bytes }
-    ensures key { key_in result.now ≡ key_in chunks.now.bytes }
-    ensures room { header_size + key_length_in chunks.now.bytes ≤ length result.now }
+    ensures value { result.now ≡ chunks.now.head }
+    ensures header { header_in result.now ≡ header_in chunks.now.head }
+    ensures key { key_in result.now ≡ key_in chunks.now.head }
+    ensures room { header_size + key_length_in chunks.now.head ≤ length result.now }
     ensures latest { updated_in result.now ≤ 2 ^ 62 }
 {
-    chunks.first()
+    chunks.head()
 }
 
 /// Returns a length within chunks as a `u32`. Chunks have at most 8388608 bytes.
 pub(crate) fn length_in(chunks: &Chunks, count: usize) -> u32
     requires { count ≤ length chunks.now.bytes }
-    ensures { result ≡ count }
+    ensures value { result ≡ count }
+    ensures are { AreChunks chunks.now }
 {
     // for the proof: the invariant of chunks
     let _ = chunks.first();
     count as u32
 }
 
-/// Copies `source` to an offset.
+/// Returns where the block of an item with a key of `key_len` bytes begins in the bytes of chunks.
+///
+/// That is behind header and key, and from class 27 on, where those lie beside, at place 0.
+#[inline]
+#[tactic(auto, unfolding(crate::specs::Items::start_of))]
+fn block_start(chunks: &Chunks, key_len: usize) -> usize
+    requires { key_len ≤ longest_key }
+    ensures value { result ≡ start_of chunks.now.class key_len }
+    ensures most { result ≤ header_size + key_len }
+{
+    if chunks.need().class().number() >= LENT {
+        return 0;
+    }
+    HEADER + key_len
+}
+
+/// Copies `source` to an offset in the head. What is behind it is unchanged, and so are the chunks'
+/// bytes from class 27 on.
+fn put_head(chunks: &mut Chunks, offset: usize, source: &[u8])
+    requires are { AreChunks chunks.old }
+    requires room { offset + length source.now ≤ length chunks.old.head }
+    ensures before { take (offset + length source.now) chunks.new.head
+        ≡ take offset chunks.old.head ++ source.now }
+    ensures behind { drop (offset + length source.now) chunks.new.head
+        ≡ drop (offset + length source.now) chunks.old.head }
+    ensures bytes { KeepsBytes chunks.old chunks.new (offset + length source.now) }
+    ensures head { length chunks.new.head ≡ length chunks.old.head }
+    ensures size { length chunks.new.bytes ≡ length chunks.old.bytes }
+    ensures need { need_in chunks.new ≡ need_in chunks.old }
+    ensures are { AreChunks chunks.new }
+{
+    chunks.write_head(offset, source);
+}
+
+/// Copies `source` to an offset in the bytes. The head in front of it is unchanged, and all of it
+/// from class 27 on.
 fn put(chunks: &mut Chunks, offset: usize, source: &[u8])
-    requires { offset + length source.now ≤ length chunks.old.bytes }
+    requires are { AreChunks chunks.old }
+    requires room { offset + length source.now ≤ length chunks.old.bytes }
+    ensures head { KeepsHead chunks.old chunks.new offset }
     ensures before { take (offset + length source.now) chunks.new.bytes
         ≡ take offset chunks.old.bytes ++ source.now }
     ensures behind { drop (offset + length source.now) chunks.new.bytes
@@ -75,7 +122,9 @@ fn put(chunks: &mut Chunks, offset: usize, source: &[u8])
 
 /// Copies a source that is mostly empty to an offset, and returns at once if it is.
 fn put_more(chunks: &mut Chunks, offset: usize, source: &[u8])
-    requires { offset + length source.now ≤ length chunks.old.bytes }
+    requires are { AreChunks chunks.old }
+    requires room { offset + length source.now ≤ length chunks.old.bytes }
+    ensures head { KeepsHead chunks.old chunks.new offset }
     ensures before { take (offset + length source.now) chunks.new.bytes
         ≡ take offset chunks.old.bytes ++ source.now }
     ensures behind { drop (offset + length source.now) chunks.new.bytes
@@ -85,8 +134,6 @@ fn put_more(chunks: &mut Chunks, offset: usize, source: &[u8])
     ensures are { AreChunks chunks.new }
 {
     if source.is_empty() {
-        // for the proof: the invariant of chunks
-        let _need = chunks.need();
         return;
     }
     put(chunks, offset, source);
@@ -94,30 +141,77 @@ fn put_more(chunks: &mut Chunks, offset: usize, source: &[u8])
 
 /// Writes the header. The bytes behind it are unchanged.
 fn put_header(chunks: &mut Chunks, header: Header)
-    requires { 48 ≤ length chunks.old.bytes }
-    ensures value { header_in chunks.new.bytes ≡ header }
+    requires are { AreChunks chunks.old }
+    requires room { 48 ≤ length chunks.old.head }
+    ensures value { header_in chunks.new.head ≡ header }
     ensures latest { header.updated ≤ 2 ^ 62 }
-    ensures behind { drop 48 chunks.new.bytes ≡ drop 48 chunks.old.bytes }
+    ensures behind { drop 48 chunks.new.head ≡ drop 48 chunks.old.head }
+    ensures bytes { KeepsBytes chunks.old chunks.new 48 }
+    ensures head { length chunks.new.head ≡ length chunks.old.head }
     ensures size { length chunks.new.bytes ≡ length chunks.old.bytes }
     ensures need { need_in chunks.new ≡ need_in chunks.old }
     ensures are { AreChunks chunks.new }
 {
-    put(chunks, 0, &header.bytes());
+    put_head(chunks, 0, &header.bytes());
+}
+
+/// Has chunks take over the memory of a block if that is lent, and returns whether they did.
+///
+/// If not, they are unchanged.
+fn take_over(chunks: &mut Chunks, first: &[u8], second: &[u8], lent: Option<&Lent>) -> bool
+    requires are { AreChunks chunks.old }
+    requires room { length second.now ≤ length chunks.old.bytes }
+    requires lent { IfSome lent (λ part. (first.now ≡ []) × (part.now ≡ second.now)) }
+    ensures none { IsTrue result → first.now ≡ [] }
+    ensures taken { IsTrue result → TakesOver chunks.old second.now chunks.new }
+    ensures kept { IsFalse result → chunks.new ≡ chunks.old }
+    ensures are { AreChunks chunks.new }
+{
+    match lent {
+        Some(part) => chunks.take_over(part),
+        None => false,
+    }
+}
+
+/// Writes a block at an offset: it copies `first` and then `second`, or the chunks take over the
+/// memory that is lent.
+fn put_block(chunks: &mut Chunks, offset: usize, first: &[u8], second: &[u8], lent: Option<&Lent>)
+    requires are { AreChunks chunks.old }
+    requires begin { 27 ≤ chunks.old.class → offset ≡ 0 }
+    requires room { offset + (length first.now + length second.now) ≤ length chunks.old.bytes }
+    requires lent { IfSome lent (λ part. (first.now ≡ []) × (part.now ≡ second.now)) }
+    ensures head { KeepsHead chunks.old chunks.new offset }
+    ensures block { take (length first.now + length second.now) (drop offset chunks.new.bytes)
+        ≡ first.now ++ second.now }
+    ensures size { length chunks.new.bytes ≡ length chunks.old.bytes }
+    ensures need { need_in chunks.new ≡ need_in chunks.old }
+    ensures are { AreChunks chunks.new }
+{
+    if take_over(chunks, first, second, lent) {
+        return;
+    }
+    put_more(chunks, offset, first);
+    put(chunks, offset + first.len(), second);
 }
 
 /// Writes an item into chunks: the header, the key, and the block, `first` followed by `second`.
+///
+/// If the block's memory is lent, the chunks may take it over instead of copying it.
 pub(crate) fn write_item(
     chunks: &mut Chunks,
     header: Header,
     key: &[u8],
     first: &[u8],
     second: &[u8],
+    lent: Option<&Lent>,
 )
+    requires are { AreChunks chunks.old }
     requires short { length key.now ≤ longest_key }
     requires key_length { header.key_length ≡ length key.now }
     requires block_length { header.block_length ≡ length first.now + length second.now }
     requires room { header_size + length key.now + (length first.now + length second.now)
         ≤ length chunks.old.bytes }
+    requires lent { IfSome lent (λ part. (first.now ≡ []) × (part.now ≡ second.now)) }
     ensures value { item_in chunks.new ≡ record {
       hash = header.hash;
       key = key.now;
@@ -131,15 +225,15 @@ pub(crate) fn write_item(
     } }
     ensures holds { HoldsItem chunks.new }
 {
+    let start = block_start(chunks, key.len());
     put_header(chunks, header);
-    let block = HEADER + key.len();
-    put(chunks, HEADER, key);
-    put_more(chunks, block, first);
-    put(chunks, block + first.len(), second);
+    put_head(chunks, HEADER, key);
+    put_block(chunks, start, first, second, lent);
 }
 
 /// Writes the header and the key of an item into chunks. The block's bytes are left as they are.
 pub(crate) fn write_head(chunks: &mut Chunks, header: Header, key: &[u8])
+    requires are { AreChunks chunks.old }
     requires short { length key.now ≤ longest_key }
     requires key_length { header.key_length ≡ length key.now }
     requires room { header_size + length key.now + header.block_length ≤ length chunks.old.bytes }
@@ -148,29 +242,29 @@ pub(crate) fn write_head(chunks: &mut Chunks, header: Header, key: &[u8])
       key = key.now;
       flags = header.flags;
       expiry = header.expiry;
-      block = block_in chunks.new.bytes;
+      block = block_in chunks.new;
       unique = header.unique;
       updated = header.updated;
       class = chunks.old.class;
       count = chunks.old.count;
     } }
-    ensures length { length (block_in chunks.new.bytes) ≡ header.block_length }
+    ensures length { length (block_in chunks.new) ≡ header.block_length }
     ensures holds { HoldsItem chunks.new }
 {
     put_header(chunks, header);
-    put(chunks, HEADER, key);
+    put_head(chunks, HEADER, key);
 }
 
 /// Copies `part` into the block of the item in chunks. Everything else is unchanged.
 pub(crate) fn write_block(chunks: &mut Chunks, at: usize, part: &[u8])
     requires item { HoldsItem chunks.old }
-    requires room { at + length part.now ≤ block_length_in chunks.old.bytes }
+    requires room { at + length part.now ≤ block_length_in chunks.old.head }
     ensures value { item_in chunks.new ≡ record (item_in chunks.old) {
-      block = with_part (block_in chunks.old.bytes) at part.now;
+      block = with_part (block_in chunks.old) at part.now;
     } }
     ensures holds { HoldsItem chunks.new }
 {
-    let start = HEADER + key_length_in(front(chunks)) as usize;
+    let start = block_start(chunks, key_length_in(front(chunks)) as usize);
     put(chunks, start + at, part);
 }
 
@@ -184,12 +278,12 @@ pub(crate) fn write_behind(
     updated: Moment,
 )
     requires item { HoldsItem chunks.old }
-    requires room { header_size + key_length_in chunks.old.bytes
-        + (block_length_in chunks.old.bytes + length more.now) ≤ length chunks.old.bytes }
+    requires room { header_size + key_length_in chunks.old.head
+        + (block_length_in chunks.old.head + length more.now) ≤ length chunks.old.bytes }
     ensures value { item_in chunks.new ≡ record (item_in chunks.old) {
       flags = flags;
       expiry = expiry;
-      block = block_in chunks.old.bytes ++ more.now;
+      block = block_in chunks.old ++ more.now;
       unique = unique;
       updated = updated;
     } }
@@ -205,14 +299,15 @@ pub(crate) fn write_behind(
         block_length: length_in(chunks, block_len + more.len()),
         ..old
     };
+    let start = block_start(chunks, old.key_length as usize);
     put_header(chunks, header);
-    put(chunks, HEADER + old.key_length as usize + block_len, more);
+    put(chunks, start + block_len, more);
 }
 
 /// Writes the number's digits as the block of the item in chunks.
 pub(crate) fn write_number(chunks: &mut Chunks, number: u64, unique: u64, updated: Moment)
     requires item { HoldsItem chunks.old }
-    requires room { header_size + key_length_in chunks.old.bytes + length (decimal number)
+    requires room { header_size + key_length_in chunks.old.head + length (decimal number)
         ≤ length chunks.old.bytes }
     ensures value { item_in chunks.new ≡ record (item_in chunks.old) {
       block = decimal number;
@@ -230,8 +325,9 @@ pub(crate) fn write_number(chunks: &mut Chunks, number: u64, unique: u64, update
         block_length: digits.len() as u32,
         ..old
     };
+    let start = block_start(chunks, old.key_length as usize);
     put_header(chunks, header);
-    put(chunks, HEADER + old.key_length as usize, digits);
+    put(chunks, start, digits);
 }
 
 /// Sets the expiry of the item in chunks.
@@ -250,12 +346,13 @@ pub(crate) fn part_of(chunks: &Chunks, at: usize) -> &[u8]
     requires item { HoldsItem chunks.now }
     requires place { at < chunks.now.count }
     ensures value { slice_get (parts_of (item_in chunks.now)) at ≡ Some result.now }
-    ensures lone { chunks.now.count ≡ 1 → result.now ≡ block_in chunks.now.bytes }
+    ensures lone { chunks.now.count ≡ 1 → result.now ≡ block_in chunks.now }
 {
-    let first = front(chunks);
-    let start = HEADER + key_length_in(first) as usize;
-    let end = start + block_length_in(first) as usize;
+    let head = front(chunks);
+    let start = block_start(chunks, key_length_in(head) as usize);
+    let end = start + block_length_in(head) as usize;
     if at == 0 {
+        let first = chunks.first();
         return &first[start..usize::min(end, first.len())];
     }
     let chunk = chunks.part(at);
@@ -286,10 +383,10 @@ fn ends_of_part(chunks: &Chunks, at: usize) -> (usize, usize)
     ensures value { slice_get (parts_of (item_in chunks.now)) at
         ≡ Some (take (result.1 - result.0) (drop result.0 (chunk_at chunks.now at))) }
 {
-    let first = front(chunks);
-    let size = first.len();
-    let from = HEADER + key_length_in(first) as usize;
-    let to = from + block_length_in(first) as usize;
+    let head = front(chunks);
+    let size = chunks.first().len();
+    let from = block_start(chunks, key_length_in(head) as usize);
+    let to = from + block_length_in(head) as usize;
     if at == 0 {
         return (from, usize::min(to, size));
     }

@@ -3,8 +3,9 @@
 ghost use Rattle.std.specs.Prelude.{◌≤◌};
 
 use crate::slabs::slab_of;
+use mc_bytes::{Lent, Queue};
 use mc_slab::{Account, Chunks, Class, Need, Pages, Slab, TakeFault, class_of, need_of};
-use std::alloc::Global;
+use std::alloc::{AllocError, Global};
 use std::mem::size_of;
 use std::process::Abort;
 use std::test::*;
@@ -391,6 +392,87 @@ fn a_chunk_of_class_27_is_lent_and_one_of_class_26_is_not(rt: HostRuntime) -> Re
     assert!(rt; stays_as_it_was(&rt, &mut large));
     give(&rt, &mut slab, small);
     give(&rt, &mut slab, large);
+    Ok(())
+}
+
+/// Writes a part at the front of the chunks' head.
+fn put_head(rt: &impl Abort, chunks: &mut Chunks, part: &[u8]) {
+    assert!(rt; part.len() <= chunks.head().len());
+    chunks.write_head(0, part);
+}
+
+/// Returns whether the head of the chunks is the front of their bytes.
+fn has_head_in_its_bytes(rt: &impl Abort, chunks: &mut Chunks) -> bool {
+    put(rt, chunks, 0, b"bytes");
+    put_head(rt, chunks, b"head");
+    assert!(rt; chunks.head().starts_with(b"head"));
+    assert!(rt; chunks.first().starts_with(b"bytes") || chunks.first().starts_with(b"heads"));
+    chunks.first().starts_with(b"heads")
+}
+
+#[test]
+fn the_head_lies_beside_the_bytes_from_class_27_on(rt: HostRuntime) -> Result<(), Fail> {
+    let mut slab = slab_of(rt.alloc(), 4)?;
+    let mut small = take(&rt, rt.alloc(), &mut slab, needed(&rt, 27120))?;
+    let mut large = take(&rt, rt.alloc(), &mut slab, needed(&rt, 27121))?;
+    let mut pages = take(&rt, rt.alloc(), &mut slab, needed(&rt, 2000000))?;
+    assert!(rt; has_head_in_its_bytes(&rt, &mut small));
+    assert!(rt; !has_head_in_its_bytes(&rt, &mut large));
+    assert!(rt; !has_head_in_its_bytes(&rt, &mut pages));
+    assert_eq!(rt; small.head().len(), 27120);
+    assert_eq!(rt; large.head().len(), 304);
+    assert_eq!(rt; pages.head().len(), 304);
+    give(&rt, &mut slab, small);
+    give(&rt, &mut slab, large);
+    give(&rt, &mut slab, pages);
+    Ok(())
+}
+
+/// Returns a part of shared memory of `whole` bytes: 9092 bytes behind the first 100.
+fn shared_part(alloc: Global, whole: usize) -> Result<Lent, AllocError> {
+    let mut queue: Queue<65536> = Queue::new(alloc);
+    queue.push(&[b'x'; 8192])?;
+    queue.push_part(&[b'y'; 1000], whole)?;
+    let shared = queue.share().ok_or(AllocError)?;
+    if shared.len() != 9192 {
+        return Err(AllocError);
+    }
+    shared.part(100, 9192).ok_or(AllocError)
+}
+
+/// Returns whether chunks take the memory of a part over, and leave theirs. Else they are unchanged.
+fn takes_over(rt: &impl Abort, chunks: &mut Chunks, part: &Lent) -> bool {
+    put(rt, chunks, 0, b"before");
+    assert!(rt; chunks.need().class().size() >= 27120 && part.len() <= 27120);
+    let taken = chunks.take_over(part);
+    let left = part.take_left().is_some();
+    assert!(rt; taken == left);
+    assert!(rt; taken == chunks.first().starts_with(part.as_slice()));
+    assert!(rt; taken != chunks.first().starts_with(b"before"));
+    taken
+}
+
+#[test]
+fn a_chunk_takes_over_memory_that_is_512_bytes_larger(rt: HostRuntime) -> Result<(), Fail> {
+    let mut slab = slab_of(rt.alloc(), 5)?;
+    let mut small = take(&rt, rt.alloc(), &mut slab, needed(&rt, 27120))?;
+    let mut chunk = take(&rt, rt.alloc(), &mut slab, needed(&rt, 66232))?;
+    let mut larger = take(&rt, rt.alloc(), &mut slab, needed(&rt, 66233))?;
+    let mut pages = take(&rt, rt.alloc(), &mut slab, needed(&rt, 2000000))?;
+    let part = shared_part(rt.alloc(), 66232 + 512)?;
+    assert!(rt; !takes_over(&rt, &mut small, &part));
+    assert!(rt; !takes_over(&rt, &mut larger, &part));
+    assert!(rt; !takes_over(&rt, &mut pages, &part));
+    if !takes_over(&rt, &mut chunk, &part) {
+        return Err(AllocError.into());
+    }
+    put(&rt, &mut chunk, 0, b"after");
+    assert!(rt; part.as_slice().starts_with(b"xxxxx"));
+    assert!(rt; chunk.first().starts_with(b"afterxxx"));
+    give(&rt, &mut slab, small);
+    give(&rt, &mut slab, chunk);
+    give(&rt, &mut slab, larger);
+    give(&rt, &mut slab, pages);
     Ok(())
 }
 

@@ -1,26 +1,47 @@
-use Rattle.std.proofs.Common.{◌≡◌, ◌+◌, ◌++◌, length, take, ℕ, List, arith, ◌∙◌, ap, refl, append_assoc}
-use Rattle.std.proofs.lemmas.List.{length-append, length-take-le}
-use Rattle.mc_item.proofs.RunLemmas.{Lies, Begins, Lies-Begins, item_in-Lies, HoldsItem-Lies}
+use Rattle.std.proofs.Common.{◌≡◌, ◌+◌, ◌++◌, length, take, drop, ℕ, List, arith, ◌∙◌, ap, sym}
+use Rattle.std.proofs.lemmas.List.{length-append}
+use Rattle.mc_slab.specs.Needs.{NeedState}
+use Rattle.mc_item.proofs.LayoutLemmas.{start_of-above}
+use Rattle.mc_item.proofs.RunLemmas.{head_room, Headed-put, Headed-kept, Lies, item_in-Lies, HoldsItem-Lies}
 use Rattle.mc_item.proofs.run.write_item.Goals as goal
 
-lies : (c : goal.After-put-2) → Lies c.args.header c.args.key.now (c.args.first.now ++ c.args.second.now) c.put-2.new.chunks.bytes
+pub put_header-requires-clause-room : goal.put_header-requires-clause-room
+put_header-requires-clause-room c = let reach = head_room c.args.chunks.now _ _ c.requires.are c.requires.short c.requires.room in omega arith
+
+pub put_head-requires-clause-room : goal.put_head-requires-clause-room
+put_head-requires-clause-room c = let reach = head_room c.args.chunks.now _ _ c.requires.are c.requires.short c.requires.room in omega arith
+
+pub put_block-requires-clause-begin : goal.put_block-requires-clause-begin
+put_block-requires-clause-begin c = λ above.
+    let same : c.put_head.new.chunks.class ≡ c.args.chunks.now.class = ap (λ (n : NeedState). n.class) (c.put_head.ensures.need ∙ c.put_header.ensures.need) in
+    c.block_start-start.ensures.value ∙ start_of-above c.args.chunks.now.class _ (omega (arith, above, same))
+
+pub put_block-requires-clause-room : goal.put_block-requires-clause-room
+put_block-requires-clause-room c =
+    let most = c.block_start-start.ensures.most in
+    omega arith
+
+lies : (c : goal.After-put_block) → Lies c.args.chunks.now.class c.args.header c.args.key.now (c.args.first.now ++ c.args.second.now) c.put_block.new.chunks.head c.put_block.new.chunks.bytes
 lies c =
     let block : List ℕ = c.args.first.now ++ c.args.second.now in
     let size : length block ≡ length c.args.first.now + length c.args.second.now = length-append c.args.first.now c.args.second.now in
-    let place : 48 + length c.args.key.now + length block ≡ 48 + length c.args.key.now + length c.args.first.now + length c.args.second.now = omega arith in
-    let run : take (48 + length c.args.key.now + length c.args.first.now + length c.args.second.now) c.put-2.new.chunks.bytes ≡
-    ((take 48 c.put_header.new.chunks.bytes ++ c.args.key.now) ++ c.args.first.now) ++ c.args.second.now = cc in
-    let begins : Begins (take 48 c.put_header.new.chunks.bytes) c.args.key.now block c.put-2.new.chunks.bytes = record {
-      size = length-take-le 48 c.put_header.new.chunks.bytes (omega arith);
-      begins = ap (λ (n : ℕ). take n c.put-2.new.chunks.bytes) place ∙ run ∙ simp append_assoc;
-    } in
-    Lies-Begins c.args.header
-    (take 48 c.put_header.new.chunks.bytes) c.args.key.now block c.put-2.new.chunks.bytes c.put_header.new.chunks.bytes begins refl c.put_header.ensures.value c.requires.key_length (omega arith)
+    let start = c.block_start-start.ensures.value in
+    let same : c.put_head.new.chunks.class ≡ c.args.chunks.now.class = ap (λ (n : NeedState). n.class) (c.put_head.ensures.need ∙ c.put_header.ensures.need) in
+    let reach = head_room c.args.chunks.now _ _ c.requires.are c.requires.short c.requires.room in
+    let first = Headed-put c.args.header c.args.key.now c.put_header.new.chunks.head c.put_head.new.chunks.head c.put_header.ensures.value (omega arith) c.put_head.ensures.before in
+    record {
+      headed = Headed-kept c.args.chunks.now.class c.args.header c.args.key.now c.put_head.new.chunks c.put_block.new.chunks _ same first (omega arith) c.put_block.ensures.head;
+      key_length = c.requires.key_length;
+      block_length = omega arith;
+      block_is = ap (λ (n : ℕ). take (length block) (drop n c.put_block.new.chunks.bytes)) (sym start)
+          ∙ ap (λ (n : ℕ). take n (drop c.block_start-start.result c.put_block.new.chunks.bytes)) size
+          ∙ c.put_block.ensures.block;
+    }
 
 pub returns-clause-value : goal.returns-clause-value
-returns-clause-value c = item_in-Lies c.args.header c.args.key.now (c.args.first.now ++ c.args.second.now) c.put-2.new.chunks c.args.chunks.now (lies c) cc
+returns-clause-value c = item_in-Lies c.args.header c.args.key.now (c.args.first.now ++ c.args.second.now) c.put_block.new.chunks c.args.chunks.now (lies c) cc
 
 pub returns-clause-holds : goal.returns-clause-holds
 returns-clause-holds c =
-    HoldsItem-Lies c.args.header c.args.key.now (c.args.first.now ++ c.args.second.now) c.put-2.new.chunks (lies c) c.put-2.ensures.are c.requires.short
+    HoldsItem-Lies _ c.args.header c.args.key.now (c.args.first.now ++ c.args.second.now) c.put_block.new.chunks (lies c) c.put_block.ensures.are c.requires.short
     (simp length-append (omega arith)) c.put_header.ensures.latest

@@ -13,4 +13,4 @@ write_behind-requires-clause-room c =
     let chunks = c.self.inside.chunks in
     let block = length-block_in chunks c.self.invariant in
     let room = subst (λ (s : ItemState). charge_of s + length c.args.more.now ≤ size_in (item_need s)) (sym c.self.view_is) c.requires.room in
-    room_in chunks (block_length_in chunks.bytes + length c.args.more.now) c.self.invariant (omega (arith, block, room))
+    room_in chunks (block_length_in chunks.head + length c.args.more.now) c.self.invariant (omega (arith, block, room))
