@@ -188,7 +188,7 @@ fn block_step<'a>(command: &Command<'a>) -> KeyStep<'a>
             key: Bytes::of(key.as_slice()),
             flags: *flags,
             exptime: *exptime,
-            block: Bytes::of(block.as_slice()),
+            block: block.again(),
         },
         Command::Cas {
             key,
@@ -201,7 +201,7 @@ fn block_step<'a>(command: &Command<'a>) -> KeyStep<'a>
             key: Bytes::of(key.as_slice()),
             flags: *flags,
             exptime: *exptime,
-            block: Bytes::of(block.as_slice()),
+            block: block.again(),
             unique: *unique,
         },
         _ => unreachable!(),

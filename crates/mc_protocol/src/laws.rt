@@ -11,7 +11,7 @@ ghost use Rattle.mc_protocol.specs.Commands.{key_of};
 ghost use Rattle.mc_slab.specs.Classes.{chunks_a_page};
 ghost use Rattle.mc_slab.specs.Needs.{NeedState, IsNeed};
 ghost use Rattle.mc_protocol.specs.Words.{is_space};
-ghost use Rattle.mc_protocol.specs.Plain.{number_of, Plain, Items, Entry, class_count, plain, alive, standing, count_of, pages_of, chunks_of, unused, with_chunk, Answered};
+ghost use Rattle.mc_protocol.specs.Plain.{number_of, Plain, Items, Entry, class_count, plain, alive, count_of, pages_of, chunks_of, unused, with_chunk, Answered};
 ghost use Rattle.mc_protocol.specs.Laws.{IsOnKey, AgreeAt, AgreeAfter, HaveSameRoom, found_by, chunk_of, LacksChunk, of_class};
 
 /// States that a step on one key leaves the items under other keys as they are.

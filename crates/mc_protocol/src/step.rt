@@ -97,6 +97,16 @@ impl<'a> KeyStep<'a> {
             _ => &[],
         }
     }
+
+    /// Returns the block of the step with its memory. It is empty if the step has none.
+    pub fn block_bytes(&self) -> Bytes<'a>
+        ensures { result ≡ block_of self.now }
+    {
+        match self {
+            KeyStep::Store { block, .. } | KeyStep::Cas { block, .. } => block.again(),
+            _ => Bytes::of(&[]),
+        }
+    }
 }
 
 /// Why a step wasn't taken. The store is unchanged.
