@@ -1,5 +1,5 @@
 -- The content of a feed.
-use Rattle.std.specs.Prelude.{◌≡◌, ℕ, ◌-◌, List, [], ◌++◌, ◌⊎◌, length, drop, Option, Some, IfSome}
+use Rattle.std.specs.Prelude.{◌≡◌, ℕ, ◌-◌, List, [], ◌++◌, ◌⊎◌, length, take, drop, Option, Some, None, IfSome}
 use Rattle.mc_parse.specs.declared.cursor.Cursor.{Cursor}
 use Rattle.mc_parse.specs.declared.ahead.Ahead.{Ahead}
 use Rattle.mc_parse.specs.Units.{ProtocolUnit}
@@ -14,6 +14,15 @@ pub record Unread : Type 0 where
   pub greatest : ℕ
   pub passed : ℕ
   pub bytes : List ℕ
+
+-- the bytes that arrived: those of an offered unit, or those of the queue
+abbrev pub arrived : Option (List ℕ) → List ℕ → List ℕ
+arrived None queue = queue
+arrived (Some unit) queue = unit
+
+-- the part stands in the unit from this place on
+abbrev pub IsPartAt : (unit : List ℕ) → (from : ℕ) → (part : List ℕ) → Type 0
+IsPartAt unit from part = part ≡ take (length part) (drop from unit)
 
 -- the bytes to be skipped that have arrived are dropped
 abbrev pub settled : Unread → Unread

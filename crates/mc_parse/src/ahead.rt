@@ -4,13 +4,14 @@
 //! (`Ahead`) until the unit is skipped, so small pieces aren't parsed again, and a piece of a block
 //! that isn't complete costs nothing.
 
-ghost use Rattle.std.specs.Prelude.{◌≡◌, ℕ, List, [], None};
+ghost use Rattle.std.specs.Prelude.{◌≡◌, ℕ, List, [], None, IfSome};
 ghost use Rattle.mc_parse.specs.Peeks.{unit_of, FindsSpelled, MissesNone, StaysWhole};
 ghost use Rattle.mc_parse.specs.Cursors.{IsFirstCursor};
 ghost use Rattle.mc_parse.specs.Aheads.{Knew, Knows, HasNoFeed};
 
 use crate::cursor::Cursor;
-use crate::note::Note;
+use crate::note::{Announced, Note};
+use crate::offer::Offer;
 use crate::peek::{LONGEST, Peek, first_feed};
 
 /// What is known of the front of the unread bytes. The first line is parsed once, when it is
@@ -52,10 +53,43 @@ impl Ahead {
         }
     }
 
-    /// Returns what the unread bytes begin with. It reads no line.
+    /// Returns the memory in bytes into which the first unit is best read, or 0 without a block.
+    pub fn wanted_bytes(&self) -> usize {
+        match self {
+            Ahead::Line(note) => note.wanted_bytes(),
+            Ahead::Searched(_) => 0,
+        }
+    }
+
+    /// Returns the large block that the first line announces, if it does.
+    pub fn large_block(&self) -> Option<Announced> {
+        match self {
+            Ahead::Line(note) => note.large_block(),
+            Ahead::Searched(_) => None,
+        }
+    }
+
+    /// Returns how many of `room` bytes a source may write behind the `there` unread ones.
+    ///
+    /// A unit with a large block is read to its end and no further.
+    pub fn room_within(&self, there: usize, room: usize) -> usize {
+        let end = match self.large_block() {
+            Some(block) => block.end(),
+            None => 0,
+        };
+        if there < end {
+            room.min(end - there)
+        } else {
+            room
+        }
+    }
+
+    /// Returns what the unread bytes begin with. It reads no line. A block that is offered is lent
+    /// with its memory.
     #[inline]
-    pub fn peek<'a>(&self, unread: &'a [u8]) -> Peek<'a>
-        requires { (greatest : ℕ) × Knows greatest self.now unread.now }
+    pub fn peek<'a>(&self, unread: &'a [u8], offer: Option<&'a Offer>) -> Peek<'a>
+        requires known { (greatest : ℕ) × Knows greatest self.now unread.now }
+        requires offered { IfSome offer (λ o. o.now ≡ unread.now) }
         ensures found { (greatest : ℕ) → Knows greatest self.now unread.now →
             FindsSpelled greatest (unit_of result) unread.now }
         ensures none { (greatest : ℕ) → Knows greatest self.now unread.now →
@@ -63,7 +97,7 @@ impl Ahead {
     {
         match self {
             Ahead::Searched(_) => peek_endless(unread),
-            Ahead::Line(note) => note.peek(unread),
+            Ahead::Line(note) => note.peek(unread, offer),
         }
     }
 

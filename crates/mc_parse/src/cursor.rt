@@ -1,6 +1,6 @@
 //! The position in a retrieval whose keys take a turn each.
 
-ghost use Rattle.std.specs.Prelude.{◌≡◌, ◌≤◌, ◌<◌, ◌+◌, ◌-◌, ◌^◌, ℕ, IfSome, length, None};
+ghost use Rattle.std.specs.Prelude.{◌≡◌, ◌≤◌, ◌<◌, ◌+◌, ◌-◌, ◌^◌, ℕ, IfSome, None};
 ghost use Rattle.mc_parse.specs.Units.{Request};
 ghost use Rattle.mc_parse.specs.Peeks.{unit_of};
 ghost use Rattle.mc_parse.specs.Cursors.{retrieval_left, first_cursor, IsWithin, PointsInto};

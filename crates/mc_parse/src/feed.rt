@@ -5,9 +5,10 @@
 //! `peek` takes no allocator: a key or block that it lends isn't copied.
 
 use crate::ahead::Ahead;
+use crate::arrived::Arrived;
 use crate::cursor::{Cursor, cursor_after};
 use crate::peek::Peek;
-use mc_bytes::{Queue, Source, Spares};
+use mc_bytes::{Source, Spares};
 use mc_protocol::LineFault;
 use std::alloc::{AllocError, Global};
 use std::marker::Model;
@@ -21,7 +22,7 @@ pub struct Feed {
     greatest: u64,
     /// The number of bytes still to be skipped.
     passed: u64,
-    unread: Queue<65536>,
+    unread: Arrived,
     /// The position in the retrieval at the front, if turns of it were noted.
     cursor: Option<Cursor>,
     /// What is known of the front of the unread bytes.
@@ -33,9 +34,9 @@ impl Model for Feed {
 
     ghost Value = { Unread };
 
-    ghost view = { λ f. record { greatest = f.greatest; passed = f.passed; bytes = f.unread.bytes } };
+    ghost view = { λ f. record { greatest = f.greatest; passed = f.passed; bytes = f.unread } };
 
-    ghost invariant = { λ f. IsKept f.greatest f.passed f.cursor f.ahead f.unread.bytes };
+    ghost invariant = { λ f. IsKept f.greatest f.passed f.cursor f.ahead f.unread };
 }
 
 impl Feed {
@@ -66,7 +67,7 @@ impl Feed {
         Feed {
             greatest,
             passed: 0,
-            unread: Queue::with_spares(alloc, spares),
+            unread: Arrived::new(alloc, spares),
             cursor: None,
             ahead: Ahead::none(),
         }
@@ -81,16 +82,17 @@ impl Feed {
     {
         let skipped = (piece.len() as u64).min(self.passed);
         let (_, kept) = piece.split_at(skipped as usize);
-        self.unread.push_part(kept, self.ahead.announced_bytes())?;
+        self.unread.push_part(kept, self.ahead.wanted_bytes())?;
         self.passed -= skipped;
         self.ahead = self.ahead.after(self.greatest, self.unread.as_slice());
+        self.unread.offer(self.ahead.large_block());
         Ok(())
     }
 
     /// Appends the next piece of the stream from a source, which writes it in place.
     ///
-    /// The source gets room for `room` bytes. Bytes that are skipped aren't kept. After an error
-    /// the source wasn't called, and the feed is unchanged.
+    /// The source gets room for at most `room` bytes, and none behind a large block. Bytes that are
+    /// skipped aren't kept. After an error the source wasn't called, and the feed is unchanged.
     pub fn push_from<S: Source>(
         &mut self,
         source: &mut S,
@@ -101,13 +103,17 @@ impl Feed {
         ensures err { OnErr result (self.new ≡ self.old) }
         ensures asked { OnErr result (source.new ≡ source.old) }
     {
-        let whole = self.ahead.announced_bytes();
-        match self.unread.push_part_from(source, room, whole) {
+        let room = self.ahead.room_within(self.unread.len(), room);
+        match self
+            .unread
+            .push_part_from(source, room, self.ahead.wanted_bytes())
+        {
             Ok(answer) => {
                 let dropped = self.passed.min(self.unread.len() as u64);
                 self.unread.consume(dropped as usize);
                 self.passed -= dropped;
                 self.ahead = self.ahead.after(self.greatest, self.unread.as_slice());
+                self.unread.offer(self.ahead.large_block());
                 Ok(answer)
             }
             Err(refused) => Err(refused),
@@ -252,7 +258,8 @@ impl Feed {
         if self.passed > 0 {
             return Peek::More;
         }
-        self.ahead.peek(self.unread.as_slice())
+        self.ahead
+            .peek(self.unread.as_slice(), self.unread.offered())
     }
 
     /// Returns what `peek_after` returns.

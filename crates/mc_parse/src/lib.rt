@@ -11,7 +11,8 @@
 //! what bytes begin with ([`peek_at`]). A [`Feed`] has a stream's unread bytes, with what is known
 //! of their front. Pieces are pushed, or read by a source into the room where they will stay.
 //! `peek` lends the first unit, and `done` skips it. A feed stores its bytes in a queue of
-//! `mc_bytes`.
+//! `mc_bytes`. A large block is read into memory that its chunk can take over: its command lends
+//! that memory, and the feed reads the next block into the memory that it gets in exchange.
 //!
 //! In definitions a unit is *spelled* by bytes, and a stream has a list of units
 //! (`specs/Units.antt`, `specs/Streams.antt`). Contracts promise that a peek finds exactly what a
@@ -27,6 +28,7 @@
 #![tactic(auto)]
 
 mod ahead;
+mod arrived;
 mod cursor;
 mod exptime;
 mod feed;
@@ -35,6 +37,7 @@ mod line;
 mod line_laws;
 mod name;
 mod note;
+mod offer;
 mod peek;
 
 pub use feed::Feed;

@@ -25,6 +25,9 @@ const LONGEST_KEY: usize = 250;
 /// The longest block, in bytes.
 const LONGEST_BLOCK: u64 = 2147483645;
 
+/// Bytes of an item's header, which an item is charged for beside its key and its block.
+pub const HEADER: u64 = 48;
+
 /// Returns the command of a line, or the line's first fault. `text` is the line without its end.
 pub fn line_of(greatest: u64, text: &[u8]) -> Result<Noted, LineFault>
     ensures said { said text.now result ≡ meaning greatest (words text.now) }
@@ -255,7 +258,7 @@ fn check_charge(greatest: u64, key: &[u8], len: u32) -> Result<u32, LineFault>
     ensures { result ≡ fitting greatest key.now len }
 {
     let len_wide = u64::from(len);
-    if 48 + key.len() as u64 + len_wide <= greatest {
+    if HEADER + key.len() as u64 + len_wide <= greatest {
         Ok(len)
     } else {
         Err(LineFault::TooLarge {

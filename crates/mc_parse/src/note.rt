@@ -3,8 +3,7 @@
 //! A `Note` has places, and is lent as a `Command` from these and the bytes. A value that borrows
 //! can't be kept beside the buffer that it borrows from.
 
-ghost use Rattle.std.specs.Prelude.{◌≡◌, ◌≤◌, ◌+◌, ◌<◌, ℕ, List, length, take};
-ghost use Rattle.std.specs.Result.{IfOk};
+ghost use Rattle.std.specs.Prelude.{◌≡◌, ◌+◌, ◌<◌, ℕ, List, length, take, IfSome};
 ghost use Rattle.mc_protocol.specs.Commands.{block_in, retrieval_in, HasBlock};
 ghost use Rattle.mc_parse.specs.Units.{with_block, IsLine};
 ghost use Rattle.mc_parse.specs.Peeks.{unit_of, FindsSpelled, MissesNone, StaysWhole};
@@ -12,9 +11,11 @@ ghost use Rattle.mc_parse.specs.Cursors.{IsFirstCursor};
 ghost use Rattle.mc_parse.specs.Notes.{at, keys_at, read, said, FitIn, Fits, IsNoted};
 
 use crate::cursor::Cursor;
-use crate::line::line_of;
+use crate::line::{HEADER, line_of};
+use crate::offer::Offer;
 use crate::peek::{Peek, block_peeked, without_carriage_return};
 use mc_protocol::{Bytes, Command, CommandOf, Keys, LineFault};
+use mc_slab::{BESIDE, class_of};
 
 /// The place of a key in the text of a line.
 #[derive(Clone, Copy)]
@@ -75,9 +76,9 @@ pub type Noted = CommandOf<Span, KeySpan, u32>;
 
 /// Returns the command that was parsed from a line's text, with its block, if it has one.
 #[inline]
-pub fn lend<'a>(noted: &Noted, text: &'a [u8], block: &'a [u8]) -> Command<'a>
+pub fn lend<'a>(noted: &Noted, text: &'a [u8], block: Bytes<'a>) -> Command<'a>
     requires { Fits noted.now text.now }
-    ensures { result ≡ with_block (read text.now noted.now) block.now }
+    ensures { result ≡ with_block (read text.now noted.now) block.entry }
 {
     match *noted {
         CommandOf::Store { .. } | CommandOf::Cas { .. } => lend_stored(noted, text, block),
@@ -120,11 +121,10 @@ pub fn lend<'a>(noted: &Noted, text: &'a [u8], block: &'a [u8]) -> Command<'a>
 
 /// Returns a command with a block as `lend` does.
 #[inline]
-fn lend_stored<'a>(noted: &Noted, text: &'a [u8], block: &'a [u8]) -> Command<'a>
-    requires { HasBlock (with_block (read text.now noted.now) block.now) }
-    ensures { result ≡ with_block (read text.now noted.now) block.now }
+fn lend_stored<'a>(noted: &Noted, text: &'a [u8], block: Bytes<'a>) -> Command<'a>
+    requires { HasBlock (with_block (read text.now noted.now) block) }
+    ensures { result ≡ with_block (read text.now noted.now) block.entry }
 {
-    let block = Bytes::of(block);
     match *noted {
         CommandOf::Store {
             verb,
@@ -171,6 +171,14 @@ fn announced_block(noted: &Noted) -> Option<u32>
     }
 }
 
+/// Returns the length of the key of a command with a block, and 0 for another command.
+fn key_length(noted: &Noted) -> u64 {
+    match noted {
+        CommandOf::Store { key, .. } | CommandOf::Cas { key, .. } => key.len as u64,
+        _ => 0,
+    }
+}
+
 /// Returns a retrieval's exptime, keys and `with_unique`, or `None` for another command.
 fn retrieval_in(noted: &Noted) -> Option<(Option<i64>, KeySpan, bool)>
     ensures { result ≡ retrieval_in noted.now }
@@ -183,6 +191,30 @@ fn retrieval_in(noted: &Noted) -> Option<(Option<i64>, KeySpan, bool)>
             with_unique,
         } => Some((Some(exptime), keys, with_unique)),
         _ => None,
+    }
+}
+
+/// Bytes that a unit reserves beyond itself, so that what arrives with its end has room.
+const BEHIND: usize = 16_384;
+
+/// The least size of a chunk whose block is read into memory that the chunk may take over.
+const LEAST: usize = 66_232;
+
+/// A large block that a line announces.
+#[derive(Clone, Copy)]
+pub struct Announced {
+    /// The place at which it begins.
+    pub from: usize,
+    /// Its length in bytes.
+    pub len: usize,
+    /// The memory in bytes that its chunk may take over.
+    pub memory: usize,
+}
+
+impl Announced {
+    /// Returns the length in bytes of the unit: the line, the block and its end.
+    pub fn end(self) -> usize {
+        self.from.saturating_add(self.len).saturating_add(2)
     }
 }
 
@@ -223,10 +255,45 @@ impl Note {
         }
     }
 
-    /// Returns what the unread bytes begin with. It doesn't read the line.
+    /// Returns the memory in bytes into which the line and its block are best read, or 0 without a
+    /// block.
+    ///
+    /// For a large block it is what the block's chunk can take over.
+    pub fn wanted_bytes(&self) -> usize {
+        match (self.large_block(), self.announced_bytes()) {
+            (Some(block), _) => block.memory,
+            (None, 0) => 0,
+            (None, whole) => whole.saturating_add(BEHIND),
+        }
+    }
+
+    /// Returns the block that the line announces, if its chunk can take memory over.
+    ///
+    /// That is a chunk of 66232 to 1048576 bytes, and the line must be short.
+    pub fn large_block(&self) -> Option<Announced> {
+        let noted = self.said.ok()?;
+        let len = announced_block(&noted)?;
+        let key = key_length(&noted);
+        let size = class_of(
+            HEADER.saturating_add(key).saturating_add(u64::from(len)),
+        )?.size() as usize;
+        let from = self.end.saturating_add(1);
+        if size < LEAST || from > BESIDE {
+            return None;
+        }
+        Some(Announced {
+            from,
+            len: len as usize,
+            memory: size + BESIDE,
+        })
+    }
+
+    /// Returns what the unread bytes begin with. It doesn't read the line. A block that is offered
+    /// is lent with its memory.
     #[inline]
-    pub fn peek<'a>(&self, unread: &'a [u8]) -> Peek<'a>
-        requires { (greatest : ℕ) × IsNoted greatest self.now unread.now }
+    pub fn peek<'a>(&self, unread: &'a [u8], offer: Option<&'a Offer>) -> Peek<'a>
+        requires noted { (greatest : ℕ) × IsNoted greatest self.now unread.now }
+        requires offered { IfSome offer (λ o. o.now ≡ unread.now) }
         ensures found { (greatest : ℕ) → IsNoted greatest self.now unread.now →
             FindsSpelled greatest (unit_of result) unread.now }
         ensures none { (greatest : ℕ) → IsNoted greatest self.now unread.now →
@@ -236,8 +303,8 @@ impl Note {
         match self.said {
             Err(fault) => Peek::Bad(fault, self.end + 1),
             Ok(noted) => match announced_block(&noted) {
-                None => Peek::Whole(lend(&noted, text, &[]), self.end + 1),
-                Some(len) => block_peeked(&noted, text, unread, self.end, len as usize),
+                None => Peek::Whole(lend(&noted, text, Bytes::of(&[])), self.end + 1),
+                Some(len) => block_peeked(&noted, text, unread, self.end, len as usize, offer),
             },
         }
     }

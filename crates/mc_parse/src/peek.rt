@@ -1,6 +1,6 @@
 //! What bytes begin with: a command, a fault, or nothing complete yet.
 
-ghost use Rattle.std.specs.Prelude.{◌≡◌, ◌≢◌, ◌+◌, ◌-◌, ◌^◌, ◌<◌, ℕ, length, take, IfSome, Some, None, Ok};
+ghost use Rattle.std.specs.Prelude.{◌≡◌, ◌≢◌, ◌+◌, ◌-◌, ◌^◌, ◌<◌, ℕ, length, take, drop, IfSome, Some, None, Ok};
 ghost use Rattle.std.specs.List.{AllByRecursion};
 ghost use Rattle.std.specs.Str.Lines.{strip_carriage_return};
 ghost use Rattle.mc_parse.specs.Units.{IsLine, HasLine};
@@ -10,7 +10,8 @@ ghost use Rattle.mc_protocol.specs.Commands.{block_in};
 
 use crate::ahead::Ahead;
 use crate::note::{Noted, lend};
-use mc_protocol::{Command, LineFault};
+use crate::offer::Offer;
+use mc_protocol::{Bytes, Command, LineFault};
 use memchr::memchr;
 
 /// What the unread bytes begin with.
@@ -41,7 +42,7 @@ pub fn peek_at(greatest: u64, unread: &[u8]) -> Peek<'_>
     ensures only { FindsWhatever greatest (unit_of result) unread.now }
 {
     let ahead = Ahead::none().after(greatest, unread);
-    ahead.peek(unread)
+    ahead.peek(unread, None)
 }
 
 /// Returns the place of the first line feed, if the line isn't too long.
@@ -63,7 +64,8 @@ pub fn first_feed(unread: &[u8], searched: usize) -> Option<usize>
 
 /// Returns what the unread bytes begin with, if the line that ends at `end` announces a block.
 ///
-/// The line is parsed, and its block has `len` bytes.
+/// The line is parsed, and its block has `len` bytes. A block that is offered is lent with its
+/// memory.
 #[inline]
 pub fn block_peeked<'a>(
     noted: &Noted,
@@ -71,12 +73,14 @@ pub fn block_peeked<'a>(
     unread: &'a [u8],
     end: usize,
     len: usize,
+    offer: Option<&'a Offer>,
 ) -> Peek<'a>
     requires line { IsLine (take (end + 1) unread.now) (take end unread.now) }
     requires inside { end < length unread.now }
     requires fits { Fits noted.now text.now }
     requires len { block_in noted.now ≡ Some len }
     requires short { len < 2 ^ 32 }
+    requires offered { IfSome offer (λ o. o.now ≡ unread.now) }
     ensures found { (greatest : ℕ) → Says greatest unread.now end (Ok (read text.now noted.now)) →
         FindsSpelled greatest (unit_of result) unread.now }
     ensures none { (greatest : ℕ) → Says greatest unread.now end (Ok (read text.now noted.now)) →
@@ -89,9 +93,27 @@ pub fn block_peeked<'a>(
     let (block, after) = rest.split_at(len);
     let (ended, _) = after.split_at(2);
     if ended == b"\r\n".as_slice() {
-        Peek::Whole(lend(noted, text, block), end + 1 + (len + 2))
+        Peek::Whole(
+            lend(noted, text, lent_with(block, end + 1, offer)),
+            end + 1 + (len + 2),
+        )
     } else {
         Peek::Bad(LineFault::BadChunk, end + 1 + (len + 2))
+    }
+}
+
+/// Returns a block that begins at `from` in the unread bytes, with its memory if it is offered.
+#[inline]
+fn lent_with<'a>(block: &'a [u8], from: usize, offer: Option<&'a Offer>) -> Bytes<'a>
+    requires { IfSome offer (λ o. block.now ≡ take (length block.now) (drop from o.now)) }
+    ensures { result ≡ block.now }
+{
+    match offer {
+        Some(offer) => match offer.block_at(from, block.len()) {
+            Some(lent) => Bytes::of_lent(lent),
+            None => Bytes::of(block),
+        },
+        None => Bytes::of(block),
     }
 }
 

@@ -1,6 +1,7 @@
 use Rattle.std.proofs.Common.{arith, ◌∙◌, sym, ap, ◌+◌, take, length-drop}
 use Rattle.std.specs.Str.{bytes_eq}
-use Rattle.mc_parse.specs.Units.{Request}
+use Rattle.mc_parse.specs.Units.{Request, with_block}
+use Rattle.mc_parse.specs.Notes.{read}
 use Rattle.mc_parse.proofs.UnitLemmas.{spells_block, none_line, stored_whole, stored_fault}
 use Rattle.mc_parse.proofs.NoteLemmas.{block_stays}
 use Rattle.mc_parse.proofs.peek.block_peeked.Goals as goal
@@ -18,7 +19,7 @@ returns-then-eq-clause-found c = λ greatest says. record {
       c.split_at-3.result.0.now _ says
       (block_stays c.args.text.now c.args.noted.now ∙ c.requires.len) c.split_at.ensures.back c.if-rest-len.false c.split_at-2.ensures.front
       (c.split_at-3.ensures.front ∙ ap (take 2) c.split_at-2.ensures.back)
-      (ap Request c.lend.ensures ∙ stored_whole _ c.split_at-2.result.0.now c.split_at-3.result.0.now (sym (c.if-eq.ensures ∙ ap (bytes_eq c.split_at-3.result.0.now) c.as_slice.ensures)));
+      (ap Request (c.lend.ensures ∙ ap (with_block (read c.args.text.now c.args.noted.now)) c.lent_with.ensures) ∙ stored_whole _ c.split_at-2.result.0.now c.split_at-3.result.0.now (sym (c.if-eq.ensures ∙ ap (bytes_eq c.split_at-3.result.0.now) c.as_slice.ensures)));
 }
 
 pub returns-else-eq-clause-found : goal.returns-else-eq-clause-found

@@ -5,7 +5,7 @@ use Rattle.mc_parse.specs.Feeds.{Unread}
 use Rattle.mc_parse.proofs.feed.Feed.cursor_at.Goals as goal
 
 pub cursor-requires : goal.cursor-requires
-cursor-requires c = (c.self.inside.greatest, c.self.inside.unread.bytes, c.self.invariant.knows)
+cursor-requires c = (c.self.inside.greatest, c.self.inside.unread, c.self.invariant.knows)
 
 pub cursor_after-requires-clause-known : goal.cursor_after-requires-clause-known
 cursor_after-requires-clause-known c = (c.self.inside.greatest, rw c.as_slice-unread.ensures c.self.invariant.points)
@@ -21,7 +21,7 @@ returns-clause-some c =
     let greatest = c.self.inside.greatest in
     let known : IfSome c.self.inside.cursor (λ cursor. PointsInto greatest cursor c.as_slice-unread.result.now) = rw c.as_slice-unread.ensures c.self.invariant.points in
     let knows : Knows greatest c.self.inside.ahead c.as_slice-unread.result.now = rw c.as_slice-unread.ensures c.self.invariant.knows in
-    let here : IfSome c.cursor_after.result (λ cursor. PointsInto greatest cursor c.self.inside.unread.bytes) =
+    let here : IfSome c.cursor_after.result (λ cursor. PointsInto greatest cursor c.self.inside.unread) =
     rw (← c.as_slice-unread.ensures) (c.cursor_after.ensures.some greatest known (c.cursor.ensures.some greatest c.as_slice-unread.result.now knows)) in
     subst (λ (u : Unread). IfSome c.cursor_after.result (λ cursor. PointsInto u.greatest cursor u.bytes)) c.self.view_is here
 

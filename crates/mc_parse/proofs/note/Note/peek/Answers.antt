@@ -11,5 +11,5 @@ returns-in-None-clause-found c = λ greatest is.
     let noted = c.in-Ok.noted in
     let says = says_text greatest c.args.self.now c.args.unread.now is ∙ ap (λ t. said t c.args.self.now.said) (sym c.split_at.ensures.front) ∙ ap (said text) c.in-Ok.is in
     let none = block_stays text noted ∙ sym c.announced_block.ensures ∙ c.in-None.is in
-    subst (λ k. IsSpelled greatest (Request k, c.args.self.now.end + 1) c.args.unread.now) (sym c.lend.ensures)
+    subst (λ k. IsSpelled greatest (Request k, c.args.self.now.end + 1) c.args.unread.now) (sym (c.lend.ensures ∙ ap (with_block (read text noted)) c.of.ensures))
     (spells_alone greatest c.args.unread.now c.args.self.now.end (read text noted) is.inside is.line says none)
