@@ -1,22 +1,13 @@
-//! Tests of the protocol: the plain store, lines and feeds, texts, sessions and guests.
+//! Tests of the protocol: the plain store, lines and feeds, texts and sessions.
 //!
 //! They test `mc_command`'s plain store, the queues and lent parts of `mc_bytes`, the lines and feeds of
-//! `mc_parse`, the texts of `mc_reply`, the sessions of `mc_session`, the guests of `mc_guests`,
-//! and the rows of `mc_testing` over the plain store.
+//! `mc_parse`, the texts of `mc_reply`, the sessions of `mc_session`, and the rows of `mc_testing`
+//! over the plain store.
 //!
 //! It is a crate of its own so that no library is proved a second time with its tests. Tests use
 //! only public calls. No program uses this crate.
-//!
-//! What two files share is a store that counts its steps (`src/counting.rt`).
 #![tactic(auto)]
 
-#[cfg(test)]
-mod budget_tests;
-mod counting;
-#[cfg(test)]
-mod door_tests;
-#[cfg(test)]
-mod gathering_tests;
 #[cfg(test)]
 mod hit_tests;
 #[cfg(test)]
@@ -35,7 +26,3 @@ mod rows_tests;
 mod session_tests;
 #[cfg(test)]
 mod spares_tests;
-#[cfg(test)]
-mod visit_tests;
-#[cfg(test)]
-mod waiting_tests;

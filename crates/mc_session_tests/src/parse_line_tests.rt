@@ -1,7 +1,7 @@
 //! The commands of lines, and their first faults.
 
 use mc_parse::{Noted, lend, line_of};
-use mc_protocol::{Command, CommandOf, LineFault};
+use mc_protocol::{Bytes, Command, CommandOf, LineFault};
 use std::process::Abort;
 use std::test::*;
 
@@ -166,7 +166,7 @@ fn what_a_line_says(rt: HostRuntime) {
     }
     let text: &[u8] = b"gats 0 a  b";
     match line_of(GREATEST, text) {
-        Ok(noted) => is_a_gats(&rt, lend(&noted, text, &[])),
+        Ok(noted) => is_a_gats(&rt, lend(&noted, text, Bytes::of(&[]))),
         Err(_) => assert!(rt; false),
     }
 }

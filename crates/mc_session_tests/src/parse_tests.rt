@@ -380,12 +380,11 @@ fn stays_for(queue: &mut Queue<65536>, pieces: usize) -> Result<bool, AllocError
     Ok(queue.capacity() == reserved)
 }
 
-/// The first 4 pieces are a sixteenth; room for the text comes with the fifth, and for one more
-/// piece.
+/// The first 4 pieces are a sixteenth; room for the text comes with the fifth.
 fn stays_after_a_sixteenth(rt: &impl Abort, queue: &mut Queue<65536>) -> Result<(), AllocError> {
     assert!(rt; !stays_for(queue, 5)?);
-    assert!(rt; stays_for(queue, 60)?);
-    assert_eq!(rt; queue.len(), 1064960);
+    assert!(rt; stays_for(queue, 59)?);
+    assert_eq!(rt; queue.len(), 1048576);
     Ok(())
 }
 
@@ -566,6 +565,46 @@ fn keeps_its_room_until_it_is_cleared(rt: &impl Abort, feed: &mut Feed) {
 #[test]
 fn a_block_is_announced_by_its_line(rt: HostRuntime) -> Result<(), AllocError> {
     announces_a_block(&rt, &mut Feed::new(rt.alloc(), GREATEST))
+}
+
+/// Returns whether it is a set whose block is lent with its memory.
+fn lends_memory(peek: Peek<'_>) -> bool {
+    match peek {
+        Peek::Whole(Command::Store { block, .. }, _) => block.lent().is_some(),
+        _ => false,
+    }
+}
+
+/// Appends a set of a block of 100000 bytes in pieces.
+fn push_large(feed: &mut Feed) -> Result<(), AllocError> {
+    feed.push(b"set a 0 0 100000\r\n")?;
+    for _ in 0..12 {
+        feed.push(&[b'x'; 8192])?;
+    }
+    feed.push(&[b'x'; 1696])?;
+    feed.push(b"\r\n")
+}
+
+/// Checks that a large block is lent with its memory until more arrives, and is the same then.
+fn offers_a_large_block(rt: &impl Abort, feed: &mut Feed) -> Result<(), AllocError> {
+    push_large(feed)?;
+    assert_eq!(rt; len_of(feed.peek()), Some(100020));
+    if !lends_memory(feed.peek()) {
+        return Err(AllocError);
+    }
+    assert!(rt; feed.held() == 100020 && feed.capacity() >= 100020 && feed.rest() >= 100020);
+    assert!(rt; push_at_last(feed, b"version\r\n")?);
+    assert!(rt; !lends_memory(feed.peek()) && len_of(feed.peek()) == Some(100020));
+    assert!(rt; passes(feed, 100020, 9) && takes(feed, b"", VERSION, 9)?);
+    assert!(rt; passes(feed, 9, 0));
+    push_large(feed)?;
+    assert!(rt; passes(feed, 100020, 0) && feed.capacity() <= 65536);
+    Ok(())
+}
+
+#[test]
+fn a_large_block_is_lent_with_its_memory(rt: HostRuntime) -> Result<(), AllocError> {
+    offers_a_large_block(&rt, &mut Feed::new(rt.alloc(), GREATEST))
 }
 
 fn takes_a_block_from_a_source(rt: &impl Abort, feed: &mut Feed) -> Result<(), AllocError> {

@@ -8,11 +8,11 @@ use std::test::*;
 /// The bytes of a piece.
 const PIECE: [u8; 8192] = [b'x'; 8192];
 
-/// The bytes of a text whose room, with 16,384 bytes behind it, is less than 131,072.
-const WHOLE: usize = 110_000;
+/// The memory that a text wants: less than 131,072 bytes, and no more than an eighth less.
+const WHOLE: usize = 126_384;
 
-/// The bytes of a text whose room is more than 131,072. A sixteenth of it is less than a piece.
-const LONGER: usize = 131_000;
+/// The memory of a text that is more than 131,072 bytes. A sixteenth of it is less than a piece.
+const LONGER: usize = 131_080;
 
 /// Two queues over the same spares.
 #[derive(Drop)]

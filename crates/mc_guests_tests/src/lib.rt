@@ -1,0 +1,19 @@
+//! Tests of `mc_guests`: visits, waiting, the door, the budget and gathering.
+//!
+//! They are apart from the tests of sessions because both crates are proved side by side. Tests use
+//! only public calls. No program uses this crate.
+//!
+//! What several files share is a store that counts its steps (`src/counting.rt`).
+#![tactic(auto)]
+
+#[cfg(test)]
+mod budget_tests;
+mod counting;
+#[cfg(test)]
+mod door_tests;
+#[cfg(test)]
+mod gathering_tests;
+#[cfg(test)]
+mod visit_tests;
+#[cfg(test)]
+mod waiting_tests;
