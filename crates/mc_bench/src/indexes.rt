@@ -47,6 +47,7 @@ fn put_item(slab: &mut Slab, alloc: Global, key: &[u8; 32]) -> Result<Entry, All
         key,
         first: &BLOCK,
         second: &[],
+        lent: None,
         flags: 0,
         expiry: Expiry::Never,
         unique: 1,

@@ -3,7 +3,12 @@ use Rattle.std.proofs.Common.{◌≡◌, ℕ, zero, suc, ◌+◌, ◌-◌, ◌<�
 use Rattle.std.proofs.Common.{sym, ap, subst, ◌∙◌, arith}
 use Rattle.mc_shelf.proofs.Common.{charge, concat, drop-nil, drop_more, Entry, get_or_from_slice_get, item_need, length-take-le, list_all, need_for, number_of}
 use Rattle.mc_shelf.proofs.Common.{parts_of, pieces, same_Some, size_of, size_of-last, slice_get_within}
+use Rattle.std.proofs.Common.{min}
+use Rattle.std.proofs.lemmas.List.{length-take}
 use Rattle.std.proofs.lemmas.List.Folds.{list_all-append}
+use Rattle.mc_item.specs.Items.{front_of, start_of}
+use Rattle.mc_item.proofs.LayoutLemmas.{start_of-above}
+use Rattle.mc_shelf.specs.States.{stored}
 use Rattle.mc_shelf.proofs.NeedLemmas.{by_charge}
 use Rattle.mc_protocol.specs.Words.{is_space}
 use Rattle.mc_protocol.proofs.NumberLemmas.{number_of-joined}
@@ -33,7 +38,7 @@ length_pieces size (suc count) bytes = ap suc (length_pieces size count (drop si
 -- as many parts as chunks
 pub parts_count : (key : List ℕ) (item : Entry) → 1 ≤ (item_need key item).count → length (parts_of key item) ≡ (item_need key item).count
 parts_count key item some =
-    let rest = length_pieces (size_of (item_need key item).class) ((item_need key item).count - 1) (drop (size_of (item_need key item).class - (48 + length key)) item.block) in
+    let rest = length_pieces (size_of (item_need key item).class) ((item_need key item).count - 1) (drop (front_of (stored key item)) item.block) in
     omega (arith, rest, some)
 
 -- past the last there is none
@@ -43,15 +48,18 @@ blank_past (part ∷ parts) zero past = absurd (omega (arith, past))
 blank_past (part ∷ parts) (suc at) past = blank_past parts at (omega (arith, past))
 
 -- what is in front of other parts is long
-front_long : (key block : List ℕ) → length key ≤ 250 → ((need_for (charge key block)).count ≡ 1 → ⊥) → 20 < length (take (size_of (need_for (charge key block)).class - (48 + length key)) block)
+front_long : (key block : List ℕ) → length key ≤ 250 → ((need_for (charge key block)).count ≡ 1 → ⊥)
+    → 20 < length (take (size_of (need_for (charge key block)).class - start_of (need_for (charge key block)).class (length key)) block)
 front_long key block short several =
-    by_charge (λ need. (need.count ≡ 1 → ⊥) → 20 < length (take (size_of need.class - (48 + length key)) block)) (charge key block)
+    by_charge (λ need. (need.count ≡ 1 → ⊥) → 20 < length (take (size_of need.class - start_of need.class (length key)) block)) (charge key block)
     (λ most several. absurd (several refl))
     (λ above several.
     let size : size_of 40 ≡ 1048576 = size_of-last in
-    let inside : 1048576 - (48 + length key) ≤ length block = omega (arith, above) in
-    let long : length (take (1048576 - (48 + length key)) block) ≡ 1048576 - (48 + length key) = length-take-le (1048576 - (48 + length key)) block inside in
-    subst (λ (n : ℕ). 20 < length (take (n - (48 + length key)) block)) (sym size) (omega (arith, long, short)))
+    let start : start_of 40 (length key) ≡ 0 = start_of-above 40 (length key) (omega arith) in
+    let long : length (take 1048576 block) ≡ min 1048576 (length block) = length-take 1048576 block in
+    let all : 1048576 ≡ size_of 40 - start_of 40 (length key) = omega (arith, size, start) in
+    let some : 20 < length (take 1048576 block) = omega (arith, long, short, above) in
+    subst (λ (n : ℕ). 20 < length (take n block)) all some)
     several
 
 -- the number of a block, by its first part
@@ -59,7 +67,7 @@ pub number_by : (key : List ℕ) (item : Entry) → length key ≤ 250 → conca
     → (first : List ℕ) → slice_get (parts_of key item) 0 ≡ Some first
     → number_of item.block ≡ (if are_blank (drop 1 (parts_of key item)) then number_of first else None)
 number_by key item short joined several first there =
-    let front : List ℕ = take (size_of (item_need key item).class - (48 + length key)) item.block in
+    let front : List ℕ = take (front_of (stored key item)) item.block in
     let rest : List (List ℕ) = drop 1 (parts_of key item) in
     let same : front ≡ first = same_Some front first there in
     ap number_of (sym joined) ∙ number_of-joined front (concat rest) (front_long key item.block short several)

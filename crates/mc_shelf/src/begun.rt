@@ -137,7 +137,7 @@ impl Shelf {
         if write.appends() {
             self.extend(write, unique, step.key(), step.block());
         } else {
-            self.overwrite(write, unique, step.key(), step.block());
+            self.overwrite(write, unique, step.key(), &step.block_bytes());
         }
     }
 }

@@ -1,6 +1,6 @@
 //! An item as an entry of an index.
 
-ghost use Rattle.std.specs.Prelude.{◌≡◌, ◌+◌, ◌<◌, ◌≤◌, ◌++◌, length, drop, slice_get, Some, IfSome, OnOk, OnErr};
+ghost use Rattle.std.specs.Prelude.{◌≡◌, ◌+◌, ◌<◌, ◌≤◌, ◌++◌, [], length, drop, slice_get, Some, IfSome, OnOk, OnErr};
 ghost use Rattle.std.specs.List.{concat, list_all};
 ghost use Rattle.mc_slab.specs.Needs.{IsNeed, need_for};
 ghost use Rattle.mc_slab.specs.Chunks.{need_in, with_part};
@@ -46,6 +46,8 @@ impl Entry {
         requires key { length parts.key.now ≤ 250 }
         requires need { need_in chunks ≡ need_for (charge_in parts) }
         requires room { charge_in parts ≤ length chunks.bytes }
+        requires lent { IfSome parts.lent (λ lent.
+            (parts.first.now ≡ []) × (lent.now ≡ parts.second.now)) }
         ensures { result ≡ entry_in parts.entry.hash parts.entry }
     {
         Entry {
@@ -56,6 +58,7 @@ impl Entry {
                     key: parts.key,
                     first: parts.first,
                     second: parts.second,
+                    lent: parts.lent,
                     flags: parts.flags,
                     expiry: parts.expiry,
                     unique: parts.unique,
@@ -120,6 +123,8 @@ impl Entry {
         requires key { parts.key.now ≡ self.old.key }
         requires short { length parts.key.now ≤ 250 }
         requires need { need_for (charge_in parts) ≡ item_need self.old.key self.old.item }
+        requires lent { IfSome parts.lent (λ lent.
+            (parts.first.now ≡ []) × (lent.now ≡ parts.second.now)) }
         ensures { self.new ≡ record self.old { item = (entry_in 0 parts.entry).item } }
     {
         self.lies_in_need();
@@ -128,6 +133,7 @@ impl Entry {
             key: parts.key,
             first: parts.first,
             second: parts.second,
+            lent: parts.lent,
             flags: parts.flags,
             expiry: parts.expiry,
             unique: parts.unique,

@@ -32,10 +32,10 @@ use crate::counts::ShelfCounts;
 use crate::entry::Entry;
 use crate::soonest::Soonest;
 use crate::write::Write;
+use mc_bytes::Lent;
 pub(crate) use mc_grow::Place;
 use mc_hop::Keyed;
-use mc_item::Parts;
-use mc_protocol::Standing;
+use mc_protocol::{Bytes, Standing};
 use mc_slab::Class;
 use mc_time::{Expiry, Moment};
 use std::alloc::{AllocError, Global};
@@ -210,6 +210,51 @@ impl Index {
         write: &Write,
         unique: u64,
         key: &'a [u8],
+        block: &Bytes<'a>,
+    )
+        requires key { IsKeyAt self.old key.now place }
+        requires short { length key.now ≤ 250 }
+        requires need { (at : IsKeyAt self.old key.now place) →
+            item_need key.now at.entry.item ≡ need_for (charge key.now block.now) }
+        ensures { ItemIsChanged self.old self.new key.now
+            (drafted write.now.draft block.now unique write.now.moment) }
+    {
+        match block.lent() {
+            Some(lent) => self.rewrite_lent(place, write, unique, key, lent),
+            None => self.rewrite_copied(place, write, unique, key, block.as_slice()),
+        }
+    }
+
+    /// Does what `rewrite` does with a block that its chunk may take over.
+    fn rewrite_lent<'a>(
+        &mut self,
+        place: Place,
+        write: &Write,
+        unique: u64,
+        key: &'a [u8],
+        block: &'a Lent,
+    )
+        requires key { IsKeyAt self.old key.now place }
+        requires short { length key.now ≤ 250 }
+        requires need { (at : IsKeyAt self.old key.now place) →
+            item_need key.now at.entry.item ≡ need_for (charge key.now block.now) }
+        ensures { ItemIsChanged self.old self.new key.now
+            (drafted write.now.draft block.now unique write.now.moment) }
+    {
+        self.soonest.note(write.draft.expiry, write.moment);
+        self.entries.update(place, |mut entry| {
+            write.rewrite_lent(&mut entry, unique, key, block);
+            (entry, ())
+        });
+    }
+
+    /// Does what `rewrite` does with a block that is copied.
+    fn rewrite_copied<'a>(
+        &mut self,
+        place: Place,
+        write: &Write,
+        unique: u64,
+        key: &'a [u8],
         block: &'a [u8],
     )
         requires key { IsKeyAt self.old key.now place }
@@ -219,24 +264,9 @@ impl Index {
         ensures { ItemIsChanged self.old self.new key.now
             (drafted write.now.draft block.now unique write.now.moment) }
     {
-        let Write {
-            hash,
-            moment,
-            draft,
-            ..
-        } = *write;
-        self.soonest.note(draft.expiry, moment);
+        self.soonest.note(write.draft.expiry, write.moment);
         self.entries.update(place, |mut entry| {
-            entry.rewrite(Parts {
-                hash,
-                key,
-                first: &[],
-                second: block,
-                flags: draft.flags,
-                expiry: draft.expiry,
-                unique,
-                updated: moment,
-            });
+            write.rewrite_copied(&mut entry, unique, key, block);
             (entry, ())
         });
     }

@@ -60,8 +60,9 @@ use crate::index::Place;
 use crate::plan::{Next, is_gone};
 use crate::shelf::Shelf;
 use itoa::Buffer;
+use mc_bytes::Lent;
 use mc_item::{Head, Parts};
-use mc_protocol::{Body, Draft, KeyStep, StepFault};
+use mc_protocol::{Body, Bytes, Draft, KeyStep, StepFault};
 use mc_slab::{Chunks, Need};
 use mc_time::Moment;
 use std::alloc::Global;
@@ -173,9 +174,9 @@ impl Write {
             (Body::Counted(number), _) => {
                 let mut buffer = Buffer::new();
                 let digits = buffer.format(number).as_bytes();
-                self.entry_of(chunks, unique, step.key(), digits)
+                self.entry_of(chunks, unique, step.key(), &Bytes::of(digits))
             }
-            _ => self.entry_of(chunks, unique, step.key(), block),
+            _ => self.entry_of(chunks, unique, step.key(), &step.block_bytes()),
         }
     }
 
@@ -257,13 +258,75 @@ impl Write {
         )
     }
 
+    /// Writes this block, which its chunk may take over, into the chunks of the key's item.
+    ///
+    /// They must be the chunks that the new charge needs.
+    pub(crate) fn rewrite_lent<'a>(
+        &self,
+        entry: &mut Entry,
+        unique: u64,
+        key: &'a [u8],
+        block: &'a Lent,
+    )
+        requires key { key.now ≡ entry.old.key }
+        requires short { length key.now ≤ 250 }
+        requires need { need_for (charge key.now block.now)
+            ≡ item_need entry.old.key entry.old.item }
+        ensures { entry.new ≡ record entry.old {
+          item = drafted self.now.draft block.now unique self.now.moment;
+        } }
+    {
+        entry.rewrite(Parts {
+            hash: self.hash,
+            key,
+            first: &[],
+            second: block.as_slice(),
+            lent: Some(block),
+            flags: self.draft.flags,
+            expiry: self.draft.expiry,
+            unique,
+            updated: self.moment,
+        });
+    }
+
+    /// Copies this block into the chunks of the key's item, and sets the fields of the write.
+    ///
+    /// They must be the chunks that the new charge needs.
+    pub(crate) fn rewrite_copied<'a>(
+        &self,
+        entry: &mut Entry,
+        unique: u64,
+        key: &'a [u8],
+        block: &'a [u8],
+    )
+        requires key { key.now ≡ entry.old.key }
+        requires short { length key.now ≤ 250 }
+        requires need { need_for (charge key.now block.now)
+            ≡ item_need entry.old.key entry.old.item }
+        ensures { entry.new ≡ record entry.old {
+          item = drafted self.now.draft block.now unique self.now.moment;
+        } }
+    {
+        entry.rewrite(Parts {
+            hash: self.hash,
+            key,
+            first: &[],
+            second: block,
+            lent: None,
+            flags: self.draft.flags,
+            expiry: self.draft.expiry,
+            unique,
+            updated: self.moment,
+        });
+    }
+
     /// Writes the item with this block, and returns its entry.
     pub(crate) fn entry_of<'a>(
         &self,
         chunks: Chunks,
         unique: u64,
         key: &'a [u8],
-        block: &'a [u8],
+        block: &Bytes<'a>,
     ) -> Entry
         requires key { length key.now ≤ 250 }
         requires need { need_in chunks ≡ need_for (charge key.now block.now) }
@@ -280,7 +343,8 @@ impl Write {
                 hash: self.hash,
                 key,
                 first: &[],
-                second: block,
+                second: block.as_slice(),
+                lent: block.lent(),
                 flags: self.draft.flags,
                 expiry: self.draft.expiry,
                 unique,
@@ -502,7 +566,7 @@ impl Shelf {
             Body::Counted(number) => {
                 let mut buffer = Buffer::new();
                 let digits = buffer.format(number).as_bytes();
-                self.overwrite(write, unique, step.key(), digits);
+                self.overwrite(write, unique, step.key(), &Bytes::of(digits));
                 Begun::Done
             }
         }
@@ -515,7 +579,7 @@ impl Shelf {
         write: &Write,
         unique: u64,
         key: &'a [u8],
-        block: &'a [u8],
+        block: &Bytes<'a>,
     )
         requires key { length key.now ≤ 250 }
         requires sought { IsSought self.old.content key.now write.now.hash write.now.place }

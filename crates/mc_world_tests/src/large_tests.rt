@@ -1,7 +1,7 @@
 //! Items of several pages, in worlds whose stores have few. If memory is refused a test ends early.
 
 use crate::texts::NO_CHUNK;
-use crate::told::tells;
+use crate::told::{is_told, tells};
 use crate::worlds::{ask, opened_with};
 use mc_hop::Fnv;
 use mc_shelf::Settings;
@@ -89,6 +89,45 @@ fn rows_are_told(
 fn are_told(rt: &impl Abort, alloc: Global, settings: Settings, rows: &[Row]) -> Result<(), Fail> {
     let mut world = opened_with(alloc, Fnv, settings)?;
     rows_are_told(rt, alloc, &mut world, rows)
+}
+
+/// Returns a front, a letter 100000 times, and an end.
+fn text_of(alloc: Global, front: &[u8], letter: u8, end: &[u8]) -> Result<Vec<u8>, AllocError> {
+    let mut text = Vec::new(alloc);
+    text.extend_from_slice(front)?;
+    text.resize(front.len().saturating_add(100000), letter)?;
+    text.extend_from_slice(end)?;
+    Ok(text)
+}
+
+/// Sets `k` to a letter 100000 times, in pieces of 8192 bytes, and gets it.
+fn sets_and_gets(
+    rt: &impl Abort,
+    alloc: Global,
+    world: &mut World<Fnv>,
+    letter: u8,
+) -> Result<(), Fail> {
+    let set = text_of(alloc, b"set k 0 0 100000\r\n", letter, b"\r\n")?;
+    for piece in set.as_slice().chunks(8192) {
+        ask(alloc, world, 1000, piece)?;
+    }
+    tells(rt, world, "STORED\r\n");
+    let hit = text_of(alloc, b"VALUE k 0 100000\r\n", letter, b"\r\nEND\r\n")?;
+    ask(alloc, world, 1000, b"get k\r\n")?;
+    is_told(rt, world, 1, hit.as_slice());
+    let written = world.out(1).len();
+    world.sent(1, written);
+    Ok(())
+}
+
+/// The second block's memory becomes the item's, and the first one's that of the third.
+#[test]
+fn a_block_that_comes_in_pieces_is_set_over_others(rt: HostRuntime) -> Result<(), Fail> {
+    let mut world = opened_with(rt.alloc(), Fnv, TWO)?;
+    for letter in b"xyz" {
+        sets_and_gets(&rt, rt.alloc(), &mut world, *letter)?;
+    }
+    Ok(())
 }
 
 #[test]

@@ -37,8 +37,9 @@ returns-in-Counted-clause-put c =
     let old = c.args.self.now.content in
     let made : List ℕ → Entry = λ l. drafted write.draft l c.args.unique write.moment in
     let block = block_beside old step write.draft in
+    let digits : c.of.result ≡ block = c.of.ensures ∙ digits_are c in
     let is : with_item None (key_of step) write.hash (made block) old ≡ c.overwrite.new.self.content =
-    sym (c.overwrite.ensures.content ∙ ap (λ (k : List ℕ). with_item None k write.hash (made c.as_bytes-digits.result.now) old) c.key.ensures ∙ ap
-    (λ (l : List ℕ). with_item None (key_of step) write.hash (made l) old) (digits_are c)) in
+    sym (c.overwrite.ensures.content ∙ ap (λ (k : List ℕ). with_item None k write.hash (made c.of.result) old) c.key.ensures ∙ ap
+    (λ (l : List ℕ). with_item None (key_of step) write.hash (made l) old) digits) in
     subst (λ (s : ShelfContent). IsPut (key_of step) write.hash old s (made block)) is
     (put_over (key_of step) write.hash old (made block) c.requires.known.hash)

@@ -37,8 +37,8 @@ overwrite-requires-clause-there c =
     let step = c.args.step.now in
     let draft = c.args.write.now.draft in
     let own = beside old step draft Given (given_else draft.body c.requires.body (c.appends.ensures.no c.if-appends.false)) in
-    subst (λ (k : List ℕ). LiesInNeed k c.block-else-appends.result.now c.args.self.now) (sym c.key-else-appends.ensures)
-    (subst (λ (l : List ℕ). LiesInNeed (key_of step) l c.args.self.now) (own ∙ sym c.block-else-appends.ensures) c.requires.there)
+    subst (λ (k : List ℕ). LiesInNeed k c.block_bytes.result c.args.self.now) (sym c.key-else-appends.ensures)
+    (subst (λ (l : List ℕ). LiesInNeed (key_of step) l c.args.self.now) (own ∙ sym c.block_bytes.ensures) c.requires.there)
 
 pub returns-else-appends-clause-content : goal.returns-else-appends-clause-content
 returns-else-appends-clause-content c =
@@ -47,5 +47,5 @@ returns-else-appends-clause-content c =
     let write = c.args.write.now in
     let own = beside old step write.draft Given (given_else write.draft.body c.requires.body (c.appends.ensures.no c.if-appends.false)) in
     c.overwrite.ensures.content
-    ∙ ap (λ (k : List ℕ). with_item None k write.hash (drafted write.draft c.block-else-appends.result.now c.args.unique write.moment) old) c.key-else-appends.ensures
-    ∙ ap (λ (l : List ℕ). with_item None (key_of step) write.hash (drafted write.draft l c.args.unique write.moment) old) (c.block-else-appends.ensures ∙ sym own)
+    ∙ ap (λ (k : List ℕ). with_item None k write.hash (drafted write.draft c.block_bytes.result c.args.unique write.moment) old) c.key-else-appends.ensures
+    ∙ ap (λ (l : List ℕ). with_item None (key_of step) write.hash (drafted write.draft l c.args.unique write.moment) old) (c.block_bytes.ensures ∙ sym own)

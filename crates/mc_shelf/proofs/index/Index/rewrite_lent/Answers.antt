@@ -3,7 +3,7 @@ use Rattle.mc_shelf.proofs.Common.{entry_at, EntryState, IndexState, IsKeyAt}
 use Rattle.mc_shelf.specs.Plans.{drafted}
 use Rattle.mc_shelf.proofs.DeathLemmas.{sooner_changed}
 use Rattle.mc_shelf.proofs.IndexLemmas.{updated}
-use Rattle.mc_shelf.proofs.index.Index.rewrite.Goals as goal
+use Rattle.mc_shelf.proofs.index.Index.rewrite_lent.Goals as goal
 
 pub invariant_of-self : goal.invariant_of-self
 invariant_of-self c =
