@@ -1,9 +1,9 @@
 //! Adds an entry to one table.
 
-ghost use Rattle.std.specs.Prelude.{◌≡◌, ℕ, ◌^◌, ◌<◌, ◌∷◌, Some, None, IfOk, IfErr, IsErr, length, slice_index_or};
+ghost use Rattle.std.specs.Prelude.{◌≡◌, ◌^◌, ◌<◌, ◌∷◌, Some, None, IfOk, IfErr, IsErr, length, slice_index_or};
 ghost use Rattle.std.specs.FinMap.{insert};
 ghost use Rattle.mc_hop.specs.Contents.{content};
-ghost use Rattle.mc_hop.specs.Tables.{IsAbsent, IsAt, home_in};
+ghost use Rattle.mc_hop.specs.Tables.{IsAbsent, home_in};
 ghost use Rattle.mc_grow.specs.Adding.{IsCrowded, NoneNear};
 
 use mc_displace::bring_near;

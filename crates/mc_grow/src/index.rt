@@ -5,7 +5,7 @@
 //! and key.
 
 ghost use Rattle.std.specs.Prelude.{◌≡◌, ℕ, List, Option, ◌+◌, ◌-◌, ◌<◌, ◌≤◌, ◌^◌, ◌∷◌, Some, None, IfOk, IfSome, OnOk, OnErr};
-ghost use Rattle.std.specs.Prelude.{IsNone, option_copied, min, nat_lt, true, false, length};
+ghost use Rattle.std.specs.Prelude.{IsNone, option_copied, min, true, false, length};
 ghost use Rattle.std.specs.FinMap.{get, insert, len};
 ghost use Rattle.mc_hop.specs.Tables.{KeepsKey};
 ghost use Rattle.mc_grow.specs.Indexes.{IsNew, StandsAs, HasBegun, IsFilled, IsFoundIn, IsNext, IsPlaceOf, IsUpdated};

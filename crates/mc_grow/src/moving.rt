@@ -1,14 +1,13 @@
 //! Adds entries to a table and to the strays beside it.
 
-ghost use Rattle.std.specs.Prelude.{◌≡◌, ℕ, ◌+◌, ◌-◌, ◌^◌, ◌<◌, ◌≤◌, ◌∷◌, ◌++◌, Option, Some, None};
-ghost use Rattle.std.specs.Prelude.{List, is_some, length, min, true, false, slice_index_or, vec_len, vec_capacity};
-ghost use Rattle.mc_hop.specs.Links.{IsSwapped};
+ghost use Rattle.std.specs.Prelude.{◌≡◌, ◌+◌, ◌-◌, ◌^◌, ◌<◌, ◌≤◌, ◌∷◌, ◌++◌, Some, None};
+ghost use Rattle.std.specs.Prelude.{is_some, length, min, true, slice_index_or};
 ghost use Rattle.std.specs.FinMap.{get};
 ghost use Rattle.mc_hop.specs.Cells.{filled};
 ghost use Rattle.mc_hop.specs.Contents.{content};
 ghost use Rattle.mc_hop.specs.Tables.{AreApart};
 ghost use Rattle.mc_grow.specs.Adding.{IsAdded, AreTried, AreTaken, beside, cells_of};
-ghost use Rattle.mc_grow.specs.Moving.{HoldsAll, IsIn, IsTaken, IsTried};
+ghost use Rattle.mc_grow.specs.Moving.{HoldsAll, IsIn, IsTaken};
 
 use crate::adding::add;
 use crate::strays::Strays;

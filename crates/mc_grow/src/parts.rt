@@ -1,6 +1,6 @@
 //! The parts of an index, each by itself: the optional old table, the table, and the strays.
 
-ghost use Rattle.std.specs.Prelude.{◌≡◌, ℕ, ◌+◌, ◌<◌, ◌≤◌, ◌^◌, Some, None, IfSome, IsNone, if◌then◌else◌, is_some, map, length, true, vec_len, vec_capacity};
+ghost use Rattle.std.specs.Prelude.{◌≡◌, ◌+◌, ◌<◌, ◌≤◌, ◌^◌, Some, None, IfSome, IsNone, if◌then◌else◌, is_some, map, length, true, vec_len, vec_capacity};
 ghost use Rattle.std.specs.Prelude.{option_copied, slice_index_or, slice_set};
 ghost use Rattle.mc_hop.specs.Cells.{filled};
 ghost use Rattle.mc_hop.specs.Tables.{IsAbsent, IsAt, KeepsKey};

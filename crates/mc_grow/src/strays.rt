@@ -5,7 +5,7 @@
 //! moves 8 bytes for each following stray, and no entries.
 
 ghost use Rattle.std.specs.Prelude.{◌≡◌, ℕ, ◌+◌, ◌<◌, ◌≤◌, ◌^◌, ◌∷◌, ◌++◌, [], Some, None, IfSome, IsNone, IfOk, IfErr, OnOk, map, length};
-ghost use Rattle.std.specs.Prelude.{option_copied, slice_index_or, vec_len, vec_capacity};
+ghost use Rattle.std.specs.Prelude.{option_copied, slice_index_or, vec_capacity};
 ghost use Rattle.std.specs.List.{insert, swap_remove};
 ghost use Rattle.std.specs.Ordering.{nat_cmp};
 ghost use Rattle.std.specs.Cmp.Lexicographic.{slice_cmp};

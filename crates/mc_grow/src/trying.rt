@@ -1,6 +1,6 @@
 //! Moves an entry of a list into a table, if that is possible.
 
-ghost use Rattle.std.specs.Prelude.{◌≡◌, ℕ, ◌+◌, ◌<◌, ◌≤◌, List, true, false, length, slice_index_or, vec_len, vec_capacity};
+ghost use Rattle.std.specs.Prelude.{◌≡◌, ◌+◌, ◌<◌, ◌≤◌, List, true, false, length, slice_index_or, vec_len, vec_capacity};
 ghost use Rattle.mc_hop.specs.Links.{IsSwapped};
 ghost use Rattle.mc_hop.specs.Tables.{AreApart};
 ghost use Rattle.mc_grow.specs.Adding.{beside, cells_of};

@@ -1,6 +1,6 @@
 //! Bits of hop words.
 
-ghost use Rattle.std.specs.Prelude.{◌≡◌, ◌≢◌, ℕ, ◌<◌, ◌^◌};
+ghost use Rattle.std.specs.Prelude.{◌≡◌, ◌≢◌, ℕ, ◌<◌};
 ghost use Rattle.std.specs.Int.{bit_at};
 
 /// Returns the place of the lowest set bit of a hop word, 0 to 31.

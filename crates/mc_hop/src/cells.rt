@@ -1,6 +1,6 @@
 //! Buckets, each with a word of 32 bits and at most one value.
 
-ghost use Rattle.std.specs.Prelude.{◌≡◌, ◌+◌, ◌-◌, ◌<◌, ◌≤◌, ◌^◌, ◌/◌, ◌%◌, ◌↔◌, IsTrue, Some, None, IfOk, IfSome, IsNone, option_copied, false, vec_len, is_some, true, length, replicate, slice_index_or, slice_set};
+ghost use Rattle.std.specs.Prelude.{◌≡◌, ◌+◌, ◌-◌, ◌<◌, ◌≤◌, ◌^◌, ◌/◌, ◌%◌, Some, None, IfOk, IfSome, IsNone, option_copied, false, vec_len, is_some, true, length, replicate, slice_index_or, slice_set};
 ghost use Rattle.mc_hop.specs.Cells.{empty_cells, filled};
 ghost use Rattle.mc_hop.specs.Links.{ats_of, tags_of, words_of, renumbered};
 

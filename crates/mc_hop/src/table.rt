@@ -1,6 +1,6 @@
 //! One hopscotch table.
 
-ghost use Rattle.std.specs.Prelude.{◌≡◌, ℕ, ◌+◌, ◌<◌, ◌≤◌, ◌^◌, Some, None, IfOk, IfSome, IsNone};
+ghost use Rattle.std.specs.Prelude.{◌≡◌, ◌+◌, ◌<◌, ◌≤◌, ◌^◌, Some, None, IfOk, IfSome, IsNone};
 ghost use Rattle.std.specs.Prelude.{option_copied, is_some, true, length};
 ghost use Rattle.mc_hop.specs.Contents.{content, content_with, content_without};
 ghost use Rattle.mc_hop.specs.Cells.{filled};

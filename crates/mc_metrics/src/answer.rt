@@ -1,5 +1,5 @@
 //! The answers over HTTP.
-ghost use Rattle.std.specs.Prelude.{◌≡◌, ◌++◌, IfOk, OnOk};
+ghost use Rattle.std.specs.Prelude.{◌≡◌, IfOk};
 ghost use Rattle.mc_metrics.specs.Scrapes.{body_of, methods_of, response_text};
 ghost use Rattle.mc_metrics.specs.Scrapes.{sent_of, status_line_of, type_of, whole};
 

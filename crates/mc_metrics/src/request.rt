@@ -4,7 +4,7 @@
 //! the server may be ended, of the peer's address, and of the request's head. What a refused client
 //! still sends is read before its connection is closed: otherwise the system would discard the
 //! answer.
-ghost use Rattle.std.specs.Prelude.{◌≡◌, ◌⊎◌, ◌↔◌, ◌≤◌, ℕ, List, length, IfSome, Some, None, if◌then◌else◌, codes, IsTrue};
+ghost use Rattle.std.specs.Prelude.{◌≡◌, ◌⊎◌, ◌↔◌, ◌≤◌, ℕ, List, length, IfSome, Some, None, codes, IsTrue};
 ghost use Rattle.httparse.specs.Grammar.{RequestHead, ReadsRequest, HasNoRequest};
 ghost use Rattle.httparse.specs.Spans.{RequestOverflows};
 ghost use Rattle.mc_metrics.specs.Scrapes.{Ends, IsAskedToEnd, MayEnd, answer_at};

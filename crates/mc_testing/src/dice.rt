@@ -1,6 +1,6 @@
 //! Random-looking numbers that are the same in each run.
 
-ghost use Rattle.std.specs.Prelude.{◌≡◌, ◌≤◌, ◌<◌};
+ghost use Rattle.std.specs.Prelude.{◌≤◌, ◌<◌};
 
 /// Numbers that look random and are the same in each run.
 #[derive(Clone, Copy, Debug)]

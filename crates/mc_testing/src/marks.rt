@@ -1,7 +1,5 @@
 //! Entries identified by hash and key, and a hopscotch table of them.
 
-ghost use Rattle.std.specs.Prelude.{◌≡◌};
-
 use mc_hop::{Hop, Keyed};
 use std::alloc::{AllocError, Global};
 

@@ -1,6 +1,6 @@
 //! When items expire, and when they are dead.
 
-ghost use Rattle.std.specs.Prelude.{◌≡◌, pos, ◌==◌, if◌then◌else◌};
+ghost use Rattle.std.specs.Prelude.{◌≡◌, ◌==◌, if◌then◌else◌};
 ghost use Rattle.mc_time.specs.Death.{expiry_of, is_dead, is_expired, is_flushed, moment_named};
 
 use crate::moment::Moment;

@@ -1,5 +1,5 @@
 //! Laws of clocks, each the contract of a function that does nothing.
-ghost use Rattle.std.specs.Prelude.{◌≤◌, ◌^◌, ℕ, List};
+ghost use Rattle.std.specs.Prelude.{◌≤◌, List};
 ghost use Rattle.mc_time.specs.declared.steady.Reading.{Reading};
 ghost use Rattle.mc_time.specs.declared.steady.ClockState.{ClockState};
 ghost use Rattle.mc_time.specs.Readings.{NeverFall, lead_of, moment_by, moments_given, state_after};
