@@ -7,7 +7,7 @@ that it rests on, and is not judged again; --anew judges all. --only judges one 
 the same sources has just left in the crates' folders, where the toolchain keeps none. --edits judges the edits of `crates/NAME/must-fail/`
 too; one that isn't refused so is tried as `rt must-fail` tries it. With a crate's name each reason is printed. The
 environment may name JOBS, how many checks run side by side: as many as there are processors, where it doesn't. It may name LIMIT, the seconds
-after which a check is killed: 1200, where it doesn't. If that check was of several bodies each is then judged alone, and what gives no verdict
+after which a check is killed: 2400, where it doesn't. If that check was of several bodies each is then judged alone, and what gives no verdict
 alone either has failed. The last line is `N passed, N failed`; the status is 0 where something passed and nothing failed.
 """
 import argparse
@@ -79,11 +79,12 @@ class Run:
         self.crates = []
 
     def add(self, crate, found, begin):
-        """Adds a check of bodies, which begins with what a folder holds. Checks of long crates come first."""
+        """Adds a check of bodies, which begins with what a folder holds. The longest come first, by what they read and how many follow."""
         with self.turn:
             self.number += 1
             crate.left += 1
-            self.tasks.put((-self.copy.lines(crate.name), self.number, crate, found, begin))
+            cost = self.copy.lines_read(crate.name) * (len(crate.later) + 1)
+            self.tasks.put((-cost, self.number, crate, found, begin))
 
     def work(self):
         while True:

@@ -144,6 +144,10 @@ class Copy:
         crate = self.crates[name]
         return sum(self.rt.rtlib.text_of(it).count("\n") for it in self.rt.rtlib.files_of(crate.folder))
 
+    def lines_read(self, name):
+        """How many lines a check of a crate reads: its own and those of all crates below it."""
+        return sum(self.lines(it.name) for it in [self.crates[name], *self.crates[name].below()])
+
     def bring_libraries(self, names, jobs, left=False):
         """Brings the libraries below these crates: those that `rt ci` kept, or `left` in the crates' folders, or else what `rt lib` builds."""
         wanted = [it for it in self.crates.values() if any(it in self.crates[name].below() for name in names)]

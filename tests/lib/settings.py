@@ -14,7 +14,7 @@ import os
 import tempfile
 
 ROOT = os.path.dirname(os.path.dirname(os.path.dirname(os.path.realpath(__file__))))
-NUMBERS = {"COUNT": 300, "SEED": 1, "INPUTS": 100_000, "CALLS": 25_000, "SEEDS": 20, "FIRST": 1, "ALTERED": 5, "JOBS": os.cpu_count() or 1, "LIMIT": 1200}
+NUMBERS = {"COUNT": 300, "SEED": 1, "INPUTS": 100_000, "CALLS": 25_000, "SEEDS": 20, "FIRST": 1, "ALTERED": 5, "JOBS": os.cpu_count() or 1, "LIMIT": 2400}
 NAMES = [*NUMBERS, "PROGRAM", "KEEP"]
 
 
