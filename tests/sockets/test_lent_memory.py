@@ -87,6 +87,25 @@ class LentMemory(ProgramCase):
                     for it in readers:
                         it.reads_slowly(wanted, 0)
 
+    def test_readers_share_an_item_that_is_touched(self):
+        """An item's expiry is set behind each of its readers: they still have one memory, as the header lies beside the block."""
+        for length in LENGTHS:
+            with self.subTest(length), StillServer(greatest=GREATEST, pages=16, workers=2, buffers=1024) as server, Peer(server.port) as peer:
+                told, readers = Told(peer, 16, GREATEST), []
+                told.asks(setting(b"shared", block(1, length)))
+                told.asks(b"get shared\r\n")
+                wanted, before = told.answer(b"get shared\r\n"), server.memory()
+                with contextlib.ExitStack() as closing:
+                    for number in range(READERS):
+                        readers.append(closing.enter_context(Unread(server.port, b"get shared\r\n")))
+                        self.assertTrue(readers[-1].begins())
+                        told.asks(b"touch shared %d\r\n" % (1000 + number))
+                    cost = server.memory() - before
+                    print(f"    {READERS} readers of {length} bytes, touched behind each, cost {cost >> 10} kB")
+                    self.assertLess(cost, SHARED)
+                    for it in readers:
+                        it.reads_slowly(wanted, 0)
+
     def test_writes_are_refused_as_without_readers(self):
         """Clients that read nothing have parts of a full store: the same writes are refused, and each reads what was there."""
         for seed in range(2):
