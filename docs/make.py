@@ -4,7 +4,8 @@
   python3 docs/make.py            writes out/docs/CALLS.md and out/docs/DEFINITIONS.md, the regions `<!-- made: KIND -->` of README.md
                                   and docs/, and docs/tcp.svg
   python3 docs/make.py --check    writes nothing. Prints each stale region, each link, path and name that isn't there, each option that
-                                  PROTOCOL.md or the manual page lacks, and the counts of style.py. Last line: 'N passed, M failed'
+                                  PROTOCOL.md or the manual page lacks, each wrong body that can't be planted any more, and the counts of
+                                  style.py. Last line: 'N passed, M failed'
 """
 import functools
 import itertools
@@ -16,9 +17,10 @@ import textwrap
 from pathlib import Path
 
 ROOT = Path(__file__).resolve().parent.parent
-sys.path[:0] = [str(ROOT / "bench"), str(ROOT / "docs")]
+sys.path[:0] = [str(ROOT), str(ROOT / "bench"), str(ROOT / "docs")]
 import chart  # noqa: E402
 import style  # noqa: E402
+from tests.lib import bodies  # noqa: E402
 
 # The run that README.md, docs/BENCHMARKS.md and docs/tcp.svg show.
 RUN = "bench/results/2026-11-28-9938be30.json"
@@ -268,10 +270,21 @@ def lacking_options():
         yield f"CHANGELOG.md: {version} is missing"
 
 
+def unplanted():
+    """Wrong bodies that cite a text which the sources don't have any more."""
+    for crate in crates():
+        sources = bodies.Sources(ROOT / f"crates/{crate}")
+        for path in tracked(f"crates/{crate}/wrong/*.edit"):
+            try:
+                sources.cuts(bodies.read(ROOT / path))
+            except bodies.Unplanted as error:
+                yield f"{path}: {error}"
+
+
 def check():
     passed, faults, words = 0, [], known_words()
     stale = [f"{path}: not what the sources say: make docs" for path, new in made_anew() if read(path) != new]
-    for found in (stale, list(lost_tests()), list(lacking_options()), *(list(lost(path, words)) for path in tracked("*.md")), *style.faults(ROOT)):
+    for found in (stale, list(lost_tests()), list(lacking_options()), list(unplanted()), *(list(lost(path, words)) for path in tracked("*.md")), *style.faults(ROOT)):
         faults += found
         passed += not found
     print("\n".join([*faults, f"{passed} passed, {len(faults)} failed"]))
