@@ -1,7 +1,5 @@
 //! A growth that only moves entries if it lags, as on a shelf without any other call.
 
-ghost use Rattle.std.specs.Prelude.{◌≡◌};
-
 use crate::marked::opened;
 use mc_grow::Index;
 use mc_hop::{Keyed, Reads};
