@@ -6,9 +6,11 @@
 The program is the one that lib/settings.py names, unless another is. A program whose name is `memcached` is run as memcached is with
 `-M`, and nothing but its options differs.
 """
+import collections
 import contextlib
 import ctypes
 import os
+import random
 import signal
 import socket
 import subprocess
@@ -24,6 +26,10 @@ HOST = "127.0.0.1"
 # How long a start or a stop may take, in seconds, and how often a port that another took is given up for another.
 SECONDS, TRIES = 10, 5
 PARENT_DEATH_SIGNAL = 1
+# The ports that tests listen at: above those of services, and below those that Linux gives to clients.
+PORTS = range(12_000, 32_768)
+# How many of the ports that it was given last a process keeps to itself, and the sockets by which it does.
+RESERVED, reserved = 100, collections.deque()
 # Where the clock of a server stands, and how many connections it may have open at once, unless a test says otherwise.
 MOMENT, MOST = 1000, 15000
 TICKS = os.sysconf("SC_CLK_TCK")
@@ -40,10 +46,23 @@ class CannotStart(Exception):
 
 
 def free_port(host=HOST):
-    """Gives a port of an address on which nothing listens at the moment."""
-    with socket.socket(socket.AF_INET6 if ":" in host else socket.AF_INET) as it:
-        it.bind((host, 0))
-        return it.getsockname()[1]
+    """Returns a port on which nothing listens. The next 100 calls of this process, and other processes meanwhile, return others.
+
+    A port from 0 could be taken by a client, or be returned twice, before the program listens at it."""
+    for port in random.SystemRandom().sample(PORTS, 1000):
+        name = socket.socket(socket.AF_UNIX)
+        try:
+            name.bind(f"\0mcserver-tests-port-{port}")
+            with socket.socket(socket.AF_INET6 if ":" in host else socket.AF_INET) as it:
+                it.bind((host, port))
+        except OSError:
+            name.close()
+            continue
+        reserved.append(name)
+        if len(reserved) > RESERVED:
+            reserved.popleft().close()
+        return port
+    raise CannotStart(f"1000 ports of {host} were tried, and none is free")
 
 
 def is_memcached(program):
