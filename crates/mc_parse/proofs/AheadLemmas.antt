@@ -1,5 +1,5 @@
 -- What is known of the front of unread bytes.
-use Rattle.std.proofs.Common.{◌≡◌, ℕ, inl, inr, List, ◌++◌, length, take, drop, Option, Some, None, sym, refl, subst, ap}
+use Rattle.std.proofs.Common.{◌≡◌, ℕ, inl, inr, arith, List, [], ◌∷◌, ◌++◌, length, take, drop, Option, Some, None, sym, refl, subst, ap}
 use Rattle.std.proofs.lemmas.Bool.{cases_lt}
 use Rattle.std.proofs.lemmas.List.{take-take, take-append-le, take-append-drop}
 use Rattle.mc_parse.specs.declared.ahead.Ahead.{Ahead}
@@ -10,6 +10,11 @@ use Rattle.mc_parse.specs.Aheads.{Knew, Knows}
 use Rattle.mc_parse.proofs.UnitLemmas.{NoFeed, found_only}
 use Rattle.mc_parse.proofs.SearchLemmas.{no_feed_take, long_found, none_yet_found}
 use Rattle.mc_parse.proofs.NoteLemmas.{noted_more}
+
+-- where no byte is, nothing is known
+pub knows_nothing : (greatest : ℕ) (bytes : List ℕ) → length bytes ≡ 0 → Knows greatest (Searched 0) bytes
+knows_nothing greatest [] none = (tt, omega arith, omega arith)
+knows_nothing greatest (b ∷ bytes) none = absurd (omega (arith, none))
 
 -- it still holds when more come
 pub knew_more : (greatest : ℕ) (ahead : Ahead) (bytes more : List ℕ) → Knows greatest ahead bytes → Knew greatest ahead (bytes ++ more)

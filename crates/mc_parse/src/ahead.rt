@@ -54,6 +54,7 @@ impl Ahead {
     }
 
     /// Returns the memory in bytes into which the first unit is best read, or 0 without a block.
+    #[inline]
     pub fn wanted_bytes(&self) -> usize {
         match self {
             Ahead::Line(note) => note.wanted_bytes(),
@@ -61,7 +62,17 @@ impl Ahead {
         }
     }
 
+    /// Returns whether the first line may announce a block whose chunk can take memory over.
+    #[inline]
+    pub fn may_be_large(&self) -> bool {
+        match self {
+            Ahead::Line(note) => note.may_be_large(),
+            Ahead::Searched(_) => false,
+        }
+    }
+
     /// Returns the large block that the first line announces, if it does.
+    #[inline]
     pub fn large_block(&self) -> Option<Announced> {
         match self {
             Ahead::Line(note) => note.large_block(),
@@ -72,15 +83,11 @@ impl Ahead {
     /// Returns how many of `room` bytes a source may write behind the `there` unread ones.
     ///
     /// A unit with a large block is read to its end and no further.
+    #[inline]
     pub fn room_within(&self, there: usize, room: usize) -> usize {
-        let end = match self.large_block() {
-            Some(block) => block.end(),
-            None => 0,
-        };
-        if there < end {
-            room.min(end - there)
-        } else {
-            room
+        match self {
+            Ahead::Line(note) if note.may_be_large() => note.room_within(there, room),
+            _ => room,
         }
     }
 

@@ -8,6 +8,7 @@
 ghost use Rattle.std.specs.Prelude.{◌≡◌, ◌≤◌, ◌++◌, [], length, take, drop, None, IfSome, OnOk, OnErr, IfOk};
 ghost use Rattle.mc_parse.specs.Feeds.{arrived};
 
+use crate::ahead::Ahead;
 use crate::note::Announced;
 use crate::offer::Offer;
 use mc_bytes::{Queue, Source, Spares};
@@ -50,6 +51,7 @@ impl Arrived {
     }
 
     /// Lends the bytes.
+    #[inline]
     pub fn as_slice(&self) -> &[u8]
         ensures { result.now ≡ self.now }
     {
@@ -60,6 +62,7 @@ impl Arrived {
     }
 
     /// Returns the number of bytes.
+    #[inline]
     pub fn len(&self) -> usize
         ensures { result ≡ length self.now }
     {
@@ -70,6 +73,7 @@ impl Arrived {
     }
 
     /// Lends the offer of the bytes, if they are offered.
+    #[inline]
     pub fn offered(&self) -> Option<&Offer>
         ensures { IfSome result (λ offer. offer.now ≡ self.now) }
     {
@@ -118,7 +122,9 @@ impl Arrived {
         ensures ok { OnOk result (self.new ≡ self.old ++ bytes.now) }
         ensures err { OnErr result (self.new ≡ self.old) }
     {
-        withdraw(&mut self.queue, &mut self.offer)?;
+        if self.offer.is_some() {
+            withdraw(&mut self.queue, &mut self.offer)?;
+        }
         self.queue.push_part(bytes, whole)
     }
 
@@ -136,14 +142,31 @@ impl Arrived {
         ensures err { OnErr result (self.new ≡ self.old) }
         ensures asked { OnErr result (source.new ≡ source.old) }
     {
-        match withdraw(&mut self.queue, &mut self.offer) {
-            Ok(()) => self.queue.push_part_from(source, room, whole),
-            Err(refused) => Err(refused),
+        if self.offer.is_some() {
+            if let Err(refused) = withdraw(&mut self.queue, &mut self.offer) {
+                return Err(refused);
+            }
         }
+        self.queue.push_part_from(source, room, whole)
     }
 
     /// Drops the first `n` bytes. It takes no memory.
+    #[inline]
     pub fn consume(&mut self, n: usize)
+        requires { n ≤ length self.old }
+        ensures { self.new ≡ drop n self.old }
+    {
+        if self.offer.is_some() {
+            return self.consume_offered(n);
+        }
+        if n > 0 {
+            self.queue.consume(n);
+        }
+    }
+
+    /// Drops the first `n` bytes of an offer.
+    #[inline(never)]
+    fn consume_offered(&mut self, n: usize)
         requires { n ≤ length self.old }
         ensures { self.new ≡ drop n self.old }
     {
@@ -166,10 +189,21 @@ impl Arrived {
     }
 
     /// Offers the bytes if they are one unit with a large block, and memory for the count is there.
-    pub fn offer(&mut self, block: Option<Announced>)
+    #[inline]
+    pub fn offer(&mut self, ahead: &Ahead)
         ensures { self.new ≡ self.old }
     {
-        let Some(Announced { from, len, .. }) = block else {
+        if ahead.may_be_large() {
+            self.offer_block(ahead);
+        }
+    }
+
+    /// Offers the bytes as `offer` does, if their line announces a large block.
+    #[inline(never)]
+    fn offer_block(&mut self, ahead: &Ahead)
+        ensures { self.new ≡ self.old }
+    {
+        let Some(Announced { from, len, .. }) = ahead.large_block() else {
             return;
         };
         if self.offer.is_some() || self.queue.len() != from.saturating_add(len).saturating_add(2) {
@@ -189,6 +223,7 @@ impl Arrived {
 }
 
 /// Copies offered bytes back to the queue, and withdraws the offer. An error changes nothing.
+#[inline(never)]
 fn withdraw(queue: &mut Queue<65536>, offer: &mut Option<Offer>) -> Result<(), AllocError>
     requires { IfSome offer.old (λ _. queue.old.bytes ≡ []) }
     ensures ok { OnOk result (queue.new.bytes ≡ arrived offer.old queue.old.bytes) }

@@ -4,6 +4,8 @@
 //! after `taken` turns, and `mark` notes where the next key begins, so the line is parsed once.
 //! `peek` takes no allocator: a key or block that it lends isn't copied.
 
+ghost use Rattle.mc_parse.specs.Aheads.{Knows};
+
 use crate::ahead::Ahead;
 use crate::arrived::Arrived;
 use crate::cursor::{Cursor, cursor_after};
@@ -85,7 +87,7 @@ impl Feed {
         self.unread.push_part(kept, self.ahead.wanted_bytes())?;
         self.passed -= skipped;
         self.ahead = self.ahead.after(self.greatest, self.unread.as_slice());
-        self.unread.offer(self.ahead.large_block());
+        self.unread.offer(&self.ahead);
         Ok(())
     }
 
@@ -113,7 +115,7 @@ impl Feed {
                 self.unread.consume(dropped as usize);
                 self.passed -= dropped;
                 self.ahead = self.ahead.after(self.greatest, self.unread.as_slice());
-                self.unread.offer(self.ahead.large_block());
+                self.unread.offer(&self.ahead);
                 Ok(answer)
             }
             Err(refused) => Err(refused),
@@ -190,7 +192,7 @@ impl Feed {
         self.passed = passed - dropped;
         self.unread.consume(len + dropped as usize);
         self.cursor = None;
-        self.ahead = Ahead::none().after(self.greatest, self.unread.as_slice());
+        self.ahead = front_of(self.greatest, &self.unread);
     }
 
     /// Drops the unread bytes and forgets what is to be skipped. It takes no memory.
@@ -289,4 +291,15 @@ impl Feed {
         let unread = self.unread.as_slice();
         cursor_after(self.cursor, self.ahead.cursor(), unread, taken)
     }
+}
+
+/// Returns what is known of the front of bytes, of which nothing was known before.
+#[inline]
+fn front_of(greatest: u64, unread: &Arrived) -> Ahead
+    ensures { Knows greatest result unread.now }
+{
+    if unread.len() == 0 {
+        return Ahead::none();
+    }
+    Ahead::none().after(greatest, unread.as_slice())
 }

@@ -197,6 +197,9 @@ fn retrieval_in(noted: &Noted) -> Option<(Option<i64>, KeySpan, bool)>
 /// Bytes that a unit reserves beyond itself, so that what arrives with its end has room.
 const BEHIND: usize = 16_384;
 
+/// Fewer bytes have no chunk that takes memory over, under any key.
+const LARGE: u32 = 50_000;
+
 /// The least size of a chunk whose block is read into memory that the chunk may take over.
 const LEAST: usize = 66_232;
 
@@ -215,6 +218,16 @@ impl Announced {
     /// Returns the length in bytes of the unit: the line, the block and its end.
     pub fn end(self) -> usize {
         self.from.saturating_add(self.len).saturating_add(2)
+    }
+
+    /// Returns how many of `room` bytes a source may write behind `there` bytes of the unit.
+    pub fn room_within(self, there: usize, room: usize) -> usize {
+        let end = self.end();
+        if there < end {
+            room.min(end - there)
+        } else {
+            room
+        }
     }
 }
 
@@ -246,8 +259,8 @@ impl Note {
 
     /// Returns the length in bytes of the line with the block that it announces, or 0 without one.
     pub fn announced_bytes(&self) -> usize {
-        match self.said {
-            Ok(noted) => match announced_block(&noted) {
+        match &self.said {
+            Ok(noted) => match announced_block(noted) {
                 Some(len) => self.end.saturating_add(3).saturating_add(len as usize),
                 None => 0,
             },
@@ -260,20 +273,41 @@ impl Note {
     ///
     /// For a large block it is what the block's chunk can take over.
     pub fn wanted_bytes(&self) -> usize {
-        match (self.large_block(), self.announced_bytes()) {
-            (Some(block), _) => block.memory,
-            (None, 0) => 0,
-            (None, whole) => whole.saturating_add(BEHIND),
+        if self.may_be_large() {
+            if let Some(block) = self.large_block() {
+                return block.memory;
+            }
+        }
+        match self.announced_bytes() {
+            0 => 0,
+            whole => whole.saturating_add(BEHIND),
+        }
+    }
+
+    /// Returns whether the line may announce a block whose chunk can take memory over.
+    ///
+    /// A block of fewer than 50000 bytes has no such chunk.
+    #[inline]
+    pub fn may_be_large(&self) -> bool {
+        match &self.said {
+            Ok(noted) => match announced_block(noted) {
+                Some(len) => len >= LARGE,
+                None => false,
+            },
+            Err(_) => false,
         }
     }
 
     /// Returns the block that the line announces, if its chunk can take memory over.
     ///
     /// That is a chunk of 66232 to 1048576 bytes, and the line must be short.
+    #[inline(never)]
     pub fn large_block(&self) -> Option<Announced> {
-        let noted = self.said.ok()?;
-        let len = announced_block(&noted)?;
-        let key = key_length(&noted);
+        let Ok(noted) = &self.said else {
+            return None;
+        };
+        let len = announced_block(noted)?;
+        let key = key_length(noted);
         let size = class_of(
             HEADER.saturating_add(key).saturating_add(u64::from(len)),
         )?.size() as usize;
@@ -286,6 +320,17 @@ impl Note {
             len: len as usize,
             memory: size + BESIDE,
         })
+    }
+
+    /// Returns how many of `room` bytes a source may write behind the `there` unread ones.
+    ///
+    /// A unit with a large block is read to its end and no further.
+    #[inline(never)]
+    pub fn room_within(&self, there: usize, room: usize) -> usize {
+        match self.large_block() {
+            Some(block) => block.room_within(there, room),
+            None => room,
+        }
     }
 
     /// Returns what the unread bytes begin with. It doesn't read the line. A block that is offered

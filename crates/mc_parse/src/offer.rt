@@ -45,6 +45,7 @@ impl Offer {
     }
 
     /// Lends the unit's bytes.
+    #[inline(never)]
     pub fn unit(&self) -> &[u8]
         ensures { result.now ≡ self.now }
     {
@@ -52,6 +53,7 @@ impl Offer {
     }
 
     /// Returns the number of the unit's bytes.
+    #[inline(never)]
     pub fn len(&self) -> usize
         ensures { result ≡ length self.now }
     {
