@@ -4,6 +4,7 @@ use mc_metrics::{Counted, Counts, Figure, TablesReading, number_at};
 use mc_slab::{Account, Class};
 use mc_sockets::{Crowd, PARTINGS};
 use mc_telemetry::{Observer, StoreStats};
+use std::alloc::{AllocError, Global};
 use std::sync::{Arc, Wait};
 use std::test::*;
 
@@ -32,9 +33,8 @@ impl StoreStats for FixedStats {
     }
 }
 
-#[test]
-fn a_scrape_adds_up_workers(rt: HostRuntime) -> Result<(), Fail> {
-    let alloc = rt.alloc();
+/// Returns an observer of two workers. Each refused one step of class 40, and found one too large.
+fn observer_of_two(alloc: Global) -> Result<Observer, AllocError> {
     let mut counts = Vec::new(alloc);
     for hits in [3, 4] {
         let worker = Arc::new(alloc, Counts::new())?;
@@ -44,7 +44,7 @@ fn a_scrape_adds_up_workers(rt: HostRuntime) -> Result<(), Fail> {
         worker.hold(hits * 100, hits);
         counts.push(worker)?;
     }
-    let observer = Observer {
+    Ok(Observer {
         crowd: Crowd::new(alloc, 7, None)?,
         counts,
         pages: 64,
@@ -52,7 +52,12 @@ fn a_scrape_adds_up_workers(rt: HostRuntime) -> Result<(), Fail> {
         since: None,
         started: Some(7),
         most_fds: Some(9),
-    };
+    })
+}
+
+#[test]
+fn a_scrape_adds_up_workers(rt: HostRuntime) -> Result<(), Fail> {
+    let observer = observer_of_two(rt.alloc())?;
     let reading = observer.read(&rt, &mut FixedStats)?;
     let hits = number_at(&reading.counts, Counted::GetHit.place());
     let misses = number_at(&reading.counts, Counted::GetMiss.place());

@@ -78,6 +78,17 @@ struct Met {
     second: (u64, u64),
 }
 
+impl Met {
+    /// Returns what two links saw, and whether the held step gave up.
+    fn of(gave_up: &AtomicU64, first: &Seen, second: &Seen) -> Met {
+        Met {
+            gave_up: gave_up.load(Ordering::SeqCst) == 1,
+            first: first.right_and_wrong(),
+            second: second.right_and_wrong(),
+        }
+    }
+}
+
 /// Serves `get a` and another link in two threads.
 ///
 /// The step on `a` is held on its shelf until the other link has its reply. The other link gives
@@ -131,11 +142,7 @@ fn both_get<R: Threads + Wait + Sync>(
     let (mut me, _) = mine;
     let (other, _) = theirs;
     shared.join(&mut me, other);
-    Met {
-        gave_up: gave_up.load(Ordering::SeqCst) == 1,
-        first: first.right_and_wrong(),
-        second: second.right_and_wrong(),
-    }
+    Met::of(&gave_up, &first, &second)
 }
 
 /// Makes a store, and serves a link that sets `a` and `b`.
