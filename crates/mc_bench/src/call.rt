@@ -120,6 +120,8 @@ fn block_drawn(alloc: Global, dice: &mut Dice, mark: u64) -> Result<String, Allo
 }
 
 impl Call {
+    ghost use Rattle.mc_protocol.specs.Commands.{longest_key};
+
     /// Returns a get of this key.
     pub fn get(alloc: Global, key: usize) -> Call {
         Call {
@@ -134,7 +136,7 @@ impl Call {
 
     /// Returns the key of the call. Each two of the eight keys are on one shelf.
     pub fn key(&self) -> &'static str
-        ensures { length result.now ≤ 250 }
+        ensures { length result.now ≤ longest_key }
     {
         match self.key {
             0 => "a",
@@ -150,7 +152,7 @@ impl Call {
 
     /// Returns the step of the call, or `None` for tidying.
     pub fn step(&self) -> Option<KeyStep<'_>>
-        ensures { IfSome result (λ step. length (key_of step) ≤ 250) }
+        ensures { IfSome result (λ step. length (key_of step) ≤ longest_key) }
     {
         let key = Bytes::of(self.key().as_bytes());
         let exptime = self.exptime;
@@ -180,7 +182,7 @@ impl Call {
 
     /// Returns the step of a storage command.
     fn stores(&self, verb: Verb) -> KeyStep<'_>
-        ensures { length (key_of result) ≤ 250 }
+        ensures { length (key_of result) ≤ longest_key }
     {
         KeyStep::Store {
             verb,
@@ -193,7 +195,7 @@ impl Call {
 
     /// Returns the step of incr or decr.
     fn counts(&self, up: bool) -> KeyStep<'_>
-        ensures { length (key_of result) ≤ 250 }
+        ensures { length (key_of result) ≤ longest_key }
     {
         KeyStep::Count {
             key: Bytes::of(self.key().as_bytes()),

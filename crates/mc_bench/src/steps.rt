@@ -1,6 +1,6 @@
 //! Steps in threads.
 ghost use Rattle.std.specs.Prelude.{◌≡◌, ◌≤◌, length};
-ghost use Rattle.mc_protocol.specs.Commands.{key_of};
+ghost use Rattle.mc_protocol.specs.Commands.{key_of, longest_key};
 
 use crate::asked::{Crew, Mix, Over, Threaded};
 use mc_hop::Fnv;
@@ -217,7 +217,7 @@ fn work_with_own<S: Steps>(store: &mut S, alloc: Global, load: Load) -> u64 {
 /// Keys of different threads are on different shelves: `a` on shelf 12, `b`, `k` and `z` far from
 /// it and from each other, `Z`, `_` and `P` on 13, 14 and 15.
 fn key_of(over: Over, number: u8) -> &'static [u8]
-    ensures { length result.now ≤ 250 }
+    ensures { length result.now ≤ longest_key }
 {
     match (over, number) {
         (Over::Own, 1) => b"b",
@@ -233,7 +233,7 @@ fn key_of(over: Over, number: u8) -> &'static [u8]
 /// Returns a key that isn't there when the steps begin: one for each thread on a shelf of its own,
 /// or one for all.
 fn fresh_key(over: Over, number: u8) -> &'static [u8]
-    ensures { length result.now ≤ 250 }
+    ensures { length result.now ≤ longest_key }
 {
     match (over, number) {
         (Over::Same, _) => b"c",
@@ -259,8 +259,8 @@ fn act_of(mix: Mix, round: u64) -> Act {
 
 /// Returns the step that does so; a set stores this block.
 fn step_of<'a>(act: Act, key: &'a [u8], fresh: &'a [u8], block: &'a [u8]) -> KeyStep<'a>
-    requires { (length key.now ≤ 250) × (length fresh.now ≤ 250) }
-    ensures { length (key_of result) ≤ 250 }
+    requires { (length key.now ≤ longest_key) × (length fresh.now ≤ longest_key) }
+    ensures { length (key_of result) ≤ longest_key }
 {
     match act {
         Act::Get => KeyStep::Read {
@@ -279,8 +279,8 @@ fn step_of<'a>(act: Act, key: &'a [u8], fresh: &'a [u8], block: &'a [u8]) -> Key
 
 /// Returns a set of the key to this block.
 fn set_of<'a>(key: &'a [u8], block: &'a [u8]) -> KeyStep<'a>
-    requires { length key.now ≤ 250 }
-    ensures { length (key_of result) ≤ 250 }
+    requires { length key.now ≤ longest_key }
+    ensures { length (key_of result) ≤ longest_key }
 {
     KeyStep::Store {
         verb: Verb::Set,

@@ -2,6 +2,7 @@
 
 ghost use Rattle.std.specs.Prelude.{◌≡◌, ◌+◌, ◌≤◌, ◌^◌, ◌++◌, length, take, drop};
 ghost use Rattle.mc_item.specs.Layout.{number_at, number_bytes, header_in, updated_in, expires_number, moment_number};
+ghost use Rattle.mc_item.specs.Items.{header_size};
 
 use byteorder::{ByteOrder, LittleEndian};
 use mc_time::{Expiry, Moment};
@@ -77,7 +78,7 @@ fn put_u64(bytes: &mut [u8], offset: usize, number: u64)
 
 /// Returns the hash of the key of the item in a chunk.
 pub(crate) fn hash_in(bytes: &[u8]) -> u64
-    requires { 48 ≤ length bytes.now }
+    requires { header_size ≤ length bytes.now }
     ensures { result ≡ (header_in bytes.now).hash }
 {
     read_u64(bytes, HASH)
@@ -85,7 +86,7 @@ pub(crate) fn hash_in(bytes: &[u8]) -> u64
 
 /// Returns the flags of the item in a chunk.
 pub(crate) fn flags_in(bytes: &[u8]) -> u32
-    requires { 48 ≤ length bytes.now }
+    requires { header_size ≤ length bytes.now }
     ensures { result ≡ (header_in bytes.now).flags }
 {
     read_u32(bytes, FLAGS)
@@ -93,7 +94,7 @@ pub(crate) fn flags_in(bytes: &[u8]) -> u32
 
 /// Returns when the item in a chunk expires.
 pub(crate) fn expiry_in(bytes: &[u8]) -> Expiry
-    requires { 48 ≤ length bytes.now }
+    requires { header_size ≤ length bytes.now }
     ensures { result ≡ (header_in bytes.now).expiry }
 {
     if read_u32(bytes, EXPIRES) == 0 {
@@ -105,7 +106,7 @@ pub(crate) fn expiry_in(bytes: &[u8]) -> Expiry
 
 /// Returns the unique number of the item in a chunk.
 pub(crate) fn unique_in(bytes: &[u8]) -> u64
-    requires { 48 ≤ length bytes.now }
+    requires { header_size ≤ length bytes.now }
     ensures { result ≡ (header_in bytes.now).unique }
 {
     read_u64(bytes, UNIQUE)
@@ -113,7 +114,7 @@ pub(crate) fn unique_in(bytes: &[u8]) -> u64
 
 /// Returns when the item in a chunk was last updated.
 pub(crate) fn updated_in(bytes: &[u8]) -> Moment
-    requires size { 48 ≤ length bytes.now }
+    requires size { header_size ≤ length bytes.now }
     requires latest { updated_in bytes.now ≤ 2 ^ 62 }
     ensures { result ≡ (header_in bytes.now).updated }
 {
@@ -122,7 +123,7 @@ pub(crate) fn updated_in(bytes: &[u8]) -> Moment
 
 /// Returns the length in bytes of the key of the item in a chunk.
 pub(crate) fn key_length_in(bytes: &[u8]) -> u32
-    requires { 48 ≤ length bytes.now }
+    requires { header_size ≤ length bytes.now }
     ensures { result ≡ (header_in bytes.now).key_length }
 {
     read_u32(bytes, KEY_LENGTH)
@@ -130,7 +131,7 @@ pub(crate) fn key_length_in(bytes: &[u8]) -> u32
 
 /// Returns the length in bytes of the block of the item in a chunk.
 pub(crate) fn block_length_in(bytes: &[u8]) -> u32
-    requires { 48 ≤ length bytes.now }
+    requires { header_size ≤ length bytes.now }
     ensures { result ≡ (header_in bytes.now).block_length }
 {
     read_u32(bytes, BLOCK_LENGTH)
@@ -148,9 +149,11 @@ fn numbers_of(expiry: Expiry) -> (u32, u64)
 }
 
 impl Header {
+    ghost use Rattle.mc_item.specs.Items.{header_size};
+
     /// Returns the header of the item in a chunk.
     pub(crate) fn read(bytes: &[u8]) -> Header
-        requires size { 48 ≤ length bytes.now }
+        requires size { header_size ≤ length bytes.now }
         requires latest { updated_in bytes.now ≤ 2 ^ 62 }
         ensures { result ≡ header_in bytes.now }
     {

@@ -142,7 +142,7 @@ fn put_more(chunks: &mut Chunks, offset: usize, source: &[u8])
 /// Writes the header. The bytes behind it are unchanged.
 fn put_header(chunks: &mut Chunks, header: Header)
     requires are { AreChunks chunks.old }
-    requires room { 48 ≤ length chunks.old.head }
+    requires room { header_size ≤ length chunks.old.head }
     ensures value { header_in chunks.new.head ≡ header }
     ensures latest { header.updated ≤ 2 ^ 62 }
     ensures behind { drop 48 chunks.new.head ≡ drop 48 chunks.old.head }

@@ -4,7 +4,8 @@ use Rattle.std.specs.Str.{bytes_eq}
 use Rattle.std.specs.List.{list_all}
 use Rattle.mc_protocol.specs.Words.{is_nonempty}
 use Rattle.mc_protocol.specs.Numbers.{number_up_to}
-use Rattle.mc_protocol.specs.Commands.{Command, View, OnKey, OnAll, steps, view}
+use Rattle.mc_protocol.specs.Commands.{Command, View, OnKey, OnAll, longest_key, steps, view}
+use Rattle.mc_protocol.specs.Plain.{chunk_head}
 use Rattle.mc_protocol.specs.declared.command.CommandOf.{CommandOf}
 use Rattle.mc_protocol.specs.declared.command.CommandOf.TheVariants.{Store, Cas, Get, GetTouch, Touch, Delete, Count, FlushAll, Lone as LoneCommand}
 use Rattle.mc_protocol.specs.declared.lone.Lone.{Lone}
@@ -43,7 +44,7 @@ formed fault (Some x) = Ok x
 
 -- a key has 1 to 250 bytes; as a word of a line it has no space and no line feed
 abbrev pub is_key : List ℕ → Bool
-is_key word = is_nonempty word && nat_le (length word) 250
+is_key word = is_nonempty word && nat_le (length word) longest_key
 
 -- the word, which is malformed if it isn't a key
 abbrev pub key_formed : List ℕ → Result (List ℕ) LineFault
@@ -58,7 +59,7 @@ ending (word ∷ more ∷ rest) = Err Unknown
 -- the length of a block; if the item is too large, the line is skipped with its block and the two
 -- bytes behind it
 abbrev pub fitting : ℕ → List ℕ → ℕ → Result ℕ LineFault
-fitting greatest key len = if nat_le (48 + length key + len) greatest then Ok len else Err (TooLarge (len + 2))
+fitting greatest key len = if nat_le (chunk_head + length key + len) greatest then Ok len else Err (TooLarge (len + 2))
 
 -- <key> <flags> <exptime> <bytes> [noreply]
 abbrev pub store_line : ℕ → Verb → List (List ℕ) → Result Line LineFault
@@ -179,7 +180,7 @@ IsWord word = (0 < length word) × All (λ b. (b ≢ 32) × (b ≢ 10)) word
 
 -- such a run of at most 250 bytes
 abbrev pub IsKey : List ℕ → Type 0
-IsKey key = IsWord key × (length key ≤ 250)
+IsKey key = IsWord key × (length key ≤ longest_key)
 
 -- this holds for the key of a step with this view
 abbrev pub IsKeyedSeen : (List ℕ → Type 0) → View → Type 0

@@ -16,17 +16,12 @@ use crate::exptime::{delay_of, exptime_of};
 use crate::name::{Name, name_of};
 use crate::note::{KeySpan, Noted, Span};
 use mc_protocol::{
-    CommandOf, Keys, LineFault, Lone, Verb, Words, first_key, first_word, number_up_to, spaces_len,
+    CHUNK_HEAD, CommandOf, Keys, LONGEST_KEY, LineFault, Lone, Verb, Words, first_key, first_word,
+    number_up_to, spaces_len,
 };
-
-/// The longest key, in bytes.
-const LONGEST_KEY: usize = 250;
 
 /// The longest block, in bytes.
 const LONGEST_BLOCK: u64 = 2147483645;
-
-/// Bytes of an item's header, which an item is charged for beside its key and its block.
-pub const HEADER: u64 = 48;
 
 /// Returns the command of a line, or the line's first fault. `text` is the line without its end.
 pub fn line_of(greatest: u64, text: &[u8]) -> Result<Noted, LineFault>
@@ -258,7 +253,7 @@ fn check_charge(greatest: u64, key: &[u8], len: u32) -> Result<u32, LineFault>
     ensures { result ≡ fitting greatest key.now len }
 {
     let len_wide = u64::from(len);
-    if HEADER + key.len() as u64 + len_wide <= greatest {
+    if CHUNK_HEAD + key.len() as u64 + len_wide <= greatest {
         Ok(len)
     } else {
         Err(LineFault::TooLarge {

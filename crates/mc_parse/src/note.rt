@@ -11,10 +11,10 @@ ghost use Rattle.mc_parse.specs.Cursors.{IsFirstCursor};
 ghost use Rattle.mc_parse.specs.Notes.{at, keys_at, read, said, FitIn, Fits, IsNoted};
 
 use crate::cursor::Cursor;
-use crate::line::{HEADER, line_of};
+use crate::line::line_of;
 use crate::offer::Offer;
 use crate::peek::{Peek, block_peeked, without_carriage_return};
-use mc_protocol::{Bytes, Command, CommandOf, Keys, LineFault};
+use mc_protocol::{Bytes, CHUNK_HEAD, Command, CommandOf, Keys, LineFault};
 use mc_slab::{BESIDE, class_of};
 
 /// The place of a key in the text of a line.
@@ -309,8 +309,11 @@ impl Note {
         let len = announced_block(noted)?;
         let key = key_length(noted);
         let size = class_of(
-            HEADER.saturating_add(key).saturating_add(u64::from(len)),
-        )?.size() as usize;
+            CHUNK_HEAD
+                .saturating_add(key)
+                .saturating_add(u64::from(len)),
+        )?
+        .size() as usize;
         let from = self.end.saturating_add(1);
         if size < LEAST || from > BESIDE {
             return None;

@@ -31,6 +31,7 @@ mod command;
 mod fault;
 mod keys;
 mod laws;
+mod limits;
 mod lone;
 mod number;
 mod reply;
@@ -48,6 +49,7 @@ pub use laws::{
     a_front_tells_the_number, counts_follow, flushes_empty, one_key_decides, other_keys_stay,
     pages_stay, refused_without_room, the_dead_stay_dead, wanted_pages_are_least,
 };
+pub use limits::{CHUNK_HEAD, LONGEST_KEY};
 pub use lone::Lone;
 pub use number::{count_up_or_down, number_of, number_up_to};
 pub use reply::Reply;

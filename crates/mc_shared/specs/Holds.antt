@@ -1,7 +1,7 @@
 -- What a seat holds: a shelf, or a shelf and the desk.
 use Rattle.std.specs.Prelude.{◌≡◌, ℕ, ◌<◌, ◌≤◌, ◌⊎◌, List, length, true}
 use Rattle.mc_protocol.specs.declared.step.KeyStep.{KeyStep}
-use Rattle.mc_protocol.specs.Commands.{key_of}
+use Rattle.mc_protocol.specs.Commands.{key_of, longest_key}
 use Rattle.mc_shelf.specs.States.{ShelfState, ShelfContent, DeskState}
 use Rattle.mc_shelf.specs.Plans.{writes, next_of}
 use Rattle.mc_shared.specs.Bays.{OfShelf, OfDesk}
@@ -48,7 +48,7 @@ caller_at seat = record { table = seat.table_id; past = seat.me.0.past }
 -- a step, with its key's hash and its shelf in this store
 pub record IsAsked {K : Type 0} (hash_of : K → List ℕ → ℕ) (shared : SharedState K) (ask : Ask)
     : Type 0 where
-  pub short : length (key_of ask.step.now) ≤ 250
+  pub short : length (key_of ask.step.now) ≤ longest_key
   pub hashed : ask.hash ≡ hash_of shared.began.hasher (key_of ask.step.now)
   pub own : shelf_in (start_of hash_of shared.began) (key_of ask.step.now) ≡ ask.at
   pub inside : ask.at < shared.began.settings.shelves

@@ -6,7 +6,7 @@ use Rattle.atomic_table.specs.declared.shared.Seat.{Seat}
 use Rattle.atomic_table.specs.Seated.{TableId}
 use Rattle.mc_protocol.specs.declared.step.KeyStep.{KeyStep}
 use Rattle.mc_protocol.specs.declared.reply.Reply.{Reply}
-use Rattle.mc_protocol.specs.Commands.{key_of}
+use Rattle.mc_protocol.specs.Commands.{key_of, longest_key}
 use Rattle.mc_shelf.specs.Stores.{StoreState}
 use Rattle.mc_shelf.specs.Numbers.{number_of}
 use Rattle.mc_shared.specs.Bays.{Content, place}
@@ -114,7 +114,7 @@ module _ {K P A : Type 0} (board : BoardOf K P A) where
 pub record MayAsk {K : Type 0} (shared : SharedState K) (caller : CallerState) (step : KeyStep)
     : Type 0 where
   pub own : caller.table ≡ shared.table
-  pub short : length (key_of step) ≤ 250
+  pub short : length (key_of step) ≤ longest_key
 
 -- The result of a call: what always holds, what holds if it was answered, and if not, what is
 -- unchanged and why.

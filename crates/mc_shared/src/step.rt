@@ -6,7 +6,7 @@
 ghost use Rattle.std.specs.Prelude.{◌≡◌, ◌≤◌, ℕ, length, is_none, true, false, Err};
 ghost use Rattle.std.specs.Prelude.{IfOk, IfErr, IfSome, OnErr};
 ghost use Rattle.std.specs.FinMap.{get};
-ghost use Rattle.mc_protocol.specs.Commands.{key_of};
+ghost use Rattle.mc_protocol.specs.Commands.{key_of, longest_key};
 ghost use Rattle.mc_protocol.specs.Laws.{IsOnKey};
 ghost use Rattle.mc_protocol.specs.declared.reply.Reply.{Reply as Told};
 ghost use Rattle.mc_shelf.specs.States.{IsHash, CanStandAt};
@@ -124,7 +124,7 @@ fn begin<'k>(
 ) -> Result<(Plan<'k>, Begun), StepFault>
     requires looked { IsLooked looked shelf.old ask.now }
     requires on_key { IsOnKey ask.now.step.now }
-    requires key { length (key_of ask.now.step.now) ≤ 250 }
+    requires key { length (key_of ask.now.step.now) ≤ longest_key }
     requires hash { IsHash shelf.old.content (key_of ask.now.step.now) ask.now.hash }
     requires stands { CanStandAt (key_of ask.now.step.now) shelf.old.content desk.old }
     ensures took { IfOk result (λ begun. StepTaken ask.now.step.now ask.now.moment ask.now.hash
@@ -175,6 +175,8 @@ pub(crate) fn growing_shelf(shelf: &Shelf, at: u32) -> Option<u32> {
 }
 
 impl<K: KeyHash + Drop> Shared<K> {
+    ghost use Rattle.mc_protocol.specs.Commands.{longest_key};
+
     /// Takes a step that the shelf decides alone, and gives the shelf back with the decision.
     fn settle(&self, seat: &mut Seat, shelf: Box<Shelf>, plan: Plan<'_>, ask: &Ask<'_>) -> Reply
         requires holds { HoldsShelf K.hash_of self.now seat.old ask.now.at shelf.value.content }
@@ -310,7 +312,7 @@ impl<K: KeyHash + Drop> Shared<K> {
 
     /// Returns a step with its key's hash and shelf.
     pub(crate) fn ask<'k>(&self, step: &'k KeyStep<'k>, now: Moment) -> Ask<'k>
-        requires { length (key_of step.now) ≤ 250 }
+        requires { length (key_of step.now) ≤ longest_key }
         ensures asked { IsAsked K.hash_of self.now result }
         ensures parts { (result.step.now ≡ step.now) × (result.moment ≡ now) }
     {

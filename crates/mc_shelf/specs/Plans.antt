@@ -17,7 +17,7 @@ use Rattle.mc_slab.specs.Needs.{NeedState, IsNeed, need_for, same_need, size_in}
 use Rattle.mc_slab.specs.Chunks.{ChunksState, need_in}
 use Rattle.mc_slab.specs.Slabs as slabs
 use Rattle.mc_slab.specs.Slabs.{IsSlab, WantsPages, out_of, has_room_with, made_ready, taken}
-use Rattle.mc_protocol.specs.Commands.{key_of}
+use Rattle.mc_protocol.specs.Commands.{key_of, longest_key}
 use Rattle.mc_protocol.specs.Plain.{Plain, Entry, Outcome, Answered, Spent, MayFail, plain, charge, item_need, alive, hit_of, refusal_reply, block_of, written_block, write_reply, row_of}
 use Rattle.mc_protocol.specs.Laws.{IsOnKey, of_class}
 use Rattle.mc_shelf.specs.States.{EntryState, ShelfContent, ShelfState, DeskState, StandsAt, IsHash}
@@ -119,7 +119,7 @@ pub record IsPlan (plan : Plan) (shelf : ShelfContent) (step : KeyStep) (now : �
 -- a step can be looked up: it is on a key, which the shelf has with this hash if it has it
 pub record CanLook (step : KeyStep) (own : ℕ) (shelf : ShelfContent) : Type 0 where
   pub on_key : IsOnKey step
-  pub key : length (key_of step) ≤ 250
+  pub key : length (key_of step) ≤ longest_key
   pub hash : IsHash shelf (key_of step) own
 
 -- the item that is found has the chunks that a need asks for
@@ -242,7 +242,7 @@ reuses cut now key found need body = has_need key found need && (counts body || 
 -- a write that comes next in a step, of a key that is known
 pub record IsWriteOf (write : Writing) (shelf : ShelfContent) (step : KeyStep) : Type 0 where
   pub on_key : IsOnKey step
-  pub short : length (key_of step) ≤ 250
+  pub short : length (key_of step) ≤ longest_key
   pub next : next_of shelf step write.moment ≡ Write write.charge write.draft
   pub known : IsKnown shelf (key_of step) write.hash write.place
 
@@ -365,7 +365,7 @@ pub record IsSought (shelf : ShelfContent) (key : List ℕ) (own : ℕ) (found :
 -- the key's item
 pub record CanWriteBlock (write : Writing) (rest : Unwritten) (step : KeyStep) (shelf : ShelfState) : Type 0
   where
-    pub short : length (key_of step) ≤ 250
+    pub short : length (key_of step) ≤ longest_key
     pub sought : IsSought shelf.content (key_of step) write.hash write.place
     pub ready : ChunksAreReady rest.chunks write.draft.body (key_of step)
         (block_beside shelf.content step write.draft) shelf
@@ -421,7 +421,7 @@ IsOut key shelf desk =
 -- key's item are out
 pub record CanPut (write : Writing) (step : KeyStep) (shelf : ShelfState) (desk : DeskState) : Type 0
   where
-    pub short : length (key_of step) ≤ 250
+    pub short : length (key_of step) ≤ longest_key
     pub known : IsKnown shelf.content (key_of step) write.hash write.place
     pub room : get shelf.content.items (key_of step) ≡ None → 1 ≤ shelf.room
     pub out : IsOut (key_of step) shelf.content desk
@@ -441,7 +441,7 @@ GivesBack key (Some item) old new = GivesChunks (item_need key item) old new
 -- same class: those that the write needs are unused then, a number is left, and there is room for an entry
 pub record CanGiveWay (write : Writing) (need : NeedState) (step : KeyStep) (shelf : ShelfState)
     (desk : DeskState) : Type 0 where
-  pub short : length (key_of step) ≤ 250
+  pub short : length (key_of step) ≤ longest_key
   pub item : Entry
   pub there : get shelf.content.items (key_of step) ≡ Some item
   pub class : (item_need (key_of step) item).class ≡ need.class

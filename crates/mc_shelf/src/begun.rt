@@ -70,6 +70,8 @@ impl Begun {
 }
 
 impl Shelf {
+    ghost use Rattle.mc_protocol.specs.Commands.{longest_key};
+
     /// Finishes a planned step that was begun at this shelf, and returns its reply.
     ///
     /// No other step may come between, and the plan has no reply afterwards. It copies the step's
@@ -123,7 +125,7 @@ impl Shelf {
 
     /// Writes the step's block over the block of the key's item, or behind it, in its chunks.
     fn write_over(&mut self, write: &Write, unique: u64, step: &KeyStep<'_>)
-        requires short { length (key_of step.now) ≤ 250 }
+        requires short { length (key_of step.now) ≤ longest_key }
         requires sought { IsSought self.old.content (key_of step.now)
             write.now.hash write.now.place }
         requires body { MayBeLeft write.now.draft.body }

@@ -39,11 +39,14 @@ impl Model for Entry {
 }
 
 impl Entry {
+    ghost use Rattle.mc_protocol.specs.Commands.{longest_key};
+    ghost use Rattle.mc_item.specs.Items.{header_size};
+
     /// Writes an item of these parts into chunks, and returns its entry.
     ///
     /// It copies the key, at most 250 bytes, and the block.
     pub(crate) fn write(chunks: Chunks, parts: Parts<'_>) -> Entry
-        requires key { length parts.key.now ≤ 250 }
+        requires key { length parts.key.now ≤ longest_key }
         requires need { need_in chunks ≡ need_for (charge_in parts) }
         requires room { charge_in parts ≤ length chunks.bytes }
         requires lent { IfSome parts.lent (λ lent.
@@ -72,9 +75,9 @@ impl Entry {
     ///
     /// It copies the key, at most 250 bytes.
     pub(crate) fn begin(chunks: Chunks, head: Head<'_>, block_len: usize) -> Entry
-        requires key { length head.key.now ≤ 250 }
-        requires need { need_in chunks ≡ need_for (48 + length head.key.now + block_len) }
-        requires room { 48 + length head.key.now + block_len ≤ length chunks.bytes }
+        requires key { length head.key.now ≤ longest_key }
+        requires need { need_in chunks ≡ need_for (header_size + length head.key.now + block_len) }
+        requires room { header_size + length head.key.now + block_len ≤ length chunks.bytes }
         ensures value { result ≡ entry_with head.entry result.item.block }
         ensures length { length result.item.block ≡ block_len }
     {
@@ -121,7 +124,7 @@ impl Entry {
     /// The key is the same, and its hash is unchanged.
     pub(crate) fn rewrite(&mut self, parts: Parts<'_>)
         requires key { parts.key.now ≡ self.old.key }
-        requires short { length parts.key.now ≤ 250 }
+        requires short { length parts.key.now ≤ longest_key }
         requires need { need_for (charge_in parts) ≡ item_need self.old.key self.old.item }
         requires lent { IfSome parts.lent (λ lent.
             (parts.first.now ≡ []) × (lent.now ≡ parts.second.now)) }
@@ -196,7 +199,7 @@ impl Entry {
         ensures value { result ≡ (item_need self.now.key self.now.item).count }
         ensures joined { concat (parts_of self.now.key self.now.item) ≡ self.now.item.block }
         ensures is_need { IsNeed (item_need self.now.key self.now.item) }
-        ensures key { length self.now.key ≤ 250 }
+        ensures key { length self.now.key ≤ longest_key }
     {
         self.item.parts()
     }

@@ -80,6 +80,8 @@ impl Model for Index {
 }
 
 impl Index {
+    ghost use Rattle.mc_protocol.specs.Commands.{longest_key};
+
     /// Makes an empty index. The only error is a refused allocation.
     pub(crate) fn new(alloc: Global) -> Result<Index, AllocError>
         ensures items { IfOk result (λ index. items_of index ≡ empty) }
@@ -213,7 +215,7 @@ impl Index {
         block: &Bytes<'a>,
     )
         requires key { IsKeyAt self.old key.now place }
-        requires short { length key.now ≤ 250 }
+        requires short { length key.now ≤ longest_key }
         requires need { (at : IsKeyAt self.old key.now place) →
             item_need key.now at.entry.item ≡ need_for (charge key.now block.now) }
         ensures { ItemIsChanged self.old self.new key.now
@@ -235,7 +237,7 @@ impl Index {
         block: &'a Lent,
     )
         requires key { IsKeyAt self.old key.now place }
-        requires short { length key.now ≤ 250 }
+        requires short { length key.now ≤ longest_key }
         requires need { (at : IsKeyAt self.old key.now place) →
             item_need key.now at.entry.item ≡ need_for (charge key.now block.now) }
         ensures { ItemIsChanged self.old self.new key.now
@@ -258,7 +260,7 @@ impl Index {
         block: &'a [u8],
     )
         requires key { IsKeyAt self.old key.now place }
-        requires short { length key.now ≤ 250 }
+        requires short { length key.now ≤ longest_key }
         requires need { (at : IsKeyAt self.old key.now place) →
             item_need key.now at.entry.item ≡ need_for (charge key.now block.now) }
         ensures { ItemIsChanged self.old self.new key.now

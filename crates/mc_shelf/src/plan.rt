@@ -8,7 +8,7 @@ ghost use Rattle.std.specs.FinMap.{get};
 ghost use Rattle.mc_time.specs.declared.expiry.Expiry.{Expiry as Expires};
 ghost use Rattle.mc_protocol.specs.declared.step.KeyStep.{KeyStep as Step};
 ghost use Rattle.mc_protocol.specs.declared.row.Row.TheVariants.{Reads};
-ghost use Rattle.mc_protocol.specs.Commands.{key_of};
+ghost use Rattle.mc_protocol.specs.Commands.{key_of, longest_key};
 ghost use Rattle.mc_protocol.specs.Plain as machine;
 ghost use Rattle.mc_protocol.specs.Plain.{hit_of, row_of};
 ghost use Rattle.mc_shelf.specs.declared.plan.Next.TheVariants.{Answer};
@@ -31,12 +31,9 @@ use crate::entry::Entry;
 use crate::index::Place;
 use itoa::Buffer;
 use mc_protocol as command;
-use mc_protocol::{Block, Body, Bytes, Draft, KeyStep, Reply, Row, Standing};
+use mc_protocol::{Block, Body, Bytes, CHUNK_HEAD, Draft, KeyStep, Reply, Row, Standing};
 use mc_time::{Expiry, Moment, is_dead};
 use std::alloc::{AllocError, Global};
-
-/// Bytes that an item's chunks hold beside its key and its block.
-const CHUNK_HEAD: u64 = 48;
 
 /// What a step does.
 #[derive(Drop)]
@@ -122,7 +119,7 @@ pub(crate) fn next_of(
     cut: Option<u64>,
     now: Moment,
 ) -> Result<Next, AllocError>
-    requires { length (key_of step.now) ≤ 250 }
+    requires { length (key_of step.now) ≤ longest_key }
     ensures next { IfOk result (λ next.
         next ≡ next_found greatest cut step.now now (item_in found.entry)) }
     ensures refused { OnErr result ((expiry : Option Expires)
@@ -202,7 +199,7 @@ pub(crate) fn is_gone(found: Option<&Entry>, cut: Option<u64>, now: Moment) -> b
 
 /// Returns the charge in bytes of a draft under a step's key.
 fn charge_of(step: &KeyStep<'_>, item: Option<&Entry>, draft: Draft) -> u64
-    requires { length (key_of step.now) ≤ 250 }
+    requires { length (key_of step.now) ≤ longest_key }
     ensures { result ≡ charge_of step.now (item_in item.entry) draft }
 {
     charge(step.key(), step.block(), block_len(item), draft.body)
@@ -221,7 +218,7 @@ pub(crate) fn block_len(item: Option<&Entry>) -> usize
 
 /// Returns the charge of the block that a body makes from a step's block and an old one.
 fn charge(key: &[u8], block: &[u8], old_len: usize, body: Body) -> u64
-    requires key { length key.now ≤ 250 }
+    requires key { length key.now ≤ longest_key }
     requires old { old_len ≤ 8388560 }
     ensures { (old : List ℕ) → length old ≡ old_len →
         result ≡ machine.charge key.now (made_block body block.now old) }

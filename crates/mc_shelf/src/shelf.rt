@@ -114,6 +114,8 @@ impl Model for Shelf {
 }
 
 impl Shelf {
+    ghost use Rattle.mc_protocol.specs.Commands.{longest_key};
+
     /// Makes an empty shelf with a greatest charge of an item in bytes, 0 to 8388608.
     ///
     /// The only error is a refused allocation.
@@ -282,7 +284,7 @@ impl Shelf {
         requires plan { IsPlan plan self.old.content step.now plan.moment }
         requires room { CanWrite plan.next self.old.content (key_of step.now) plan.moment desk.old →
             HasRoom plan self.old step.now }
-        requires key { length (key_of step.now) ≤ 250 }
+        requires key { length (key_of step.now) ≤ longest_key }
         requires stands { CanStandAt (key_of step.now) self.old.content desk.old }
         ensures took { IfOk result (λ reply. StepTaken step.now plan.entry.moment plan.entry.hash
             self.old.content desk.old reply self.new.content desk.new) }
@@ -362,7 +364,7 @@ impl Shelf {
         requires plan { IsPlan plan.now self.old.content step.now plan.now.moment }
         requires room { CanWrite plan.now.next self.old.content (key_of step.now) plan.now.moment
             desk.old → HasRoom plan.now self.old step.now }
-        requires key { length (key_of step.now) ≤ 250 }
+        requires key { length (key_of step.now) ≤ longest_key }
         requires stands { CanStandAt (key_of step.now) self.old.content desk.old }
         ensures took { IfOk result (λ begun. StepTaken step.now plan.now.moment plan.now.hash
             self.old.content desk.old (told_next plan.now.next begun)

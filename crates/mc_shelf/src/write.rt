@@ -86,6 +86,9 @@ pub(crate) struct Write {
 }
 
 impl Write {
+    ghost use Rattle.mc_protocol.specs.Commands.{longest_key};
+    ghost use Rattle.mc_item.specs.Items.{header_size};
+
     /// Returns whether the block is a number's digits.
     fn counts(&self) -> bool
         ensures { result ≡ plans.counts self.now.draft.body }
@@ -142,7 +145,7 @@ impl Write {
         step: &KeyStep<'_>,
         old: Option<&Entry>,
     ) -> Entry
-        requires key { length (key_of step.now) ≤ 250 }
+        requires key { length (key_of step.now) ≤ longest_key }
         requires need { need_in chunks ≡ need_for (charge (key_of step.now)
             (made_block self.now.draft.body (block_of step.now) (block_in (item_in old)))) }
         requires room { charge (key_of step.now)
@@ -189,7 +192,7 @@ impl Write {
         old: &Entry,
         block: &'a [u8],
     ) -> Entry
-        requires key { length key.now ≤ 250 }
+        requires key { length key.now ≤ longest_key }
         requires need { need_in chunks
             ≡ need_for (charge key.now (old.now.item.block ++ block.now)) }
         requires room { charge key.now (old.now.item.block ++ block.now) ≤ length chunks.bytes }
@@ -215,7 +218,7 @@ impl Write {
         block: &'a [u8],
         old: &Entry,
     ) -> Entry
-        requires key { length key.now ≤ 250 }
+        requires key { length key.now ≤ longest_key }
         requires need { need_in chunks
             ≡ need_for (charge key.now (block.now ++ old.now.item.block)) }
         requires room { charge key.now (block.now ++ old.now.item.block) ≤ length chunks.bytes }
@@ -234,9 +237,9 @@ impl Write {
 
     /// Writes the item with a block of `block_len` unspecified bytes.
     fn head_of(&self, chunks: Chunks, unique: u64, key: &[u8], block_len: usize) -> Entry
-        requires key { length key.now ≤ 250 }
-        requires need { need_in chunks ≡ need_for (48 + length key.now + block_len) }
-        requires room { 48 + length key.now + block_len ≤ length chunks.bytes }
+        requires key { length key.now ≤ longest_key }
+        requires need { need_in chunks ≡ need_for (header_size + length key.now + block_len) }
+        requires room { header_size + length key.now + block_len ≤ length chunks.bytes }
         ensures value { result ≡ record {
           hash = self.now.hash;
           key = key.now;
@@ -269,7 +272,7 @@ impl Write {
         block: &'a Lent,
     )
         requires key { key.now ≡ entry.old.key }
-        requires short { length key.now ≤ 250 }
+        requires short { length key.now ≤ longest_key }
         requires need { need_for (charge key.now block.now)
             ≡ item_need entry.old.key entry.old.item }
         ensures { entry.new ≡ record entry.old {
@@ -300,7 +303,7 @@ impl Write {
         block: &'a [u8],
     )
         requires key { key.now ≡ entry.old.key }
-        requires short { length key.now ≤ 250 }
+        requires short { length key.now ≤ longest_key }
         requires need { need_for (charge key.now block.now)
             ≡ item_need entry.old.key entry.old.item }
         ensures { entry.new ≡ record entry.old {
@@ -328,7 +331,7 @@ impl Write {
         key: &'a [u8],
         block: &Bytes<'a>,
     ) -> Entry
-        requires key { length key.now ≤ 250 }
+        requires key { length key.now ≤ longest_key }
         requires need { need_in chunks ≡ need_for (charge key.now block.now) }
         requires room { charge key.now block.now ≤ length chunks.bytes }
         ensures { result ≡ record {
@@ -412,6 +415,8 @@ pub(crate) fn dead_chunks(found: Option<&Entry>, need: Need, cut: Option<u64>, n
 }
 
 impl Shelf {
+    ghost use Rattle.mc_protocol.specs.Commands.{longest_key};
+
     /// Begins to write the item of a step, in the chunks of the key's item or in others.
     #[tactic(auto, using(crate::proofs::CountLemmas::table_rules))]
     pub(crate) fn write(
@@ -543,7 +548,7 @@ impl Shelf {
     /// there.
     #[tactic(auto, using(crate::proofs::CountLemmas::table_rules))]
     fn rewrite(&mut self, write: &Write, unique: u64, step: &KeyStep<'_>) -> Begun
-        requires key { length (key_of step.now) ≤ 250 }
+        requires key { length (key_of step.now) ≤ longest_key }
         requires known { IsKnown self.old.content (key_of step.now) write.now.hash write.now.place }
         requires own { plans.counts write.now.draft.body ≡ false →
             write.now.draft.body ≡ Body.Given }
@@ -581,7 +586,7 @@ impl Shelf {
         key: &'a [u8],
         block: &Bytes<'a>,
     )
-        requires key { length key.now ≤ 250 }
+        requires key { length key.now ≤ longest_key }
         requires sought { IsSought self.old.content key.now write.now.hash write.now.place }
         requires there { LiesInNeed key.now block.now self.old }
         ensures content { self.new.content ≡ with_item None key.now write.now.hash
@@ -705,7 +710,7 @@ impl Shelf {
         chunks: Chunks,
         step: &KeyStep<'_>,
     ) -> Option<Entry>
-        requires short { length (key_of step.now) ≤ 250 }
+        requires short { length (key_of step.now) ≤ longest_key }
         requires sought { IsSought self.old.content (key_of step.now)
             write.now.hash write.now.place }
         requires chunks { AreChunksFor chunks (key_of step.now)

@@ -2,11 +2,8 @@
 
 use crate::log::Log;
 use mc_guests::{Outcome, Tally};
-use mc_protocol::{KeyStep, Verb};
+use mc_protocol::{CHUNK_HEAD, KeyStep, Verb};
 use std::sync::atomic::{AtomicU64, Ordering};
-
-/// Bytes that an item takes beside its key and its block.
-const HEAD: u64 = 48;
 
 /// What a refused step needed.
 #[derive(Clone, Copy)]
@@ -30,7 +27,7 @@ impl Wanted {
             | KeyStep::Cas { key, block, .. } => {
                 let key = key.as_slice().len() as u64;
                 let block = block.as_slice().len() as u64;
-                Wanted::Size(HEAD.saturating_add(key).saturating_add(block))
+                Wanted::Size(CHUNK_HEAD.saturating_add(key).saturating_add(block))
             }
             _ => Wanted::Growth,
         }

@@ -1,9 +1,9 @@
 //! Rows of steps with their expected answers, over any store.
 
 ghost use Rattle.std.specs.Prelude.{◌≤◌, length};
-ghost use Rattle.mc_protocol.specs.Commands.{key_of};
+ghost use Rattle.mc_protocol.specs.Commands.{key_of, longest_key};
 
-use mc_protocol::{Bytes, KeyStep, Reply, StepFault, Steps, Verb};
+use mc_protocol::{Bytes, KeyStep, LONGEST_KEY, Reply, StepFault, Steps, Verb};
 use mc_time::Moment;
 use std::alloc::{AllocError, Global};
 
@@ -53,8 +53,8 @@ pub fn set<'a>(
 
 /// Returns this step on a key of at most 250 bytes.
 pub fn step_of<'a>(key: &'a [u8], ask: Ask<'a>) -> KeyStep<'a>
-    requires { length key.now ≤ 250 }
-    ensures { length (key_of result) ≤ 250 }
+    requires { length key.now ≤ longest_key }
+    ensures { length (key_of result) ≤ longest_key }
 {
     let key = Bytes::of(key);
     match ask {
@@ -154,7 +154,7 @@ pub fn ask_step<S: Steps>(
     step: &KeyStep<'_>,
     now: Moment,
 ) -> Result<Reply, StepFault>
-    requires { length (key_of step.now) ≤ 250 }
+    requires { length (key_of step.now) ≤ longest_key }
 {
     match store.step(alloc, step, now) {
         Err(StepFault::NoMemory) => store.step(alloc, step, now),
@@ -172,8 +172,8 @@ fn take_again<S: Steps>(
     step: &KeyStep<'_>,
     now: Moment,
 ) -> Result<Option<Reply>, StepFault>
-    requires key { length key.now ≤ 250 }
-    requires step { length (key_of step.now) ≤ 250 }
+    requires key { length key.now ≤ longest_key }
+    requires step { length (key_of step.now) ≤ longest_key }
 {
     let read = step_of(key, Ask::Get);
     let before = ask_step(store, alloc, &read, now)?;
@@ -197,7 +197,7 @@ pub fn first_unlike<S: Steps>(
     rows: &[Row<'_>],
 ) -> Result<Option<(u64, &'static str)>, StepFault> {
     for (seconds, key, ask, want) in rows {
-        if key.len() > 250 {
+        if key.len() > LONGEST_KEY {
             return Ok(Some((*seconds, "too long a key")));
         }
         let now = Moment::from_seconds_at_most(*seconds);

@@ -7,14 +7,11 @@ ghost use Rattle.mc_slab.specs.Needs.{IsNeed, need_of, need_for};
 ghost use Rattle.mc_protocol.specs.Plain.{charge, chunk_head, chunks_in, item_need};
 ghost use Rattle.mc_command.specs.Steps.{made};
 
-use mc_protocol::{Block, Body, Draft, Reply, Standing, number_of};
+use mc_protocol::{Block, Body, CHUNK_HEAD, Draft, Reply, Standing, number_of};
 use mc_slab::{Class, Need};
 use mc_time::{Expiry, Moment};
 use std::alloc::{AllocError, Global};
 use std::marker::Model;
-
-/// Bytes that an item's chunks hold beside its key and its block.
-const CHUNK_HEAD: u64 = 48;
 
 /// Bytes of a page.
 const PAGE: u64 = 1 << 20;

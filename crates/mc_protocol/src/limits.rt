@@ -1,0 +1,7 @@
+//! Numbers of the protocol.
+
+/// The longest key in bytes.
+pub const LONGEST_KEY: usize = 250;
+
+/// Bytes that an item's chunks hold beside its key and its block.
+pub const CHUNK_HEAD: u64 = 48;
