@@ -18,6 +18,14 @@ use mc_slab::Need;
 use mc_time::Moment;
 use std::alloc::{AllocError, Global};
 
+/// What comes of a write if it can be made.
+#[derive(Drop)]
+pub(crate) struct Effect {
+    /// Whether the block goes into the chunks of the present item.
+    pub(crate) stays: bool,
+    pub(crate) reply: Reply,
+}
+
 /// The outcome of a write that was checked.
 #[derive(Drop)]
 pub(crate) enum Next {
@@ -47,7 +55,8 @@ impl PlainStore {
         let item = self.standing_item(key, now);
         let write = lend_write(draft, block, block_in(item), digits);
         let stays = stays(draft.body, key, item, &write);
-        let next = self.prepare(alloc, key, &write, stays, draft.body.reply(), now)?;
+        let reply = draft.body.reply();
+        let next = self.prepare(alloc, key, &write, Effect { stays, reply }, now)?;
         self.finish(alloc, key, next, now)
     }
 
@@ -73,21 +82,21 @@ impl PlainStore {
     /// Checks a write, and copies its block if it can be made.
     ///
     /// It can be made if its charge isn't too large, a unique number is left, and there are chunks.
-    /// A write that `stays` uses the chunks of the present item.
+    /// A write whose effect `stays` uses the chunks of the present item.
     pub(super) fn prepare(
         &self,
         alloc: Global,
         key: &[u8],
         write: &LentWrite<'_>,
-        stays: bool,
-        reply: Reply,
+        effect: Effect,
         now: Moment,
     ) -> Result<Next, StepFault>
-        requires reply { CopiesBlock reply }
-        requires stays { stays ≡ true → StaysIn self.now key.now write.now now }
-        ensures { Prepares (writing stays reply write.now key.now self.now now)
+        requires reply { CopiesBlock effect.reply }
+        requires stays { effect.stays ≡ true → StaysIn self.now key.now write.now now }
+        ensures { Prepares (writing effect.stays effect.reply write.now key.now self.now now)
             result key.now self.now now }
     {
+        let Effect { stays, reply } = effect;
         let Some(need) = self.need_for(key, write) else {
             return Ok(Next::Answer(Reply::TooLarge));
         };

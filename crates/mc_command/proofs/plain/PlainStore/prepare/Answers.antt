@@ -10,9 +10,9 @@ pub returns-then-not-has_room : goal.returns-then-not-has_room
 returns-then-not-has_room c = record {
   ready = tt;
   same =
-      sym (write-full c.args.self.now c.args.key.now c.args.now c.args.write.now c.args.reply c.in-Some.need (sym c.in-Some.is ∙ c.need_for.ensures.value)
+      sym (write-full c.args.self.now c.args.key.now c.args.now c.args.write.now c.args.effect.reply c.in-Some.need (sym c.in-Some.is ∙ c.need_for.ensures.value)
       (sym c.is_spent.ensures ∙ c.if-is_spent.false)
-      c.args.stays c.if-stays.false (sym c.has_room.ensures ∙ c.if-not-has_room.true));
+      c.args.effect.stays c.if-stays.false (sym c.has_room.ensures ∙ c.if-not-has_room.true));
   spent = λ e. cc;
   refused = λ e. cc;
 }
@@ -20,9 +20,9 @@ returns-then-not-has_room c = record {
 pub returns-in_err-make_block-2 : goal.returns-in_err-make_block-2
 returns-in_err-make_block-2 c =
     let fault : c.from_residual-in_err-make_block-2.result ≡ Err NoMemory = search rules in
-    Prepares-refused _ c.args.reply (placed c.args.write.now c.args.key.now c.args.self.now c.args.now) _ c.args.key.now c.args.self.now c.args.now
-    (write-placed c.args.self.now c.args.key.now c.args.now c.args.write.now c.args.reply c.in-Some.need (sym c.in-Some.is ∙ c.need_for.ensures.value) (sym c.is_spent.ensures ∙ c.if-is_spent.false)
-    c.args.stays c.if-stays.false (sym c.has_room.ensures ∙ c.if-not-has_room.false))
+    Prepares-refused _ c.args.effect.reply (placed c.args.write.now c.args.key.now c.args.self.now c.args.now) _ c.args.key.now c.args.self.now c.args.now
+    (write-placed c.args.self.now c.args.key.now c.args.now c.args.write.now c.args.effect.reply c.in-Some.need (sym c.in-Some.is ∙ c.need_for.ensures.value)
+    (sym c.is_spent.ensures ∙ c.if-is_spent.false) c.args.effect.stays c.if-stays.false (sym c.has_room.ensures ∙ c.if-not-has_room.false))
     c.requires.reply fault
 
 pub returns : goal.returns
@@ -35,10 +35,10 @@ returns c = record {
     number = search rules;
   };
   same =
-      ap (λ (w : Written). Answered c.args.reply (placed w c.args.key.now c.args.self.now c.args.now)) c.in_ok-make_block-2.ensures
-      ∙ sym (write-placed c.args.self.now c.args.key.now c.args.now c.args.write.now c.args.reply c.in-Some.need (sym c.in-Some.is ∙ c.need_for.ensures.value)
+      ap (λ (w : Written). Answered c.args.effect.reply (placed w c.args.key.now c.args.self.now c.args.now)) c.in_ok-make_block-2.ensures
+      ∙ sym (write-placed c.args.self.now c.args.key.now c.args.now c.args.write.now c.args.effect.reply c.in-Some.need (sym c.in-Some.is ∙ c.need_for.ensures.value)
       (sym c.is_spent.ensures ∙ c.if-is_spent.false)
-      c.args.stays c.if-stays.false (sym c.has_room.ensures ∙ c.if-not-has_room.false));
+      c.args.effect.stays c.if-stays.false (sym c.has_room.ensures ∙ c.if-not-has_room.false));
   spent = λ e. cc;
   refused = λ e. cc;
 }

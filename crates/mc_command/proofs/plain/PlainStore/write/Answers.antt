@@ -18,7 +18,7 @@ returns-in_err-next c =
     Ends-refused _ _ c.prepare.result c.in_err-next.field-0.0 c.from_residual.result c.args.key.now c.args.self.now c.args.now
     (draft-is c.args.draft c.args.key.now c.args.block.now c.block_in.result.now c.as_bytes-digits.result.now c.args.self.now c.args.now c.standing_item-item.result
     c.lend_write-write.result c.stays-stays.result
-    c.standing_item-item.ensures c.block_in.ensures digits c.lend_write-write.ensures c.stays-stays.ensures c.reply.result c.reply.ensures)
+    c.standing_item-item.ensures c.block_in.ensures digits c.lend_write-write.ensures c.stays-stays.ensures c.reply-reply.result c.reply-reply.ensures)
     c.prepare.ensures c.in_err-next.was fault
 
 pub returns : goal.returns
@@ -27,5 +27,5 @@ returns c =
     Ends-finished _ _ c.in_ok-next.next c.finish.result c.args.key.now c.args.self.now c.finish.new.self c.args.now
     (draft-is c.args.draft c.args.key.now c.args.block.now c.block_in.result.now c.as_bytes-digits.result.now c.args.self.now c.args.now c.standing_item-item.result
     c.lend_write-write.result c.stays-stays.result
-    c.standing_item-item.ensures c.block_in.ensures digits c.lend_write-write.ensures c.stays-stays.ensures c.reply.result c.reply.ensures)
+    c.standing_item-item.ensures c.block_in.ensures digits c.lend_write-write.ensures c.stays-stays.ensures c.reply-reply.result c.reply-reply.ensures)
     c.in_ok-next.ensures c.finish.ensures
