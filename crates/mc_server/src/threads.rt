@@ -10,7 +10,7 @@ use crate::client::StoreClient;
 use crate::clock::SharedClock;
 use crate::plan::{Common, Entrance, OwnTask, ServerPlan, ThreadPlan, WorkerPlan};
 use mc_host::{AskedClock, Wanting};
-use mc_sockets::{ClosingLinks, Crowd, Refusals, SocketLinks, accept_all, accept_beside};
+use mc_sockets::{ClosingLinks, Crowd, Poller, Refusals, SocketLinks, accept_all, accept_beside};
 use mc_telemetry::{MetricsServer, Notice, Outlet, WorkerTally, write_lines};
 use mc_time::Clock;
 use mc_workers::{NoGate, Worker};
@@ -223,7 +223,7 @@ fn run_worker<R: AllocGlobal + Wait + time::Clock, S: Clock>(
     let alloc = rt.alloc();
     let arrivals = &common.arrivals;
     arrivals.end_rest(&share);
-    let mut links = SocketLinks::new(rt, alloc, arrivals, share, poll, events, moved);
+    let mut links = SocketLinks::new(rt, alloc, arrivals, share, Poller { poll, events }, moved);
     links.close_idle(idle_timeout);
     let mut links = ClosingLinks::new(links, arrivals);
     let tally = WorkerTally {

@@ -6,7 +6,7 @@ use mc_host::bind_listener;
 use mc_metrics::Counts;
 use mc_shared::Shared;
 use mc_sockets::{
-    Arrivals, ClosingLinks, Connection, Crowd, EVENTS, Inbox, Share, SocketLinks, WAKER,
+    Arrivals, ClosingLinks, Connection, Crowd, EVENTS, Inbox, Poller, Share, SocketLinks, WAKER,
 };
 use mc_time::{Fixed, Moment};
 use mc_workers::{NoGate, work};
@@ -41,8 +41,9 @@ where
     arrivals.end();
     let (shared, caller) = Shared::new(alloc, one_page(), Fnv)?;
     let events = Events::with_capacity(alloc, EVENTS)?;
+    let poller = Poller { poll, events };
     let counts = Arc::new(alloc, Counts::new())?;
-    let links = SocketLinks::new(rt, alloc, &arrivals, Share::new(0), poll, events, counts);
+    let links = SocketLinks::new(rt, alloc, &arrivals, Share::new(0), poller, counts);
     let mut links = ClosingLinks::new(links, &arrivals);
     let clock = Fixed(Moment::from_seconds_at_most(1000));
     let _ = work(rt, alloc, &shared, caller, &mut links, &NoGate, &clock);

@@ -56,7 +56,7 @@ pub use idle::Watch;
 pub use laws::no_wake_up_is_lost;
 pub use lines::{Line, Lines, Waiting};
 pub use link::SocketLink;
-pub use links::{EVENTS, SocketLinks, WAKER};
+pub use links::{EVENTS, Poller, SocketLinks, WAKER};
 pub use log::Log;
 pub use readiness::{Readiness, ReadinessCell, Report, SharedReadiness};
 pub use shortage::{Refusals, Wanted};

@@ -92,6 +92,14 @@ impl Rests for Option<Common> {
     }
 }
 
+/// A poll, and the events that it reports.
+#[derive(Drop)]
+pub struct Poller {
+    pub poll: Poll,
+    /// What the last poll reported. Its capacity is the most that one poll reports.
+    pub events: Events,
+}
+
 /// The links of one worker, over the connections that it takes from the arrivals.
 #[derive(Drop)]
 pub struct SocketLinks<'a, R: Wait + Clock> {
@@ -99,8 +107,7 @@ pub struct SocketLinks<'a, R: Wait + Clock> {
     alloc: Global,
     arrivals: &'a Arrivals,
     share: Share,
-    poll: Poll,
-    events: Events,
+    poller: Poller,
     /// The records of the links, and those to be named.
     seats: Seats<SharedReadiness>,
     /// What the links share; `None` before the first link.
@@ -132,8 +139,7 @@ impl<'a, R: Wait + Clock> SocketLinks<'a, R> {
         alloc: Global,
         arrivals: &'a Arrivals,
         share: Share,
-        poll: Poll,
-        events: Events,
+        poller: Poller,
         counts: Arc<Counts>,
     ) -> SocketLinks<'a, R> {
         SocketLinks {
@@ -141,8 +147,7 @@ impl<'a, R: Wait + Clock> SocketLinks<'a, R> {
             alloc,
             arrivals,
             share,
-            poll,
-            events,
+            poller,
             seats: Seats::new(alloc),
             common: None,
             gave: false,
@@ -185,7 +190,7 @@ impl<'a, R: Wait + Clock> SocketLinks<'a, R> {
         let before = mem::replace(&mut self.polled, Some(now));
         // if there are fewer than one poll may return, there were no others
         if let Some(before) = before
-            && heard < self.events.capacity()
+            && heard < self.poller.events.capacity()
         {
             self.end_idle(before, now);
             self.ask_unheard(before, now);
@@ -196,13 +201,14 @@ impl<'a, R: Wait + Clock> SocketLinks<'a, R> {
     ///
     /// Returns their number, or `None` if the poll fails: then the books are unchanged.
     fn hear_events(&mut self, timeout: Duration) -> Option<usize>
-        ensures heard { AreHeard (Hears (λ _. None) (λ _ _ _. ⊤)) (items self.new.events)
+        ensures heard { AreHeard (Hears (λ _. None) (λ _ _ _. ⊤)) (items self.new.poller.events)
             self.old.seats self.new.seats self.old.common self.new.common }
-        ensures count { IfSome result (λ heard. heard ≡ length (items self.new.events)) }
-        ensures fails { IfNone result (items self.new.events ≡ []) }
+        ensures count { IfSome result (λ heard. heard ≡ length (items self.new.poller.events)) }
+        ensures fails { IfNone result (items self.new.poller.events ≡ []) }
     {
-        match self.poll.poll(&mut self.events, Some(timeout)) {
-            Ok(()) => Some(self.seats.hear_all(&self.events, &mut self.common)),
+        let Poller { poll, events } = &mut self.poller;
+        match poll.poll(events, Some(timeout)) {
+            Ok(()) => Some(self.seats.hear_all(&self.poller.events, &mut self.common)),
             Err(_) => None,
         }
     }
@@ -271,7 +277,7 @@ impl<'a, R: Wait + Clock> SocketLinks<'a, R> {
         let all = Interest::READABLE | Interest::WRITABLE | Interest::PRIORITY;
         let token = Token(token_of(at));
         let stream = &mut connection.stream;
-        let registered = self.poll.registry().register(stream, token, all);
+        let registered = self.poller.poll.registry().register(stream, token, all);
         if registered.is_ok() {
             connection.entry.note(Parting::SessionOver);
         }
