@@ -15,6 +15,13 @@ use mc_testing::{Row, ask_step, is_wanted, step_of};
 use mc_time::Moment;
 use std::alloc::{AllocError, Global};
 
+/// A step on one key, and the key's hash.
+#[derive(Drop)]
+struct HashedStep<'a> {
+    step: &'a KeyStep<'a>,
+    hash: u64,
+}
+
 /// Returns whether something of a step is left.
 fn is_left(begun: &Begun) -> bool {
     match begun {
@@ -30,18 +37,18 @@ fn step_in_parts(
     alloc: Global,
     shelf: &mut Shelf,
     desk: &mut Desk,
-    step: &KeyStep<'_>,
-    hash: u64,
+    hashed: &HashedStep<'_>,
     now: Moment,
     left: &mut bool,
 ) -> Result<Reply, StepFault>
-    requires look { CanLook step.now hash shelf.old.content }
-    requires stands { CanStandAt (key_of step.now) shelf.old.content desk.old }
-    ensures took { IfOk result (λ reply. StepTaken step.now now hash shelf.old.content desk.old
-        reply shelf.new.content desk.new) }
+    requires look { CanLook hashed.now.step.now hashed.now.hash shelf.old.content }
+    requires stands { CanStandAt (key_of hashed.now.step.now) shelf.old.content desk.old }
+    ensures took { IfOk result (λ reply. StepTaken hashed.now.step.now now hashed.now.hash
+        shelf.old.content desk.old reply shelf.new.content desk.new) }
     ensures err { OnErr result
         ((shelf.new.content ≡ shelf.old.content) × (desk.new ≡ desk.old)) }
 {
+    let HashedStep { step, hash } = *hashed;
     let mut plan = shelf.look(alloc, step, hash, now)?;
     let exchange = shelf.exchange(alloc, &plan)?;
     let brought = Brought {
@@ -67,9 +74,10 @@ fn begin_and_finish<K: KeyHash + Drop>(
     let mut parts = store.into_parts();
     let hash = parts.hasher.hash(step.key());
     let at = hash % u64::from(parts.settings.shelves);
+    let hashed = HashedStep { step, hash };
     let StoreParts { shelves, desk, .. } = &mut parts;
     let shelf = &mut shelves[at as usize];
-    let answer = step_in_parts(alloc, shelf, desk, step, hash, now, left);
+    let answer = step_in_parts(alloc, shelf, desk, &hashed, now, left);
     (Store::from_parts(parts), answer)
 }
 
