@@ -8,6 +8,9 @@ use Rattle.mc_shelf.proofs.KeyLemmas.{order, get_gone}
 use Rattle.mc_shelf.proofs.LabelLemmas.{own, same, same_itself}
 use Rattle.mc_shelf.proofs.KeyMapLemmas.{hash_absent, hash_there, hashes-insert, hashes-remove, hashes-replace, found_hash, item_there, items-insert, items-remove, keyed-insert}
 use Rattle.mc_shelf.proofs.KeyMapLemmas.{keyed-remove, labelled-content, not_found}
+use Rattle.mc_shelf.specs.Deaths.{DiesNoSooner, DieNoSooner}
+use Rattle.mc_shelf.specs.declared.soonest.Soonest.{Soonest}
+use Rattle.mc_shelf.proofs.DeathLemmas.{sooner_changed}
 
 -- ---- buckets
 
@@ -193,3 +196,15 @@ updated {old} {shown} {new} {key} view keyed at is {one} becomes same_hash same_
       changed_keyed old new keyed at.entry is.given held hashes keys is.content,
       subst (λ (i : Entry). ItemIsChanged shown new key i) (ap (λ (e : EntryState). e.item) becomes) (subst (λ (s : IndexState EntryState). ItemIsChanged s new key is.given.item) view change),
     )
+
+-- the item of a key becomes another, which the soonest expiry and write count
+pub rewritten : {old shown new : IndexState EntryState} {key : List ℕ} {place : Place} {R : Type 0} {post : EntryState → EntryState × R → Type 0} {answer : R} (a b : Soonest) (item : Entry)
+    → old ≡ shown → EntriesAreKeyed (entries_of old) × DieNoSooner a (items_of old) → (at : IsKeyAt shown key place)
+    → ((e : EntryState) → entry_at old place ≡ Some e → IsUpdated hash_in key_in post e place old new answer)
+    → ((given : EntryState) → post at.entry (given, answer) → given ≡ record at.entry { item = item })
+    → ((other : Entry) → DiesNoSooner a other → DiesNoSooner b other) → DiesNoSooner b item
+    → (EntriesAreKeyed (entries_of new) × DieNoSooner b (items_of new)) × ItemIsChanged shown new key item
+rewritten {place = place} a b item view held at updates becomes others one =
+    let is = updates at.entry (subst (λ (s : IndexState EntryState). entry_at s place ≡ Some at.entry) (sym view) at.there) in
+    let up = updated view held.0 at is (becomes is.given is.called) refl refl in
+    ((up.0, sooner_changed a b up.1 (subst (λ (s : IndexState EntryState). DieNoSooner a (items_of s)) view held.1) others one), up.1)
