@@ -18,7 +18,7 @@ use Rattle.mc_protocol.specs.declared.row.Draft.{Draft}
 use Rattle.mc_protocol.specs.declared.row.Body.{Body}
 use Rattle.mc_protocol.specs.declared.row.Body.TheVariants.{Given, Appended, Prepended, Counted}
 use Rattle.mc_command.specs.declared.plain.item.Written.{Written}
-use Rattle.mc_command.specs.declared.plain.write.Next.{Next}
+use Rattle.mc_command.specs.declared.plain.write.CheckedWrite.{CheckedWrite}
 use Rattle.mc_protocol.specs.Plain.{Plain, Entry, Outcome, Answered, CopiesBlock, charge, item_need, has_room, keeps_chunk, standing, without_dead, write_reply, written_block}
 use Rattle.mc_protocol.specs.Rows.{standing_in}
 use Rattle.mc_command.specs.Steps.{Ends, Prepares, block_in, done, drafting, found, made, made_block, needs_this, number_in, placed, same_needs, rewritten, writing}
@@ -132,7 +132,7 @@ found-get old key now = by (standing old key now) (standing-there old key now)
     by (Some item) there = there item refl
 
 -- a write that isn't made ready, and one that is
-pub Ends-refused : (outcome write : Outcome) (r : Result Next StepFault) (fault : StepFault) (result : Result Reply StepFault) (key : List ℕ) (old : Plain) (now : ℕ)
+pub Ends-refused : (outcome write : Outcome) (r : Result CheckedWrite StepFault) (fault : StepFault) (result : Result Reply StepFault) (key : List ℕ) (old : Plain) (now : ℕ)
     → outcome ≡ write → Prepares write r key old now → r ≡ Err fault → result ≡ Err fault → Ends outcome result old old
 Ends-refused outcome write r fault result key old now same prepares is ends =
     rw (same, ends) (record {
@@ -142,13 +142,13 @@ Ends-refused outcome write r fault result key old now same prepares is ends =
       err = refl;
     })
 
-pub Ends-finished : (outcome write : Outcome) (next : Next) (result : Result Reply StepFault) (key : List ℕ) (old new : Plain) (now : ℕ)
+pub Ends-finished : (outcome write : Outcome) (next : CheckedWrite) (result : Result Reply StepFault) (key : List ℕ) (old new : Plain) (now : ℕ)
     → outcome ≡ write → Prepares write (Ok next) key old now → Ends (done next key old now) result old new → Ends outcome result old new
 Ends-finished outcome write next result key old new now same prepares ends =
     subst (λ (o : Outcome). Ends o result old new) (prepares.same ∙ sym same) ends
 
 -- a write that memory is wanted for
-pub Prepares-refused : (outcome : Outcome) (reply : Reply) (new : Plain) (result : Result Next StepFault) (key : List ℕ) (old : Plain) (now : ℕ)
+pub Prepares-refused : (outcome : Outcome) (reply : Reply) (new : Plain) (result : Result CheckedWrite StepFault) (key : List ℕ) (old : Plain) (now : ℕ)
     → outcome ≡ Answered reply new → CopiesBlock reply → result ≡ Err NoMemory → Prepares outcome result key old now
 Prepares-refused outcome reply new result key old now is copies ends =
     rw (ends, is) (record { ready = tt; same = tt; spent = λ e. cc; refused = λ e. copies })

@@ -12,8 +12,8 @@ use Rattle.mc_protocol.specs.declared.row.Draft.{Draft}
 use Rattle.mc_protocol.specs.declared.row.Body.{Body}
 use Rattle.mc_protocol.specs.declared.row.Body.TheVariants.{Given, Appended, Prepended, Counted}
 use Rattle.mc_command.specs.declared.plain.item.Written.{Written}
-use Rattle.mc_command.specs.declared.plain.write.Next.{Next}
-use Rattle.mc_command.specs.declared.plain.write.Next.TheVariants.{Answer, Rewrite, Place}
+use Rattle.mc_command.specs.declared.plain.write.CheckedWrite.{CheckedWrite}
+use Rattle.mc_command.specs.declared.plain.write.CheckedWrite.TheVariants.{Answer, Rewrite, Place}
 use Rattle.mc_protocol.specs.Plain.{Plain, Entry, Outcome, Answered, Spent, MayFail, CopiesBlock, block_need, item_need, has_room, pages_of, with_chunk, standing, without_dead, written, wrote, changed, hit_of, perhaps_expiring, keeps_chunk, write_reply, written_block}
 
 -- a step ends as the plain machine says, and if it isn't taken nothing changes
@@ -108,7 +108,7 @@ drafting draft key block old now =
     (written_block draft.body block item) (found key old now) now
 
 -- what comes of a write that is done
-abbrev pub done : Next → List ℕ → Plain → ℕ → Outcome
+abbrev pub done : CheckedWrite → List ℕ → Plain → ℕ → Outcome
 done (Answer reply) key old now = Answered reply (found key old now)
 done (Rewrite reply w) key old now = Answered reply (rewritten w key old now)
 done (Place reply need w) key old now = Answered reply (placed w key old now)
@@ -130,13 +130,13 @@ pub record CanPlace (reply : Reply) (need : NeedState) (w : Written) (key : List
   pub number : old.next_unique ≢ 2 ^ 64 - 1
 
 -- a write that can be done
-abbrev pub IsReady : Next → List ℕ → Plain → ℕ → Type 0
+abbrev pub IsReady : CheckedWrite → List ℕ → Plain → ℕ → Type 0
 IsReady (Answer reply) key old now = Unit {0}
 IsReady (Rewrite reply w) key old now = CanRewrite reply w key old now
 IsReady (Place reply need w) key old now = CanPlace reply need w key old now
 
 -- a write that is made ready for what the plain machine says, or is refused
-pub record Prepares (outcome : Outcome) (result : Result Next StepFault) (key : List ℕ)
+pub record Prepares (outcome : Outcome) (result : Result CheckedWrite StepFault) (key : List ℕ)
     (old : Plain) (now : ℕ) : Type 0 where
   pub ready : IfOk result (λ next. IsReady next key old now)
   pub same : IfOk result (λ next. done next key old now ≡ outcome)

@@ -15,7 +15,7 @@ ghost use Rattle.mc_protocol.specs.Commands.{key_of, longest_key};
 ghost use Rattle.mc_command.specs.Steps.{Ends, found, applied, reading};
 ghost use Rattle.mc_protocol.specs.Plain.{opening, starting, plain, stepped, standing, expiring, hit_of, living, Answered, Spent, CopiesBlock, MayFail};
 
-use crate::plain::item::Item;
+use crate::plain::item::PlainItem;
 pub use crate::plain::purge::KeyTest;
 use crate::plain::room::CLASSES;
 use mc_protocol::{KeyStep, Reply, Row, StepFault, Steps, row_of};
@@ -29,7 +29,7 @@ use std::marker::Model;
 pub struct PlainStore {
     greatest: u64,
     limit: u32,
-    items: BTreeMap<Vec<u8>, Item>,
+    items: BTreeMap<Vec<u8>, PlainItem>,
     cut: Option<u64>,
     next_unique: u64,
     /// The pages of each class, class 1 first, and their sum.
@@ -98,7 +98,7 @@ impl PlainStore {
 
 impl PlainStore {
     /// Returns the item under the key, unless it is dead.
-    fn standing_item(&self, key: &[u8], now: Moment) -> Option<&Item>
+    fn standing_item(&self, key: &[u8], now: Moment) -> Option<&PlainItem>
         ensures { option_copied result ≡ standing self.now key.now now }
     {
         match self.items.get(key) {

@@ -19,7 +19,7 @@ use crate::parts::{
     remove_drained, update_drained,
 };
 use crate::strays::Strays;
-use mc_hop::{Counts, Hop, Keyed, Uncounted};
+use mc_hop::{Hop, Keyed, ReadCounter, Uncounted};
 use std::alloc::{AllocError, Global};
 use std::marker::Model;
 use std::mem;
@@ -96,7 +96,12 @@ impl<T: Keyed + Drop> Index<T> {
     }
 
     /// Returns the place as `find` does, and counts the entries that it reads.
-    pub fn find_counted<C: Counts>(&self, hash: u64, key: &[u8], reads: &mut C) -> Option<Place>
+    pub fn find_counted<C: ReadCounter>(
+        &self,
+        hash: u64,
+        key: &[u8],
+        reads: &mut C,
+    ) -> Option<Place>
         ensures found { IsFoundIn T.hash_of T.key_of self.now hash key.now result }
         ensures reads { C.count reads.new ≤ C.count reads.old + most_reads self.now }
     {

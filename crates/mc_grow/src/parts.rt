@@ -7,7 +7,7 @@ ghost use Rattle.mc_hop.specs.Tables.{IsAbsent, IsAt, KeepsKey};
 ghost use Rattle.mc_grow.specs.Parts.{IsChanged, IsFirstFilled, NoneFilledFrom, drained_items};
 ghost use Rattle.mc_grow.specs.Strays.{keys_in};
 
-use mc_hop::{Counts, Hop, Keyed};
+use mc_hop::{Hop, Keyed, ReadCounter};
 
 /// The part that the number of a place is in: a bucket of the old table or of the table, or a
 /// stray.
@@ -42,7 +42,7 @@ pub(crate) fn drained_len<T: Keyed + Drop>(draining: &Option<Hop<T>>) -> usize
 
 /// Returns the bucket of an old table with the entry of this hash and key. It reads at most 32
 /// entries.
-pub(crate) fn find_drained<T: Keyed + Drop, C: Counts>(
+pub(crate) fn find_drained<T: Keyed + Drop, C: ReadCounter>(
     draining: &Option<Hop<T>>,
     hash: u64,
     key: &[u8],

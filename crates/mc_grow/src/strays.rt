@@ -18,7 +18,7 @@ ghost use Rattle.mc_grow.specs.Strays.{IsGap, IsOrder, forgotten, key_by, keys_i
 
 use crate::parts::update_stray;
 use crate::trying::try_item;
-use mc_hop::{Counts, Hop, Keyed, Uncounted};
+use mc_hop::{Hop, Keyed, ReadCounter, Uncounted};
 use std::alloc::{AllocError, Global};
 use std::cmp::Ordering;
 use std::marker::Model;
@@ -54,7 +54,12 @@ impl<T: Keyed + Drop> Model for Strays<T> {
 /// Compares the hash and key of an entry with others: first the hashes, then the keys.
 ///
 /// It counts as one read of a stray.
-fn compare<T: Keyed + Drop, C: Counts>(entry: &T, hash: u64, key: &[u8], reads: &mut C) -> Ordering
+fn compare<T: Keyed + Drop, C: ReadCounter>(
+    entry: &T,
+    hash: u64,
+    key: &[u8],
+    reads: &mut C,
+) -> Ordering
     ensures order { result
         ≡ slice_cmp nat_cmp (T.hash_of entry.now ∷ T.key_of entry.now) (hash ∷ key.now) }
     ensures reads { C.count reads.new ≤ C.count reads.old + 1 }
@@ -70,7 +75,7 @@ fn compare<T: Keyed + Drop, C: Counts>(entry: &T, hash: u64, key: &[u8], reads: 
 /// Returns the place in the order of the stray with this hash and key, or where it would be.
 ///
 /// It reads at most as many strays as their number has binary digits.
-fn search<T: Keyed + Drop, C: Counts>(
+fn search<T: Keyed + Drop, C: ReadCounter>(
     items: &Vec<T>,
     order: &Vec<usize>,
     hash: u64,
@@ -153,7 +158,7 @@ impl<T: Keyed + Drop> Strays<T> {
     /// Returns the number of the stray with this hash and key, or `None`.
     ///
     /// It reads at most as many strays as their number has binary digits.
-    pub(crate) fn find<C: Counts>(&self, hash: u64, key: &[u8], reads: &mut C) -> Option<usize>
+    pub(crate) fn find<C: ReadCounter>(&self, hash: u64, key: &[u8], reads: &mut C) -> Option<usize>
         ensures found { IfSome result (λ at. (at < length self.now.items)
             × IsAt T.hash_of T.key_of (map Some self.now.items) hash key.now at) }
         ensures none { IsNone result →

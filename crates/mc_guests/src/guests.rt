@@ -22,7 +22,7 @@ use crate::budget::Budget;
 use crate::guest::{Guest, Visit};
 use crate::link::Link;
 use crate::reports::Reports;
-use crate::row::Row;
+use crate::row::GuestRow;
 use crate::tally::Tally;
 use crate::weighed::{Judged, Line};
 use mc_bytes::Spares;
@@ -50,7 +50,7 @@ pub struct WorkEnd {
 /// links, how many are awake, the budget, and the queue. The budget counts each guest once.
 #[derive(Drop)]
 pub struct Guests<L: Link + Drop> {
-    row: Row<L>,
+    row: GuestRow<L>,
     awake: usize,
     budget: Budget,
     /// The numbers of the waiting guests' links, oldest first.
@@ -108,7 +108,7 @@ impl<L: Link + Drop> Guests<L> {
         ensures { result ≡ no_books budget }
     {
         Guests {
-            row: Row::new(alloc),
+            row: GuestRow::new(alloc),
             awake: 0,
             budget: budget.without_guests(),
             queue: VecDeque::new(alloc),

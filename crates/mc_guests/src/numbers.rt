@@ -11,13 +11,13 @@ use std::marker::Model;
 
 /// Numbers in a row. Contracts see them.
 #[derive(Drop)]
-pub struct Numbers {
+pub struct NumberList {
     row: Vec<u64>,
     /// The place of each.
     places: HashMap<u64, usize>,
 }
 
-impl Model for Numbers {
+impl Model for NumberList {
     ghost use Rattle.std.specs.Prelude.{ℕ, List, nat_eq};
     ghost use Rattle.std.specs.HashMap.{get};
     ghost use Rattle.mc_guests.specs.Books.{TellsPlaces};
@@ -29,12 +29,12 @@ impl Model for Numbers {
     ghost invariant = { λ n. TellsPlaces (λ number. get nat_eq n.places number) n.row.items };
 }
 
-impl Numbers {
+impl NumberList {
     /// Makes an empty row. It takes no memory.
-    pub fn new(alloc: Global) -> Numbers
+    pub fn new(alloc: Global) -> NumberList
         ensures { result ≡ [] }
     {
-        Numbers {
+        NumberList {
             row: Vec::new(alloc),
             places: HashMap::new(alloc),
         }

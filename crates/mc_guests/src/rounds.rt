@@ -8,7 +8,7 @@ use crate::budget::Budget;
 use crate::guest::Guest;
 use crate::link::Link;
 use crate::reports::Reports;
-use crate::seat::Seat;
+use crate::seat::GuestSeat;
 use mc_protocol::Steps;
 use mc_time::Moment;
 use std::alloc::Global;
@@ -34,7 +34,7 @@ pub fn round<L: Link + Drop, S: Steps>(
 /// A guest that wants much waits if the budget has no room for it.
 pub(crate) fn round_within<L: Link + Drop, S: Reports>(
     alloc: Global,
-    guests: &mut [Seat<L>],
+    guests: &mut [GuestSeat<L>],
     store: &mut S,
     now: Moment,
     budget: &mut Budget,

@@ -15,10 +15,10 @@ ghost use Rattle.mc_guests.specs.Judging.{FindsSlowest, Judges, JudgesAt, underc
 use crate::budget::Budget;
 use crate::guest::Guest;
 use crate::link::Link;
-use crate::numbers::Numbers;
+use crate::numbers::NumberList;
 use crate::reports::Reports;
 use crate::rounds::round_within;
-use crate::seat::Seat;
+use crate::seat::GuestSeat;
 use crate::weighed::{Judged, Line, Weighed};
 use mc_protocol::Steps;
 use mc_time::Moment;
@@ -27,11 +27,11 @@ use std::marker::Model;
 
 /// Guests in a row. Contracts see them, and the number of each one's link.
 #[derive(Drop)]
-pub struct Row<L: Link + Drop> {
+pub struct GuestRow<L: Link + Drop> {
     alloc: Global,
-    guests: Vec<Seat<L>>,
+    guests: Vec<GuestSeat<L>>,
     /// The number of each one's link.
-    numbers: Numbers,
+    numbers: NumberList,
     /// The place of the guest that rests next if it is quiet.
     next: usize,
 }
@@ -39,7 +39,7 @@ pub struct Row<L: Link + Drop> {
 /// The most guests that are looked at in one tick, to see whether they are quiet.
 const LOOKS: usize = 1024;
 
-impl<L: Link + Drop> Model for Row<L> {
+impl<L: Link + Drop> Model for GuestRow<L> {
     ghost use Rattle.std.specs.Prelude.{◌≡◌, length};
     ghost use Rattle.mc_guests.specs.Books.{RowState};
 
@@ -50,15 +50,15 @@ impl<L: Link + Drop> Model for Row<L> {
     ghost invariant = { λ r. length r.numbers ≡ length r.guests.items };
 }
 
-impl<L: Link + Drop> Row<L> {
+impl<L: Link + Drop> GuestRow<L> {
     /// Makes an empty row. It takes no memory.
-    pub fn new(alloc: Global) -> Row<L>
+    pub fn new(alloc: Global) -> GuestRow<L>
         ensures { result ≡ nobody }
     {
-        Row {
+        GuestRow {
             alloc,
             guests: Vec::new(alloc),
-            numbers: Numbers::new(alloc),
+            numbers: NumberList::new(alloc),
             next: 0,
         }
     }
@@ -253,7 +253,7 @@ fn undercuts(rate: u64, found: Option<(usize, u64)>) -> bool
 /// Visits each of the first `count` guests once, within the budget.
 fn visit_front_of<L: Link + Drop, S: Reports>(
     alloc: Global,
-    guests: &mut [Seat<L>],
+    guests: &mut [GuestSeat<L>],
     count: usize,
     store: &mut S,
     now: Moment,
@@ -273,12 +273,16 @@ fn visit_front_of<L: Link + Drop, S: Reports>(
 }
 
 /// Appends a guest that holds nothing, and returns whether memory was there.
-fn push_behind<L: Link + Drop>(alloc: Global, guests: &mut Vec<Seat<L>>, guest: Guest<L>) -> bool
+fn push_behind<L: Link + Drop>(
+    alloc: Global,
+    guests: &mut Vec<GuestSeat<L>>,
+    guest: Guest<L>,
+) -> bool
     ensures pushed { IsTrue result →
         guests.new.items ≡ guests.old.items ++ newcomer guest ∷ [] }
     ensures refused { IsFalse result → guests.new.items ≡ guests.old.items }
 {
-    let Some(seat) = Seat::new(alloc, guest) else {
+    let Some(seat) = GuestSeat::new(alloc, guest) else {
         return false;
     };
     match guests.push(seat) {

@@ -19,11 +19,11 @@ use std::marker::Model;
 
 /// A guest on the heap. Contracts see the guest.
 #[derive(Drop)]
-pub struct Seat<L: Link + Drop> {
+pub struct GuestSeat<L: Link + Drop> {
     inner: Box<Weighed<L>>,
 }
 
-impl<L: Link + Drop> Model for Seat<L> {
+impl<L: Link + Drop> Model for GuestSeat<L> {
     ghost use Rattle.mc_guests.specs.Guests.{RowGuest};
 
     ghost Value = { RowGuest };
@@ -31,14 +31,14 @@ impl<L: Link + Drop> Model for Seat<L> {
     ghost view = { λ s. s.inner.value };
 }
 
-impl<L: Link + Drop> Seat<L> {
+impl<L: Link + Drop> GuestSeat<L> {
     /// Puts a guest that holds nothing on the heap. Returns `None` if memory is refused, which is
     /// recorded at its link.
-    pub fn new(alloc: Global, guest: Guest<L>) -> Option<Seat<L>>
+    pub fn new(alloc: Global, guest: Guest<L>) -> Option<GuestSeat<L>>
         ensures { IfSome result (λ seat. seat ≡ newcomer guest) }
     {
         match Box::new(alloc, Weighed::new(guest)) {
-            Ok(inner) => Some(Seat { inner }),
+            Ok(inner) => Some(GuestSeat { inner }),
             Err(AllocFailed { mut value }) => {
                 value.refuse();
                 None

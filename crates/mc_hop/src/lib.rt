@@ -11,7 +11,7 @@
 //! wraps around. It never grows, and moves no entry by itself: `mc_displace` makes room near a
 //! home, and `mc_grow` keeps more than one table. An entry is any type that is [`Keyed`]: it
 //! returns its own hash and key. A [`KeyHash`] computes hashes: [`Fnv`] (FNV-1a of 64 bits), and
-//! [`Constant`] for tests. A [`Counts`] counts the reads of a search, so that their bound is a
+//! [`Constant`] for tests. A [`ReadCounter`] counts the reads of a search, so that their bound is a
 //! clause; [`Uncounted`] costs nothing.
 //!
 //! Contracts see k and the buckets; `content` makes a finite map of them, from hash and key to
@@ -36,5 +36,5 @@ pub use laws::{
     content_changes_at_one_key, content_counts_entries, content_has_each_entry,
     content_of_two_lists,
 };
-pub use reads::{Counts, Reads, Uncounted};
+pub use reads::{ReadCounter, Reads, Uncounted};
 pub use table::Hop;

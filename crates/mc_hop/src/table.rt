@@ -11,7 +11,7 @@ ghost use Rattle.mc_hop.specs.Tables.{empty_table, with_bucket, bucket_at};
 use crate::bits::{lowest, with_bit, without_bit};
 use crate::cells::Cells;
 use crate::hash::Keyed;
-use crate::reads::{Counts, Uncounted};
+use crate::reads::{ReadCounter, Uncounted};
 use std::alloc::{AllocError, Global};
 use std::marker::Model;
 
@@ -129,7 +129,7 @@ impl<T: Keyed + Drop> Hop<T> {
     ///
     /// It is the one read of a bucket in a search, and reads the entry only if the bucket has the
     /// hash's tag.
-    fn holds<C: Counts>(&self, at: usize, hash: u64, key: &[u8], reads: &mut C) -> bool
+    fn holds<C: ReadCounter>(&self, at: usize, hash: u64, key: &[u8], reads: &mut C) -> bool
         requires { at < length self.now.items }
         ensures reads { C.count reads.new ≤ C.count reads.old + 1 }
         ensures yes { result ≡ true → IsAt T.hash_of T.key_of self.now.items hash key.now at }
@@ -155,7 +155,12 @@ impl<T: Keyed + Drop> Hop<T> {
     }
 
     /// Returns the bucket as `find` does, and counts the reads: at most 32 buckets.
-    pub fn find_counted<C: Counts>(&self, hash: u64, key: &[u8], reads: &mut C) -> Option<usize>
+    pub fn find_counted<C: ReadCounter>(
+        &self,
+        hash: u64,
+        key: &[u8],
+        reads: &mut C,
+    ) -> Option<usize>
         ensures found { IfSome result
             (λ at. IsFound T.hash_of T.key_of self.now.items hash key.now at) }
         ensures none { IsNone result → IsAbsent T.hash_of T.key_of self.now.items hash key.now }

@@ -4,7 +4,7 @@ use Rattle.std.specs.Prelude.{slice_get, ◌==◌}
 use Rattle.std.specs.List.{filter, list_any}
 use Rattle.std.specs.declared.net.ip_addr.IpAddr.{IpAddr}
 use Rattle.std.specs.declared.net.ip_addr.IpAddr.TheVariants.{V4, V6}
-use Rattle.mc_options.specs.declared.endpoints.Endpoint.{Endpoint}
+use Rattle.mc_options.specs.declared.endpoints.ListenAddress.{ListenAddress}
 use Rattle.mc_options.specs.declared.endpoints.Endpoints.{Endpoints}
 use Rattle.mc_host.specs.declared.end.End.{End}
 use Rattle.mc_host.specs.declared.end.End.TheVariants as end
@@ -26,19 +26,19 @@ filtered-stands : {X : Type 0} (p : X → Bool) (xs : List X) (x : X) → Stands
 filtered-stands p [] x is = is
 filtered-stands p (y ∷ ys) x is = one-more (p y) (filter p ys) ys y x (filtered-stands p ys x) is
 
-to-stands : (all : Endpoints) (one : Endpoint) → IsOneOf all one → Stands (all_of all) one
+to-stands : (all : Endpoints) (one : ListenAddress) → IsOneOf all one → Stands (all_of all) one
 to-stands all one (inl is) = (zero, ap Some (sym is))
 to-stands all one (inr found) = (suc found.0, found.1)
 
 some-is : {X : Type 0} (x y : X) → Some x ≡ Some y → y ≡ x
 some-is x y is = grind (arith, is)
 
-from-stands : (all : Endpoints) (one : Endpoint) → Stands (all_of all) one → IsOneOf all one
+from-stands : (all : Endpoints) (one : ListenAddress) → Stands (all_of all) one → IsOneOf all one
 from-stands all one (zero, is) = inl (some-is all.first one is)
 from-stands all one (suc i, is) = inr (i, is)
 
 pub bound-each : (bound asked : Endpoints) (is_dual : Bool) → all_of bound ≡ bound_of is_dual (all_of asked)
-    → (one : Endpoint) → IsOneOf bound one → IsOneOf asked one
+    → (one : ListenAddress) → IsOneOf bound one → IsOneOf asked one
 bound-each bound asked is_dual same one is =
     from-stands asked one (filtered-stands (λ it. not (is_dual && is_covered (all_of asked) it)) (all_of asked) one
     (subst (λ xs. Stands xs one) same (to-stands bound one is)))
@@ -61,7 +61,7 @@ not-and true a b is = ap (λ it. not (it && b)) is
 not-and false a b is = refl
 
 -- one at :: is bound
-wide-is-bound : (is_dual : Bool) (all : List Endpoint) (port : ℕ) (one : Endpoint) → is_wide_at port one ≡ true
+wide-is-bound : (is_dual : Bool) (all : List ListenAddress) (port : ℕ) (one : ListenAddress) → is_wide_at port one ≡ true
     → not (is_dual && is_covered all one) ≡ true
 wide-is-bound is_dual all port one wide =
     not-and is_dual (is_all_of_version_4 one.address) (list_any (is_wide_at one.port) all)
@@ -71,8 +71,8 @@ kept-none : {X : Type 0} (kept : Bool) (x : X) (rest : List X) → cond kept (x 
 kept-none true x rest none = grind (arith, none)
 kept-none false x rest none = none
 
-module _ (keep : Endpoint → Bool) (port : ℕ) (all : (one : Endpoint) → is_wide_at port one ≡ true → keep one ≡ true) where
-  wide-here : (x : Endpoint) (xs : List Endpoint) (wide : Bool) → is_wide_at port x ≡ wide
+module _ (keep : ListenAddress → Bool) (port : ℕ) (all : (one : ListenAddress) → is_wide_at port one ≡ true → keep one ≡ true) where
+  wide-here : (x : ListenAddress) (xs : List ListenAddress) (wide : Bool) → is_wide_at port x ≡ wide
       → (list_any (is_wide_at port) xs ≡ true → filter keep xs ≡ [] → ⊥)
       → (is_wide_at port x || list_any (is_wide_at port) xs) ≡ true
       → cond (keep x) (x ∷ filter keep xs) (filter keep xs) ≡ [] → ⊥
@@ -82,7 +82,7 @@ module _ (keep : Endpoint → Bool) (port : ℕ) (all : (one : Endpoint) → is_
   wide-here x xs false is later any none =
       later (subst (λ b. (b || list_any (is_wide_at port) xs) ≡ true) is any) (kept-none (keep x) x (filter keep xs) none)
 
-  wide-kept : (xs : List Endpoint) → list_any (is_wide_at port) xs ≡ true → filter keep xs ≡ [] → ⊥
+  wide-kept : (xs : List ListenAddress) → list_any (is_wide_at port) xs ≡ true → filter keep xs ≡ [] → ⊥
   wide-kept [] any none = grind (arith, any)
   wide-kept (x ∷ xs) any none = wide-here x xs (is_wide_at port x) refl (wide-kept xs) any none
 
@@ -102,7 +102,7 @@ empty : {X : Type 0} (xs : List X) → length xs ≡ 0 → xs ≡ []
 empty [] is = refl
 empty (x ∷ xs) is = grind (arith, is)
 
-first-or-not : (asked : Endpoints) (others : List Endpoint) → others ≡ bound_among true (all_of asked) asked.others.items
+first-or-not : (asked : Endpoints) (others : List ListenAddress) → others ≡ bound_among true (all_of asked) asked.others.items
     → (covered : Bool) → is_covered (all_of asked) asked.first ≡ covered → (covered ≡ true → length others ≡ 0)
     → (asked.first ∷ others) ≡ bound_of true (all_of asked)
 first-or-not asked others same true is none = absurd (one-is-bound asked is (sym same ∙ empty others (none refl)))
@@ -111,7 +111,7 @@ first-or-not asked others same false is none =
     (bound_among true (all_of asked) asked.others.items)) (sym is) (ap (λ xs. asked.first ∷ xs) same)
 
 -- the first is bound, unless it is covered and others are
-pub first-bound : (asked : Endpoints) (is_dual : Bool) (others : List Endpoint)
+pub first-bound : (asked : Endpoints) (is_dual : Bool) (others : List ListenAddress)
     → others ≡ bound_among is_dual (all_of asked) asked.others.items
     → (is_dual ≡ true → is_covered (all_of asked) asked.first ≡ true → length others ≡ 0)
     → (asked.first ∷ others) ≡ bound_of is_dual (all_of asked)
@@ -120,14 +120,14 @@ first-bound asked true others same none =
 first-bound asked false others same none = ap (λ xs. asked.first ∷ xs) same
 
 -- a program that can't listen at one of the endpoints that are bound can't at one that it was to listen at
-unbound-among : (bound asked : Endpoints) (e : End) → ((one : Endpoint) → IsOneOf bound one → IsOneOf asked one)
+unbound-among : (bound asked : Endpoints) (e : End) → ((one : ListenAddress) → IsOneOf bound one → IsOneOf asked one)
     → EndsUnbound bound e → EndsUnbound asked e
 unbound-among bound asked (end.CannotListen it) each ends = each it.endpoint ends
 unbound-among bound asked end.NoMemory each ends = tt
 unbound-among bound asked _ each ends = absurd ends
 
 pub unbound-if : {T : Type 0} (bound asked : Endpoints) (result : Result T End)
-    → ((one : Endpoint) → IsOneOf bound one → IsOneOf asked one) → IfErr result (EndsUnbound bound)
+    → ((one : ListenAddress) → IsOneOf bound one → IsOneOf asked one) → IfErr result (EndsUnbound bound)
     → IfErr result (EndsUnbound asked)
 unbound-if bound asked (Ok it) each ends = tt
 unbound-if bound asked (Err e) each ends = unbound-among bound asked e each ends

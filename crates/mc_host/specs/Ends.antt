@@ -3,10 +3,10 @@ use Rattle.std.specs.Prelude.{◌≡◌, ◌⊎◌, ℕ, Bool, true, List, slice
 use Rattle.mc_session.specs.declared.serving.ServeFault.TheVariants as fault
 use Rattle.mc_host.specs.declared.end.Obstacle.{Obstacle}
 use Rattle.mc_host.specs.declared.end.Obstacle.TheVariants.{Taken, NotAllowed, NotHere, NoDescriptor, Other}
-use Rattle.mc_host.specs.declared.end.Refusal.{Refusal}
+use Rattle.mc_host.specs.declared.end.ListenFault.{ListenFault}
 use Rattle.mc_host.specs.declared.end.Denied.{Denied}
 use Rattle.mc_host.specs.declared.end.Denied.TheVariants as denied
-use Rattle.mc_options.specs.declared.endpoints.Endpoint.{Endpoint}
+use Rattle.mc_options.specs.declared.endpoints.ListenAddress.{ListenAddress}
 use Rattle.mc_options.specs.declared.endpoints.Endpoints.{Endpoints}
 use Rattle.mc_host.specs.declared.end.End.{End}
 use Rattle.mc_host.specs.declared.end.End.TheVariants as end
@@ -71,11 +71,11 @@ IsUnnamed Other = Unit {0}
 IsUnnamed _ = ⊥
 
 -- an endpoint is one of these
-abbrev pub IsOneOf : Endpoints → Endpoint → Type 0
+abbrev pub IsOneOf : Endpoints → ListenAddress → Type 0
 IsOneOf all one = (one ≡ all.first) ⊎ ((i : ℕ) × (slice_get all.others.items i ≡ Some one))
 
 -- the ends of a program that was to listen at an endpoint and can't: it names the endpoint, or memory ran out
-abbrev pub EndsUnboundAt : Endpoint → End → Type 0
+abbrev pub EndsUnboundAt : ListenAddress → End → Type 0
 EndsUnboundAt endpoint (end.CannotListen it) = it.endpoint ≡ endpoint
 EndsUnboundAt endpoint end.NoMemory = Unit {0}
 EndsUnboundAt endpoint _ = ⊥
@@ -87,12 +87,12 @@ EndsUnbound endpoints end.NoMemory = Unit {0}
 EndsUnbound endpoints _ = ⊥
 
 -- a refusal names the endpoint where scrapes were to be answered
-abbrev pub NamesScrapes : Option Endpoint → Refusal → Type 0
+abbrev pub NamesScrapes : Option ListenAddress → ListenFault → Type 0
 NamesScrapes None it = ⊥
 NamesScrapes (Some endpoint) it = it.endpoint ≡ endpoint
 
 -- the ends of a program that was to answer scrapes there and can't
-abbrev pub EndsWithoutDoor : Option Endpoint → End → Type 0
+abbrev pub EndsWithoutDoor : Option ListenAddress → End → Type 0
 EndsWithoutDoor scrapes (end.CannotListen it) = NamesScrapes scrapes it
 EndsWithoutDoor scrapes end.NoMemory = Unit {0}
 EndsWithoutDoor scrapes _ = ⊥
@@ -100,7 +100,7 @@ EndsWithoutDoor scrapes _ = ⊥
 -- the ends of a program that was to listen at endpoints, to answer scrapes at another, and to end where it is
 -- asked to or not: it can't listen, and names one of them, memory ran out before the first connection,
 -- the system refused a thread, a listener failed, or it may be asked to end, and was
-abbrev pub EndsListening : Endpoints → (scrapes : Option Endpoint) → (may_quit : Bool) → End → Type 0
+abbrev pub EndsListening : Endpoints → (scrapes : Option ListenAddress) → (may_quit : Bool) → End → Type 0
 EndsListening endpoints scrapes may_quit (end.CannotListen it) =
     IsOneOf endpoints it.endpoint ⊎ NamesScrapes scrapes it
 EndsListening endpoints scrapes may_quit end.NoMemory = Unit {0}

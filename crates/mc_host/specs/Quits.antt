@@ -1,6 +1,6 @@
 -- What is asked of a server that is to end, and what its answers mean.
 use Rattle.std.specs.Prelude.{◌≡◌, ◌≢◌, ℕ, List, Result, Ok, Err, codes}
-use Rattle.mc_options.specs.declared.endpoints.Endpoint.{Endpoint}
+use Rattle.mc_options.specs.declared.endpoints.ListenAddress.{ListenAddress}
 use Rattle.mc_host.specs.declared.end.Denied.{Denied}
 use Rattle.mc_host.specs.declared.end.Denied.TheVariants as denied
 use Rattle.mc_host.specs.declared.end.End.{End}
@@ -22,12 +22,12 @@ RefusesBy answered denied.Silent = Unit {0}
 RefusesBy answered _ = (line : List ℕ) × answered line × (line ≢ accepting_line)
 
 -- how a program ends that asked the server at an endpoint to end, by the answer
-abbrev pub end_of_asking : Endpoint → Result (Unit {0}) Denied → End
+abbrev pub end_of_asking : ListenAddress → Result (Unit {0}) Denied → End
 end_of_asking endpoint (Ok _) = end.Accepted
 end_of_asking endpoint (Err why) = end.Denied (record { endpoint = endpoint; why = why })
 
 -- the ends of a program that asked the server at an endpoint to end: it accepted, or it didn't
-abbrev pub EndsAsking : Endpoint → End → Type 0
+abbrev pub EndsAsking : ListenAddress → End → Type 0
 EndsAsking endpoint end.Accepted = Unit {0}
 EndsAsking endpoint (end.Denied it) = it.endpoint ≡ endpoint
 EndsAsking endpoint _ = ⊥

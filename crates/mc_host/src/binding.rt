@@ -3,7 +3,7 @@ ghost use Rattle.std.specs.Prelude.{◌≡◌, ◌+◌, length, IfOk, IfErr};
 ghost use Rattle.mc_host.specs.Ends.{EndsUnbound, EndsUnboundAt};
 
 use crate::end::{End, Obstacle};
-use mc_options::{Endpoint, Endpoints};
+use mc_options::{Endpoints, ListenAddress};
 use std::alloc::{AllocError, Global};
 use std::io::{self, ErrorKind};
 use std::net::{Net, SocketAddr, TcpListener, TcpStream};
@@ -77,7 +77,7 @@ pub fn bound_all<R: Net>(rt: &R, alloc: Global, endpoints: &Endpoints) -> Result
 /// Binds a listener at an endpoint.
 ///
 /// The error ends the program: the endpoint can't be bound, or memory is refused.
-fn bound_at<R: Net>(rt: &R, endpoint: Endpoint) -> Result<TcpListener, End>
+fn bound_at<R: Net>(rt: &R, endpoint: ListenAddress) -> Result<TcpListener, End>
     ensures { IfErr result (EndsUnboundAt endpoint) }
 {
     match bind_listener(rt, SocketAddr::from((endpoint.address, endpoint.port))) {

@@ -4,7 +4,7 @@
 //! listener at 0.0.0.0 and the same port is refused then, and isn't needed.
 ghost use Rattle.std.specs.Prelude.{◌≡◌, IfOk, IfErr};
 ghost use Rattle.std.specs.List.{list_any};
-ghost use Rattle.mc_options.specs.declared.endpoints.Endpoint.{Endpoint};
+ghost use Rattle.mc_options.specs.declared.endpoints.ListenAddress.{ListenAddress};
 ghost use Rattle.mc_host.specs.Ends.{EndsUnbound, IsOneOf};
 ghost use Rattle.mc_host.specs.Covers.{HasListeners, all_of, bound_among, bound_of};
 ghost use Rattle.mc_host.specs.Covers.{is_all_of_version_4, is_all_of_version_6};
@@ -12,7 +12,7 @@ ghost use Rattle.mc_host.specs.Covers.{is_covered, is_wide_at};
 
 use crate::binding::{Listeners, bound_all};
 use crate::end::End;
-use mc_options::{Endpoint, Endpoints};
+use mc_options::{Endpoints, ListenAddress};
 use std::alloc::{AllocError, AllocGlobal, Global};
 use std::fs::{self, Files};
 use std::net::{IpAddr, Net};
@@ -53,14 +53,14 @@ fn bound_of(alloc: Global, endpoints: &Endpoints, is_dual: bool) -> Result<Endpo
     ensures bound { IfOk result (λ bound.
         all_of bound ≡ bound_of is_dual (all_of endpoints.now)) }
     ensures each { IfOk result (λ bound.
-        (one : Endpoint) → IsOneOf bound one → IsOneOf endpoints.now one) }
+        (one : ListenAddress) → IsOneOf bound one → IsOneOf endpoints.now one) }
 {
     let others = others_of(alloc, endpoints, is_dual)?;
     Ok(led_by(endpoints, is_dual, others))
 }
 
 /// Returns these endpoints, and the first of all before them if it needs a listener of its own.
-fn led_by(endpoints: &Endpoints, is_dual: bool, others: Vec<Endpoint>) -> Endpoints
+fn led_by(endpoints: &Endpoints, is_dual: bool, others: Vec<ListenAddress>) -> Endpoints
     requires { others.items ≡ bound_among is_dual (all_of endpoints.now)
         endpoints.now.others.items }
     ensures { all_of result ≡ bound_of is_dual (all_of endpoints.now) }
@@ -81,7 +81,7 @@ fn others_of(
     alloc: Global,
     endpoints: &Endpoints,
     is_dual: bool,
-) -> Result<Vec<Endpoint>, AllocError>
+) -> Result<Vec<ListenAddress>, AllocError>
     ensures { IfOk result (λ others. others.items
         ≡ bound_among is_dual (all_of endpoints.now) endpoints.now.others.items) }
 {
@@ -95,7 +95,7 @@ fn others_of(
 }
 
 /// Returns whether another endpoint's listener accepts the connections of this one.
-fn is_covered(endpoints: &Endpoints, one: Endpoint) -> bool
+fn is_covered(endpoints: &Endpoints, one: ListenAddress) -> bool
     ensures { result ≡ is_covered (all_of endpoints.now) one }
 {
     is_all_of_version_4(one.address)
@@ -115,7 +115,7 @@ fn has_wide_at(port: u16, endpoints: &Endpoints) -> bool
 }
 
 /// Returns whether an endpoint is `::` at this port.
-fn is_wide_at(port: u16, one: Endpoint) -> bool
+fn is_wide_at(port: u16, one: ListenAddress) -> bool
     ensures { result ≡ is_wide_at port one }
 {
     is_all_of_version_6(one.address) && one.port == port

@@ -3,7 +3,7 @@ ghost use Rattle.std.specs.Prelude.{IfErr};
 ghost use Rattle.mc_host.specs.Ends.{EndsWithoutDoor};
 
 use crate::end::End;
-use mc_options::Endpoint;
+use mc_options::ListenAddress;
 use mio::net::{TcpListener, TcpStream};
 use mio::{Events, Interest, Poll, Token};
 use std::alloc::Global;
@@ -16,7 +16,7 @@ const PAUSE: u64 = 10;
 
 /// A listener for scrapes, and a poll of it and of its connections.
 #[derive(Drop)]
-pub struct Door {
+pub struct ScrapeListener {
     listener: TcpListener,
     poll: Poll,
     events: Events,
@@ -28,14 +28,14 @@ pub struct Door {
 pub fn open_door<R: Net>(
     rt: &R,
     alloc: Global,
-    asked: Option<Endpoint>,
-) -> Result<Option<Door>, End>
+    asked: Option<ListenAddress>,
+) -> Result<Option<ScrapeListener>, End>
     ensures { IfErr result (EndsWithoutDoor asked) }
 {
     let Some(endpoint) = asked else {
         return Ok(None);
     };
-    match Door::open(
+    match ScrapeListener::open(
         rt,
         alloc,
         SocketAddr::from((endpoint.address, endpoint.port)),
@@ -45,15 +45,15 @@ pub fn open_door<R: Net>(
     }
 }
 
-impl Door {
+impl ScrapeListener {
     /// Listens at an address and a port.
-    fn open<R: Net>(rt: &R, alloc: Global, place: SocketAddr) -> io::Result<Door> {
+    fn open<R: Net>(rt: &R, alloc: Global, place: SocketAddr) -> io::Result<ScrapeListener> {
         let mut listener = TcpListener::bind(rt, place)?;
         let poll = Poll::new(rt)?;
         poll.registry()
             .register(&mut listener, Token(0), Interest::READABLE)?;
         let events = Events::with_capacity(alloc, 1)?;
-        Ok(Door {
+        Ok(ScrapeListener {
             listener,
             poll,
             events,

@@ -6,7 +6,7 @@ ghost use Rattle.std.specs.Prelude.{◌≡◌};
 ghost use Rattle.mc_host.specs.Ends.{IsUnnamed, status_of, text_of};
 
 use clap::error::ErrorKind;
-use mc_options::Endpoint;
+use mc_options::ListenAddress;
 use mc_session::ServeFault;
 use std::alloc::AllocError;
 use std::io;
@@ -19,7 +19,7 @@ pub enum End {
     /// A failed listener is a read fault.
     Served(Result<(), ServeFault>),
     /// It can't listen.
-    CannotListen(Refusal),
+    CannotListen(ListenFault),
     /// It was asked to end, and did.
     Stopped,
     /// The command line is bad, and its faults were printed.
@@ -46,8 +46,8 @@ pub enum End {
 
 /// The endpoint at which it can't listen, and why.
 #[derive(Clone, Copy, Drop)]
-pub struct Refusal {
-    pub endpoint: Endpoint,
+pub struct ListenFault {
+    pub endpoint: ListenAddress,
     pub why: Obstacle,
 }
 
@@ -70,7 +70,7 @@ pub enum Obstacle {
 #[derive(Clone, Copy, Drop)]
 pub struct Denial {
     /// Its port of metrics.
-    pub endpoint: Endpoint,
+    pub endpoint: ListenAddress,
     pub why: Denied,
 }
 
@@ -184,13 +184,13 @@ impl End {
     /// Returns the end if it can't listen at an endpoint, by the system's error.
     ///
     /// It is want of memory, or the endpoint and the obstacle.
-    pub fn without(endpoint: Endpoint, error: &io::Error) -> End
+    pub fn without(endpoint: ListenAddress, error: &io::Error) -> End
         ensures { EndsUnboundAt endpoint result }
     {
         if error.kind() == io::ErrorKind::OutOfMemory {
             return End::NoMemory;
         }
-        End::CannotListen(Refusal {
+        End::CannotListen(ListenFault {
             endpoint,
             why: Obstacle::of(error),
         })

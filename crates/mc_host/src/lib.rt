@@ -5,12 +5,12 @@
 //! with what to do about it, the same in every run. So listeners, clock and descriptors are here,
 //! beside the table of ends; serving connections is in `mc_server`.
 //!
-//! An [`End`] is how the program ends, with its status and its text (`End::ending`). A [`Refusal`]
+//! An [`End`] is how the program ends, with its status and its text (`End::ending`). A [`ListenFault`]
 //! is the endpoint at which it can't listen, and the [`Obstacle`]. [`bound_all`] binds the
 //! [`Listeners`], one for each endpoint; [`bind_needed`] leaves out 0.0.0.0 if `::` at the same port
 //! accepts IPv4, too. [`sockets_of`] returns streams of them, whose shutdown
 //! wakes the threads that accept. [`look_for_descriptors`] checks that there are enough to begin
-//! with. A [`Door`] is a listener for scrapes. [`AskedClock`] is the clock of the command line: it
+//! with. A [`ScrapeListener`] is a listener for scrapes. [`AskedClock`] is the clock of the command line: it
 //! stands at `--now`, or is the system's. [`Diagnostics`] is standard error, with the [`Level`] of
 //! each line in the journal of systemd. [`ask_server`] is the client of `--quit`: [`ask_to_end`]
 //! over a socket. [`has_small_stack`] reads the limit of the stack.
@@ -40,7 +40,7 @@ pub use clock::AskedClock;
 pub use covers::bind_needed;
 pub use descriptors::most_descriptors;
 pub use diagnostics::{Diagnostics, Level};
-pub use door::{Door, open_door};
-pub use end::{Denial, Denied, End, Obstacle, Refusal, ending};
+pub use door::{ScrapeListener, open_door};
+pub use end::{Denial, Denied, End, ListenFault, Obstacle, ending};
 pub use quit::{ask_server, ask_to_end};
 pub use stack::has_small_stack;

@@ -4,7 +4,7 @@ ghost use Rattle.std.specs.Io.KnownBytes.{Appends, Consumes};
 ghost use Rattle.mc_host.specs.Quits.{quit_request, accepting_line, end_of_asking, EndsAsking, RefusesBy};
 
 use crate::end::{Denial, Denied, End};
-use mc_options::Endpoint;
+use mc_options::ListenAddress;
 use std::io::{self, ErrorKind, Read, Write};
 use std::net::{Net, OpenStream, SocketAddr, TcpStream};
 use std::time::{Clock, Duration, Instant};
@@ -22,7 +22,7 @@ const LIMIT: u64 = 5;
 /// Asks the server with its port of metrics at this endpoint to end. Returns how the program ends.
 ///
 /// It waits at most 5 seconds for the answer. The program's status is 0 if the server accepted.
-pub fn ask_server<R: Net + Clock>(rt: &R, endpoint: Endpoint) -> End
+pub fn ask_server<R: Net + Clock>(rt: &R, endpoint: ListenAddress) -> End
     ensures { EndsAsking endpoint result }
 {
     let place = SocketAddr::from((endpoint.address, endpoint.port));
@@ -30,7 +30,7 @@ pub fn ask_server<R: Net + Clock>(rt: &R, endpoint: Endpoint) -> End
 }
 
 /// Returns how the program ends if the server at this endpoint answered so.
-fn end_of_asking(endpoint: Endpoint, answer: Result<(), Denied>) -> End
+fn end_of_asking(endpoint: ListenAddress, answer: Result<(), Denied>) -> End
     ensures { result ≡ end_of_asking endpoint answer }
 {
     match answer {

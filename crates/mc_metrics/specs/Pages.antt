@@ -10,7 +10,7 @@ use Rattle.mc_metrics.specs.declared.family.Kind.{Kind}
 use Rattle.mc_metrics.specs.declared.family.Kind.TheVariants.{Counter, Gauge}
 use Rattle.mc_metrics.specs.declared.family.Samples.{Samples}
 use Rattle.mc_metrics.specs.declared.family.Samples.TheVariants.{One, Each, Slabs, Refused, Process, Hundredths}
-use Rattle.mc_metrics.specs.declared.reading.Reading.{Reading}
+use Rattle.mc_metrics.specs.declared.reading.PageValues.{PageValues}
 use Rattle.mc_metrics.specs.declared.reading.SlabReading.{SlabReading}
 use Rattle.mc_metrics.specs.declared.reading.TablesReading.{TablesReading}
 use Rattle.mc_metrics.specs.declared.reading.BuffersReading.{BuffersReading}
@@ -41,7 +41,7 @@ abbrev pub bytes_of : List SlabReading → ℕ
 bytes_of slabs = min (sum_by (λ class. class.used * class.size) slabs) (2 ^ 64 - 1)
 
 -- a number that is told
-abbrev pub figure_of : Reading → Figure → ℕ
+abbrev pub figure_of : PageValues → Figure → ℕ
 figure_of reading figure.One = 1
 figure_of reading figure.Zero = 0
 figure_of reading figure.Uptime = reading.uptime
@@ -128,7 +128,7 @@ slab_text name class number =
     name ++ codes "{slab=\"" ++ decimal class ++ codes "\"} " ++ decimal number ++ codes "\n"
 
 -- a line for each of these labels
-abbrev pub each_text : Reading → (name : List ℕ) → List (Bor (List ℕ) × Figure) → List ℕ
+abbrev pub each_text : PageValues → (name : List ℕ) → List (Bor (List ℕ) × Figure) → List ℕ
 each_text reading name rows =
     flat_map (λ row. sample_text name row.0.now (figure_of reading row.1)) rows
 
@@ -165,7 +165,7 @@ hundredths_text name None = []
 hundredths_text name (Some number) = hundredths_line name number
 
 -- the samples of a family
-abbrev pub samples_text : Reading → (name : List ℕ) → Samples → List ℕ
+abbrev pub samples_text : PageValues → (name : List ℕ) → Samples → List ℕ
 samples_text reading name (One told) = sample_text name [] (figure_of reading told)
 samples_text reading name (Each rows) = each_text reading name rows.now
 samples_text reading name (Slabs told) = slabs_text told name reading.slabs.items
@@ -174,10 +174,10 @@ samples_text reading name (Process told) = known_text name (process_figure_of re
 samples_text reading name (Hundredths told) = hundredths_text name (process_figure_of reading.process told)
 
 -- a family
-abbrev pub family_text : Reading → Family → List ℕ
+abbrev pub family_text : PageValues → Family → List ℕ
 family_text reading family =
     head_text family.0 family.1.now family.2.now ++ samples_text reading family.1.now family.3
 
 -- families, one after another
-abbrev pub families_text : Reading → List Family → List ℕ
+abbrev pub families_text : PageValues → List Family → List ℕ
 families_text reading families = flat_map (family_text reading) families

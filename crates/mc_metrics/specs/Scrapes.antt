@@ -5,9 +5,9 @@ use Rattle.std.specs.declared.net.ip_addr.IpAddr.{IpAddr}
 use Rattle.httparse.specs.Grammar.{RequestHead, ReadsRequest}
 use Rattle.httparse.specs.Spans.{name_and_value}
 use Rattle.mc_metrics.specs.Access.{up_to, is_trusted}
-use Rattle.mc_metrics.specs.declared.answer.Answer.{Answer}
-use Rattle.mc_metrics.specs.declared.answer.Answer.TheVariants.{Index, Metrics, Healthy, NotFound, NotAllowed, Stopping, CannotStop, Forbidden, NotPosted, Bad, TooSlow, TooLong, NoMemory}
-use Rattle.mc_metrics.specs.declared.answer.Reply.{Reply}
+use Rattle.mc_metrics.specs.declared.answer.HttpAnswer.{HttpAnswer}
+use Rattle.mc_metrics.specs.declared.answer.HttpAnswer.TheVariants.{Index, Metrics, Healthy, NotFound, NotAllowed, Stopping, CannotStop, Forbidden, NotPosted, Bad, TooSlow, TooLong, NoMemory}
+use Rattle.mc_metrics.specs.declared.answer.HttpReply.{HttpReply}
 
 -- how many fields a request may have at most
 abbrev pub most_fields : ℕ
@@ -18,7 +18,7 @@ abbrev pub path_of : (target : List ℕ) → List ℕ
 path_of target = up_to (byte "?") target
 
 -- how a path is answered that is to be got
-abbrev pub page_at : (path : List ℕ) → Answer
+abbrev pub page_at : (path : List ℕ) → HttpAnswer
 page_at path =
     if bytes_eq path (codes "/metrics") then Metrics
     else if bytes_eq path (codes "/healthz") then Healthy
@@ -34,7 +34,7 @@ abbrev pub is_post : (method : List ℕ) → Bool
 is_post method = bytes_eq method (codes "POST")
 
 -- how a request is answered for the path by which a server ends, if there is one
-abbrev pub quit_answer : (may_quit trusted : Bool) → (method : List ℕ) → Answer
+abbrev pub quit_answer : (may_quit trusted : Bool) → (method : List ℕ) → HttpAnswer
 quit_answer may_quit trusted method =
     if not may_quit then NotFound
     else if not (is_post method) then NotPosted
@@ -42,14 +42,14 @@ quit_answer may_quit trusted method =
     else Forbidden
 
 -- how a request of this method for this path is answered
-abbrev pub answer_at : (may_quit trusted : Bool) → (method path : List ℕ) → Answer
+abbrev pub answer_at : (may_quit trusted : Bool) → (method path : List ℕ) → HttpAnswer
 answer_at may_quit trusted method path =
     if bytes_eq path (codes "/quit") then quit_answer may_quit trusted method
     else if bytes_eq method (codes "GET") || is_head method then page_at path
     else NotAllowed
 
 -- the reply to a request with this head, from a peer with this address
-abbrev pub reply_to : (may_quit : Bool) → (peer : IpAddr) → RequestHead → Reply
+abbrev pub reply_to : (may_quit : Bool) → (peer : IpAddr) → RequestHead → HttpReply
 reply_to may_quit peer head = record {
   answer = answer_at may_quit (is_trusted peer (map name_and_value head.fields)) head.method
       (path_of head.target);
@@ -57,7 +57,7 @@ reply_to may_quit peer head = record {
 }
 
 -- a reply with a body
-abbrev pub whole : Answer → Reply
+abbrev pub whole : HttpAnswer → HttpReply
 whole answer = record { answer = answer; is_head = false }
 
 -- a request of this method for this target ends the server: it may be ended so, the request is a POST of
@@ -79,7 +79,7 @@ IsAskedToEnd may_quit peer bytes =
     (head : RequestHead) × (rest : List ℕ) × ReadsRequest bytes head rest × MayEnd may_quit peer head
 
 -- the status line of an answer
-abbrev pub status_line_of : Answer → List ℕ
+abbrev pub status_line_of : HttpAnswer → List ℕ
 status_line_of Index = codes "HTTP/1.1 200 OK\r\n"
 status_line_of Metrics = codes "HTTP/1.1 200 OK\r\n"
 status_line_of Healthy = codes "HTTP/1.1 200 OK\r\n"
@@ -95,19 +95,19 @@ status_line_of CannotStop = codes "HTTP/1.1 503 Service Unavailable\r\n"
 status_line_of NoMemory = codes "HTTP/1.1 503 Service Unavailable\r\n"
 
 -- the type of an answer's body
-abbrev pub type_of : Answer → List ℕ
+abbrev pub type_of : HttpAnswer → List ℕ
 type_of Index = codes "Content-Type: text/html; charset=utf-8\r\n"
 type_of Metrics = codes "Content-Type: text/plain; version=0.0.4; charset=utf-8\r\n"
 type_of _ = codes "Content-Type: text/plain; charset=utf-8\r\n"
 
 -- the methods that an answer to another one names
-abbrev pub methods_of : Answer → List ℕ
+abbrev pub methods_of : HttpAnswer → List ℕ
 methods_of NotPosted = codes "Allow: POST\r\n"
 methods_of NotAllowed = codes "Allow: GET, HEAD\r\n"
 methods_of _ = codes ""
 
 -- the body of an answer; of Metrics it is the page
-abbrev pub body_of : Answer → (page : List ℕ) → List ℕ
+abbrev pub body_of : HttpAnswer → (page : List ℕ) → List ℕ
 body_of Index page =
     codes "<!DOCTYPE html>\n<title>mcserver</title>\n<p><a href=\"/metrics\">/metrics</a> has the numbers.\n"
     ++ codes "<p><a href=\"/healthz\">/healthz</a> returns 200 while the server runs.\n"
@@ -130,7 +130,7 @@ sent_of true body = []
 sent_of false body = body
 
 -- a reply with this page, after which the connection is closed; the head has the body's length in any case
-abbrev pub response_text : Reply → (page : List ℕ) → List ℕ
+abbrev pub response_text : HttpReply → (page : List ℕ) → List ℕ
 response_text reply page =
     status_line_of reply.answer ++ type_of reply.answer ++ methods_of reply.answer
     ++ codes "Connection: close\r\nContent-Length: " ++ decimal (length (body_of reply.answer page))

@@ -12,7 +12,7 @@ pub const NO_MEMORY: &[u8] =
 
 /// The answer to a request.
 #[derive(Clone, Copy)]
-pub enum Answer {
+pub enum HttpAnswer {
     /// The page with links to the others.
     Index,
     /// The page of metrics.
@@ -43,40 +43,41 @@ pub enum Answer {
 
 /// The reply to a request.
 #[derive(Clone, Copy)]
-pub struct Reply {
-    pub answer: Answer,
+pub struct HttpReply {
+    pub answer: HttpAnswer,
     /// Whether its body isn't sent, as the request was a `HEAD`.
     pub is_head: bool,
 }
 
-impl Reply {
+impl HttpReply {
     /// Returns a reply with its body.
-    pub fn whole(answer: Answer) -> Reply
+    pub fn whole(answer: HttpAnswer) -> HttpReply
         ensures { result ≡ whole answer }
     {
-        Reply {
+        HttpReply {
             answer,
             is_head: false,
         }
     }
 }
 
-impl Answer {
+impl HttpAnswer {
     /// Returns the status line.
     fn status_line(self) -> &'static [u8]
         ensures { result.now ≡ status_line_of self }
     {
         match self {
-            Answer::Index | Answer::Metrics | Answer::Healthy | Answer::Stopping => {
-                b"HTTP/1.1 200 OK\r\n"
-            }
-            Answer::NotFound => b"HTTP/1.1 404 Not Found\r\n",
-            Answer::Forbidden => b"HTTP/1.1 403 Forbidden\r\n",
-            Answer::NotAllowed | Answer::NotPosted => b"HTTP/1.1 405 Method Not Allowed\r\n",
-            Answer::Bad => b"HTTP/1.1 400 Bad Request\r\n",
-            Answer::TooSlow => b"HTTP/1.1 408 Request Timeout\r\n",
-            Answer::TooLong => b"HTTP/1.1 431 Request Header Fields Too Large\r\n",
-            Answer::NoMemory | Answer::CannotStop => b"HTTP/1.1 503 Service Unavailable\r\n",
+            HttpAnswer::Index | HttpAnswer::Metrics | HttpAnswer::Healthy | HttpAnswer::Stopping =>
+                { b"HTTP/1.1 200 OK\r\n" }
+            HttpAnswer::NotFound => b"HTTP/1.1 404 Not Found\r\n",
+            HttpAnswer::Forbidden => b"HTTP/1.1 403 Forbidden\r\n",
+            HttpAnswer::NotAllowed | HttpAnswer::NotPosted =>
+                b"HTTP/1.1 405 Method Not Allowed\r\n",
+            HttpAnswer::Bad => b"HTTP/1.1 400 Bad Request\r\n",
+            HttpAnswer::TooSlow => b"HTTP/1.1 408 Request Timeout\r\n",
+            HttpAnswer::TooLong => b"HTTP/1.1 431 Request Header Fields Too Large\r\n",
+            HttpAnswer::NoMemory | HttpAnswer::CannotStop =>
+                b"HTTP/1.1 503 Service Unavailable\r\n",
         }
     }
 
@@ -85,8 +86,8 @@ impl Answer {
         ensures { result.now ≡ type_of self }
     {
         match self {
-            Answer::Index => b"Content-Type: text/html; charset=utf-8\r\n",
-            Answer::Metrics => b"Content-Type: text/plain; version=0.0.4; charset=utf-8\r\n",
+            HttpAnswer::Index => b"Content-Type: text/html; charset=utf-8\r\n",
+            HttpAnswer::Metrics => b"Content-Type: text/plain; version=0.0.4; charset=utf-8\r\n",
             _ => b"Content-Type: text/plain; charset=utf-8\r\n",
         }
     }
@@ -96,8 +97,8 @@ impl Answer {
         ensures { result.now ≡ methods_of self }
     {
         match self {
-            Answer::NotAllowed => b"Allow: GET, HEAD\r\n",
-            Answer::NotPosted => b"Allow: POST\r\n",
+            HttpAnswer::NotAllowed => b"Allow: GET, HEAD\r\n",
+            HttpAnswer::NotPosted => b"Allow: POST\r\n",
             _ => b"",
         }
     }
@@ -107,30 +108,31 @@ impl Answer {
         ensures { result.now ≡ body_of self page.now }
     {
         match self {
-            Answer::Index => {
+            HttpAnswer::Index => {
                 b"<!DOCTYPE html>\n<title>mcserver</title>\n<p><a href=\"/metrics\">/metrics</a> has the numbers.\n<p><a href=\"/healthz\">/healthz</a> returns 200 while the server runs.\n"
             }
-            Answer::Metrics => page,
-            Answer::Healthy => b"ok\n",
-            Answer::NotFound => b"not found: there are /, /metrics and /healthz\n",
-            Answer::Stopping => b"stopping\n",
-            Answer::Forbidden => {
+            HttpAnswer::Metrics => page,
+            HttpAnswer::Healthy => b"ok\n",
+            HttpAnswer::NotFound => b"not found: there are /, /metrics and /healthz\n",
+            HttpAnswer::Stopping => b"stopping\n",
+            HttpAnswer::Forbidden => {
                 b"forbidden: only a client of this machine's loopback may end the server, and no page\n"
             }
-            Answer::NotPosted => b"method not allowed: POST ends the server\n",
-            Answer::NotAllowed => b"method not allowed: GET or HEAD\n",
-            Answer::Bad => b"bad request: it isn't HTTP/1.1, or has more than 64 fields\n",
-            Answer::TooSlow => b"request timeout: it wasn't complete after 2 seconds\n",
-            Answer::TooLong => b"request too long: at most 8192 bytes\n",
-            Answer::CannotStop => b"the server can't be asked to end\n",
-            Answer::NoMemory => b"no memory for the page\n",
+            HttpAnswer::NotPosted => b"method not allowed: POST ends the server\n",
+            HttpAnswer::NotAllowed => b"method not allowed: GET or HEAD\n",
+            HttpAnswer::Bad => b"bad request: it isn't HTTP/1.1, or has more than 64 fields\n",
+            HttpAnswer::TooSlow => b"request timeout: it wasn't complete after 2 seconds\n",
+            HttpAnswer::TooLong => b"request too long: at most 8192 bytes\n",
+            HttpAnswer::CannotStop => b"the server can't be asked to end\n",
+            HttpAnswer::NoMemory => b"no memory for the page\n",
         }
     }
 
     /// Returns whether the client may have sent more than was read.
     pub fn may_leave_input(self) -> bool {
         match self {
-            Answer::Index | Answer::Metrics | Answer::Healthy | Answer::NoMemory => false,
+            HttpAnswer::Index | HttpAnswer::Metrics | HttpAnswer::Healthy | HttpAnswer::NoMemory =>
+                false,
             _ => true,
         }
     }
@@ -140,10 +142,10 @@ impl Answer {
 /// metrics, and isn't used for another answer.
 ///
 /// The only error is a refused allocation.
-pub fn response(alloc: Global, reply: Reply, page: &[u8]) -> Result<Vec<u8>, AllocError>
+pub fn response(alloc: Global, reply: HttpReply, page: &[u8]) -> Result<Vec<u8>, AllocError>
     ensures { IfOk result (λ text. text.items ≡ response_text reply page.now) }
 {
-    let Reply { answer, is_head } = reply;
+    let HttpReply { answer, is_head } = reply;
     let body = answer.body(page);
     let mut buffer = Buffer::new();
     let mut text = Vec::from_slice(alloc, answer.status_line())?;

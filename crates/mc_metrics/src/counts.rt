@@ -62,7 +62,7 @@ const APART: usize = 8;
 ///
 /// So no worker waits for another's cache line.
 #[derive(Drop)]
-pub struct Counts {
+pub struct Counters {
     _before: [u64; APART],
     cells: [AtomicU64; COUNTED],
     refused: [AtomicU64; REFUSED],
@@ -73,10 +73,10 @@ pub struct Counts {
     _behind: [u64; APART],
 }
 
-impl Counts {
+impl Counters {
     /// Returns counters at 0. It takes no memory.
-    pub fn new() -> Counts {
-        Counts {
+    pub fn new() -> Counters {
+        Counters {
             _before: [0; APART],
             cells: array::from_fn(|_at| AtomicU64::new(0)),
             refused: array::from_fn(|_at| AtomicU64::new(0)),

@@ -5,10 +5,10 @@
 //! This crate has the numbers, the page and the requests, and knows no store and no worker, so it
 //! is proved beside them, and needs few crates.
 //!
-//! [`Counts`] are the counters of one worker, each a [`Counted`]: only the worker writes them, so
-//! counting is one addition. A [`Reading`] has the values for one page, and a [`Family`] is a name
+//! [`Counters`] are the counters of one worker, each a [`Counted`]: only the worker writes them, so
+//! counting is one addition. A [`PageValues`] has the values for one page, and a [`Family`] is a name
 //! with its samples; [`page_of`] makes the page of both. [`read_request`] returns the reply to a
-//! request ([`Reply`]), and [`response`] makes its text. A peer on the same machine may be allowed
+//! request ([`HttpReply`]), and [`response`] makes its text. A peer on the same machine may be allowed
 //! to end the server by `POST /quit`.
 //!
 //! Contracts state that a reply is a function of whether the server may be ended, of the peer's
@@ -31,12 +31,12 @@ mod page;
 mod reading;
 mod request;
 
-pub use answer::{Answer, NO_MEMORY, Reply, response};
-pub use counts::{COUNTED, Counted, Counts, REFUSED};
+pub use answer::{HttpAnswer, HttpReply, NO_MEMORY, response};
+pub use counts::{COUNTED, Counted, Counters, REFUSED};
 pub use family::{Family, Kind, Samples};
 pub use page::page_of;
 pub use reading::{
-    BuffersReading, Figure, ProcessFigure, ProcessReading, Reading, RefusedReading, SlabFigure,
+    BuffersReading, Figure, PageValues, ProcessFigure, ProcessReading, RefusedReading, SlabFigure,
     SlabReading, TablesReading, bytes_of, number_at,
 };
 pub use request::read_request;

@@ -6,7 +6,7 @@ ghost use Rattle.mc_metrics.specs.Pages.{decimals_line, hundredths_line, hundred
 ghost use Rattle.mc_metrics.specs.Pages.{samples_text, family_text, families_text};
 
 use crate::family::{Family, Kind, Samples};
-use crate::reading::{Figure, Reading, RefusedReading, SlabFigure, SlabReading};
+use crate::reading::{Figure, PageValues, RefusedReading, SlabFigure, SlabReading};
 use itoa::Buffer;
 use std::alloc::{AllocError, Global};
 
@@ -14,7 +14,11 @@ use std::alloc::{AllocError, Global};
 const USUAL: usize = 8192;
 
 /// Returns the page of these families, with a reading. The only error is a refused allocation.
-pub fn page_of(alloc: Global, families: &[Family], reading: &Reading) -> Result<Vec<u8>, AllocError>
+pub fn page_of(
+    alloc: Global,
+    families: &[Family],
+    reading: &PageValues,
+) -> Result<Vec<u8>, AllocError>
     ensures { IfOk result (λ page. page.items ≡ families_text reading.now families.now) }
 {
     let mut page = Vec::with_capacity(alloc, USUAL)?;
@@ -26,7 +30,7 @@ pub fn page_of(alloc: Global, families: &[Family], reading: &Reading) -> Result<
 fn put_families(
     page: &mut Vec<u8>,
     families: &[Family],
-    reading: &Reading,
+    reading: &PageValues,
 ) -> Result<(), AllocError>
     ensures { OnOk result (page.new.items
         ≡ page.old.items ++ families_text reading.now families.now) }
@@ -38,7 +42,7 @@ fn put_families(
 }
 
 /// Appends a family: its head, and its samples.
-fn put_family(page: &mut Vec<u8>, family: &Family, reading: &Reading) -> Result<(), AllocError>
+fn put_family(page: &mut Vec<u8>, family: &Family, reading: &PageValues) -> Result<(), AllocError>
     ensures { OnOk result (page.new.items ≡ page.old.items ++ family_text reading.now family.now) }
 {
     put_head(page, family.0, family.1, family.2)?;
@@ -50,7 +54,7 @@ fn put_samples(
     page: &mut Vec<u8>,
     name: &str,
     samples: Samples,
-    reading: &Reading,
+    reading: &PageValues,
 ) -> Result<(), AllocError>
     ensures { OnOk result (page.new.items
         ≡ page.old.items ++ samples_text reading.now name.now samples) }
@@ -70,7 +74,7 @@ fn put_each(
     page: &mut Vec<u8>,
     name: &str,
     rows: &[(&str, Figure)],
-    reading: &Reading,
+    reading: &PageValues,
 ) -> Result<(), AllocError>
     ensures { OnOk result (page.new.items
         ≡ page.old.items ++ each_text reading.now name.now rows.now) }

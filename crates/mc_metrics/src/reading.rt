@@ -7,7 +7,7 @@ use mc_slab::{Account, Class};
 
 /// The values for a page.
 #[derive(Drop)]
-pub struct Reading {
+pub struct PageValues {
     /// The sums of all workers' counters, each at its index.
     pub counts: [u64; COUNTED],
     /// The closed connections, for each reason at its index.
@@ -168,7 +168,7 @@ pub enum SlabFigure {
     Free,
 }
 
-impl Reading {
+impl PageValues {
     /// Returns the number of a sample.
     pub fn figure(&self, figure: Figure) -> u64
         ensures { result ≡ figure_of self.now figure }
@@ -201,7 +201,7 @@ impl Reading {
     }
 }
 
-impl Reading {
+impl PageValues {
     ghost use Rattle.std.specs.Prelude.{◌≡◌};
     ghost use Rattle.mc_metrics.specs.Pages.{both};
 

@@ -12,7 +12,7 @@ ghost use Rattle.mc_metrics.specs.Scrapes.{is_head, is_post, most_fields, page_a
 ghost use Rattle.mc_metrics.specs.Scrapes.{path_of, quit_answer, reply_to, whole};
 
 use crate::access::{is_trusted, up_to};
-use crate::answer::{Answer, Reply};
+use crate::answer::{HttpAnswer, HttpReply};
 use httparse::Status;
 use httparse::spans::{EMPTY_HEADER_SPAN, parse_request};
 use std::net::IpAddr;
@@ -24,18 +24,18 @@ const MOST_FIELDS: usize = 64;
 ///
 /// `may_quit` is whether the server may be ended by `POST /quit`, and `peer` the client's address.
 /// Bytes that can't begin a request, and a request with more than 64 fields, get `Bad`.
-pub fn read_request(may_quit: bool, peer: IpAddr, bytes: &[u8]) -> Option<Reply>
+pub fn read_request(may_quit: bool, peer: IpAddr, bytes: &[u8]) -> Option<HttpReply>
     ensures found { (head : RequestHead) (rest : List ℕ) → ReadsRequest bytes.now head rest
         → length head.fields ≤ most_fields → result ≡ Some (reply_to may_quit peer head) }
     ensures stops { (head : RequestHead) (rest : List ℕ) → ReadsRequest bytes.now head rest
         → length head.fields ≤ most_fields
-        → (result ≡ Some (whole Answer.Stopping)) ↔ MayEnd may_quit peer head }
-    ensures granted { IfSome result (λ reply. reply.answer ≡ Answer.Stopping
+        → (result ≡ Some (whole HttpAnswer.Stopping)) ↔ MayEnd may_quit peer head }
+    ensures granted { IfSome result (λ reply. reply.answer ≡ HttpAnswer.Stopping
         → IsAskedToEnd may_quit peer bytes.now) }
-    ensures known { IfSome result (λ reply. (reply ≡ whole Answer.Bad)
+    ensures known { IfSome result (λ reply. (reply ≡ whole HttpAnswer.Bad)
         ⊎ ((head : RequestHead) × (rest : List ℕ) × ReadsRequest bytes.now head rest
         × (reply ≡ reply_to may_quit peer head))) }
-    ensures bad { result ≡ Some (whole Answer.Bad) → RequestOverflows most_fields bytes.now }
+    ensures bad { result ≡ Some (whole HttpAnswer.Bad) → RequestOverflows most_fields bytes.now }
     ensures unfinished { result ≡ None → HasNoRequest bytes.now }
 {
     let mut fields = [EMPTY_HEADER_SPAN; MOST_FIELDS];
@@ -51,28 +51,28 @@ pub fn read_request(may_quit: bool, peer: IpAddr, bytes: &[u8]) -> Option<Reply>
             ))
         }
         Ok(Status::Partial) => None,
-        Err(_) => Some(Reply::whole(Answer::Bad)),
+        Err(_) => Some(HttpReply::whole(HttpAnswer::Bad)),
     }
 }
 
 /// Returns the reply to a request with this method and target.
-fn reply_to(may_quit: bool, trusted: bool, method: &[u8], target: &[u8]) -> Reply
+fn reply_to(may_quit: bool, trusted: bool, method: &[u8], target: &[u8]) -> HttpReply
     ensures answer { result.answer ≡ answer_at may_quit trusted method.now (path_of target.now) }
     ensures head { result.is_head ≡ is_head method.now }
-    ensures granted { result.answer ≡ Answer.Stopping
+    ensures granted { result.answer ≡ HttpAnswer.Stopping
         → Ends may_quit trusted method.now target.now }
-    ensures stops { Ends may_quit trusted method.now target.now → result ≡ whole Answer.Stopping }
+    ensures stops { Ends may_quit trusted method.now target.now → result ≡ whole HttpAnswer.Stopping }
 {
-    Reply {
+    HttpReply {
         answer: answer_at(may_quit, trusted, method, up_to(b'?', target)),
         is_head: is_head(method),
     }
 }
 
 /// Returns the answer to a request with this method for a path.
-fn answer_at(may_quit: bool, trusted: bool, method: &[u8], path: &[u8]) -> Answer
+fn answer_at(may_quit: bool, trusted: bool, method: &[u8], path: &[u8]) -> HttpAnswer
     ensures value { result ≡ answer_at may_quit trusted method.now path.now }
-    ensures granted { result ≡ Answer.Stopping → (path.now ≡ codes "/quit") × IsTrue may_quit
+    ensures granted { result ≡ HttpAnswer.Stopping → (path.now ≡ codes "/quit") × IsTrue may_quit
         × (method.now ≡ codes "POST") × IsTrue trusted }
 {
     if path == b"/quit".as_slice() {
@@ -80,24 +80,24 @@ fn answer_at(may_quit: bool, trusted: bool, method: &[u8], path: &[u8]) -> Answe
     } else if method == b"GET".as_slice() || is_head(method) {
         page_at(path)
     } else {
-        Answer::NotAllowed
+        HttpAnswer::NotAllowed
     }
 }
 
 /// Returns the answer to a request with this method for the path by which the server ends.
-fn quit_answer(may_quit: bool, trusted: bool, method: &[u8]) -> Answer
+fn quit_answer(may_quit: bool, trusted: bool, method: &[u8]) -> HttpAnswer
     ensures value { result ≡ quit_answer may_quit trusted method.now }
-    ensures granted { result ≡ Answer.Stopping → IsTrue may_quit × (method.now ≡ codes "POST")
+    ensures granted { result ≡ HttpAnswer.Stopping → IsTrue may_quit × (method.now ≡ codes "POST")
         × IsTrue trusted }
 {
     if !may_quit {
-        Answer::NotFound
+        HttpAnswer::NotFound
     } else if !is_post(method) {
-        Answer::NotPosted
+        HttpAnswer::NotPosted
     } else if trusted {
-        Answer::Stopping
+        HttpAnswer::Stopping
     } else {
-        Answer::Forbidden
+        HttpAnswer::Forbidden
     }
 }
 
@@ -117,17 +117,17 @@ fn is_head(method: &[u8]) -> bool
 }
 
 /// Returns the answer to a `GET` of a path.
-fn page_at(path: &[u8]) -> Answer
+fn page_at(path: &[u8]) -> HttpAnswer
     ensures value { result ≡ page_at path.now }
-    ensures goes_on { result ≡ Answer.Stopping → ⊥ }
+    ensures goes_on { result ≡ HttpAnswer.Stopping → ⊥ }
 {
     if path == b"/metrics".as_slice() {
-        Answer::Metrics
+        HttpAnswer::Metrics
     } else if path == b"/healthz".as_slice() {
-        Answer::Healthy
+        HttpAnswer::Healthy
     } else if path == b"/".as_slice() {
-        Answer::Index
+        HttpAnswer::Index
     } else {
-        Answer::NotFound
+        HttpAnswer::NotFound
     }
 }

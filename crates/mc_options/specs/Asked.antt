@@ -5,7 +5,7 @@ use Rattle.std.specs.declared.net.ip_addr.IpAddr.{IpAddr}
 use Rattle.mc_shelf.specs.Ranges.{IsGreatestCharge, IsShelfCount}
 use Rattle.mc_options.specs.declared.options.AskedPlace.{AskedPlace}
 use Rattle.mc_options.specs.declared.endpoints.AskedAddress.{AskedAddress}
-use Rattle.mc_options.specs.declared.endpoints.Endpoint.{Endpoint}
+use Rattle.mc_options.specs.declared.endpoints.ListenAddress.{ListenAddress}
 use Rattle.mc_options.specs.declared.endpoints.Endpoints.{Endpoints}
 
 -- from 1 up to the most
@@ -49,7 +49,7 @@ port_for None (Some port) = max 1 port
 port_for None None = 11211
 
 -- the address that is asked for, at its port
-abbrev pub endpoint_for : (port : Option ℕ) → AskedAddress → Endpoint
+abbrev pub endpoint_for : (port : Option ℕ) → AskedAddress → ListenAddress
 endpoint_for port asked = record { address = asked.address; port = port_for asked.port port }
 
 -- the addresses that are asked for, each at its port, in their order; this machine's own if none is
@@ -61,13 +61,13 @@ IsEndpointsFor port (asked ∷ more) taken =
 
 -- the place that is asked for, if its port is in range, and else the first port; without an address
 -- it is this machine's own
-pub record IsPlaceFor (asked : AskedPlace) (taken : Endpoint) : Type 0 where
+pub record IsPlaceFor (asked : AskedPlace) (taken : ListenAddress) : Type 0 where
   pub address : IsAddressFor asked.address taken.address
   pub port : 1 ≤ asked.port → taken.port ≡ asked.port
   pub range : 1 ≤ taken.port
 
 -- the place that is asked for, and none if none is
-abbrev pub IsScrapePlaceFor : (asked : Option AskedPlace) → (taken : Option Endpoint) → Type 0
+abbrev pub IsScrapePlaceFor : (asked : Option AskedPlace) → (taken : Option ListenAddress) → Type 0
 IsScrapePlaceFor None None = Unit {0}
 IsScrapePlaceFor (Some asked) (Some taken) = IsPlaceFor asked taken
 IsScrapePlaceFor _ _ = ⊥

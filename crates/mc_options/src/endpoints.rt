@@ -22,7 +22,7 @@ pub struct AskedAddress {
 
 /// An address and a port at which to listen.
 #[derive(Clone, Copy, Drop)]
-pub struct Endpoint {
+pub struct ListenAddress {
     pub address: IpAddr,
     /// The TCP port, 1 to 65535.
     pub port: u16,
@@ -31,8 +31,8 @@ pub struct Endpoint {
 /// All endpoints of a program, at least one.
 #[derive(Drop)]
 pub struct Endpoints {
-    pub first: Endpoint,
-    pub others: Vec<Endpoint>,
+    pub first: ListenAddress,
+    pub others: Vec<ListenAddress>,
 }
 
 impl AskedAddress {
@@ -110,7 +110,7 @@ impl Endpoints {
     }
 }
 
-impl Display for Endpoint {
+impl Display for ListenAddress {
     fn fmt<W: fmt::Write>(&self, f: &mut Formatter<W>) -> fmt::Result {
         let place = SocketAddr::from((self.address, self.port));
         write!(f, "{place}")
@@ -129,21 +129,21 @@ impl Display for Endpoints {
 }
 
 /// Returns the endpoint at 127.0.0.1.
-fn own_endpoint(port: Option<u16>) -> Endpoint
+fn own_endpoint(port: Option<u16>) -> ListenAddress
     ensures address { IsAddressFor None result.address }
     ensures port { result.port ≡ port_for None port }
 {
-    Endpoint {
+    ListenAddress {
         address: address_of(None),
         port: port_of(None, port),
     }
 }
 
 /// Returns the endpoint of an address of `-l`, given the port of `-p`.
-fn endpoint_of(port: Option<u16>, asked: AskedAddress) -> Endpoint
+fn endpoint_of(port: Option<u16>, asked: AskedAddress) -> ListenAddress
     ensures { result ≡ endpoint_for port asked }
 {
-    Endpoint {
+    ListenAddress {
         address: asked.address,
         port: port_of(asked.port, port),
     }

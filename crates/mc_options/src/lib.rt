@@ -7,7 +7,7 @@
 //! faults of a line are named at once, each in one line (`src/faults.rt`).
 //!
 //! [`parse_options`] turns words into [`Options`], or returns why not ([`Unfit`]). In between is
-//! [`Asked`], exactly what `clap` found: each number if it was given. [`Asked::settings`] makes the
+//! [`RawOptions`], exactly what `clap` found: each number if it was given. [`RawOptions::settings`] makes the
 //! store's settings of it, and `Options::new` all the rest. [`Endpoints`] are where the program
 //! listens, by `-l` and `-p`. So each default is in the code once.
 //!
@@ -28,5 +28,5 @@ mod served;
 mod unserved;
 mod value;
 
-pub use endpoints::{AskedAddress, Endpoint, Endpoints};
-pub use options::{Asked, AskedPlace, Options, Unfit, parse_options};
+pub use endpoints::{AskedAddress, Endpoints, ListenAddress};
+pub use options::{AskedPlace, Options, RawOptions, Unfit, parse_options};

@@ -4,7 +4,7 @@ ghost use Rattle.mc_options.specs.Asked.{IsUpTo, IsAskedFor, IsTimeoutFor, IsGre
 ghost use Rattle.mc_options.specs.Asked.{AsksNoShelfCount, IsScrapePlaceFor};
 ghost use Rattle.mc_options.specs.Flags.{IsFlagOf};
 
-use crate::endpoints::{AskedAddress, Endpoint, Endpoints, address_of};
+use crate::endpoints::{AskedAddress, Endpoints, ListenAddress, address_of};
 use crate::faults::{faults_in, mistake_line};
 use crate::served::{SERVED, with_served};
 use crate::unserved::{UNSERVED, with_unserved};
@@ -58,7 +58,7 @@ Exit status:
 
 /// What `clap` found on the command line.
 #[derive(Clone, Copy)]
-pub struct Asked {
+pub struct RawOptions {
     /// `--stdin` is there.
     pub stdin: bool,
     /// The seconds of `--now`.
@@ -114,11 +114,11 @@ pub struct Options {
     /// The limit of connection buffers (input and output) in MiB, 1 to 65536.
     pub buffers: u32,
     /// Where scrapes are answered, if anywhere.
-    pub scrapes: Option<Endpoint>,
+    pub scrapes: Option<ListenAddress>,
     /// Peers on this machine may end it, where scrapes are answered.
     pub may_quit: bool,
     /// Where the server answers scrapes that it is to ask to end. It serves nothing itself then.
-    pub quit: Option<Endpoint>,
+    pub quit: Option<ListenAddress>,
     /// It logs each connection that opens or closes.
     pub verbose: bool,
 }
@@ -140,7 +140,7 @@ impl From<AllocError> for Unfit {
     }
 }
 
-impl Asked {
+impl RawOptions {
     /// Returns the settings of the store, or `None` if the number of shelves isn't a power of two.
     ///
     /// The defaults are 64 pages, items of at most 1048576 bytes, and 64 shelves. A number out of
@@ -165,7 +165,7 @@ impl Options {
     /// The defaults are 4 workers, 1024 connections, no idle timeout, 64 MiB of connection buffers,
     /// and no scrapes, or scrapes at 127.0.0.1 if only a port is given. A number out of range,
     /// which is refused before, is brought into its range.
-    pub fn new(asked: Asked, settings: Settings, endpoints: Endpoints) -> Options
+    pub fn new(asked: RawOptions, settings: Settings, endpoints: Endpoints) -> Options
         ensures stdin { result.stdin ≡ asked.stdin }
         ensures now { result.now ≡ option_map (min (2 ^ 62)) asked.now }
         ensures settings { result.settings ≡ settings }
@@ -197,11 +197,11 @@ impl Options {
 }
 
 /// Returns the place of `--metrics` or `--quit`, or `None`; without an address it is 127.0.0.1.
-fn scrape_place(asked: Option<AskedPlace>) -> Option<Endpoint>
+fn scrape_place(asked: Option<AskedPlace>) -> Option<ListenAddress>
     ensures { IsScrapePlaceFor asked result }
 {
     match asked {
-        Some(place) => Some(Endpoint {
+        Some(place) => Some(ListenAddress {
             address: address_of(place.address),
             port: place.port.max(1),
         }),
@@ -256,7 +256,7 @@ pub fn parse_options(alloc: Global, words: &[String]) -> Result<Options, Unfit>
 }
 
 /// Reads what is given and where to listen, from the words of the command line.
-fn read_words(alloc: Global, words: &[String]) -> Result<(Asked, Endpoints), Unfit> {
+fn read_words(alloc: Global, words: &[String]) -> Result<(RawOptions, Endpoints), Unfit> {
     let mut command = command(alloc)?;
     match command.try_get_matches_from_mut(words) {
         Ok(matches) => read_matches(alloc, &matches),
@@ -276,7 +276,7 @@ fn unfit_of(alloc: Global, error: Error) -> Unfit {
 }
 
 /// Reads what is given and where to listen, from what `clap` found.
-fn read_matches(alloc: Global, matches: &ArgMatches<'_>) -> Result<(Asked, Endpoints), Unfit> {
+fn read_matches(alloc: Global, matches: &ArgMatches<'_>) -> Result<(RawOptions, Endpoints), Unfit> {
     let faults = faults_in(alloc, matches)?;
     if !faults.as_str().is_empty() {
         return Err(Unfit::Faults(faults));
@@ -287,11 +287,11 @@ fn read_matches(alloc: Global, matches: &ArgMatches<'_>) -> Result<(Asked, Endpo
 
 /// Returns what is given, except where to listen. A value that isn't fit was refused before, and
 /// counts as not given.
-fn asked_of(matches: &ArgMatches<'_>) -> Asked
+fn asked_of(matches: &ArgMatches<'_>) -> RawOptions
     ensures stdin { IsFlagOf matches.now (codes "stdin") result.stdin }
     ensures may_quit { IsFlagOf matches.now (codes "allow-quit") result.may_quit }
 {
-    Asked {
+    RawOptions {
         stdin: matches.get_flag("stdin"),
         now: matches.get_one::<u64>("now"),
         pages: matches.get_one::<u32>("memory-limit"),

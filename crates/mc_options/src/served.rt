@@ -1,7 +1,7 @@
 //! The options that this program supports.
 
 use crate::options::{LONGEST_TIMEOUT, MOST_BUFFERS, MOST_CONNECTIONS, MOST_WORKERS};
-use crate::value::Kind;
+use crate::value::ValueKind;
 use clap::{Arg, ArgAction, Command};
 use mc_shelf::Settings;
 use mc_time::Moment;
@@ -12,13 +12,13 @@ pub struct Served {
     pub short: Option<char>,
     /// Its long name, by which its value is read too.
     pub long: &'static str,
-    pub takes: Takes,
+    pub takes: Operand,
     /// Its text in the help, with `{n}` at the end of each line of at most 48 columns.
     pub help: &'static str,
 }
 
 /// What follows an option.
-pub enum Takes {
+pub enum Operand {
     /// Nothing: the option is there, or it isn't. It is an option for tests.
     NothingInTests,
     /// Nothing, and the named option must be there too.
@@ -40,23 +40,23 @@ pub enum Takes {
 pub struct Value {
     /// Its name in the help.
     pub name: &'static str,
-    pub kind: Kind,
+    pub kind: ValueKind,
     /// What is fit, behind a value that isn't.
     pub rule: &'static str,
 }
 
-impl Takes {
+impl Operand {
     /// Returns the value, if there is one.
     pub fn value(&self) -> Option<Value> {
         match self {
-            Takes::One(value) | Takes::OneInTests(value) | Takes::Many(value) => Some(*value),
+            Operand::One(value) | Operand::OneInTests(value) | Operand::Many(value) => Some(*value),
             _ => None,
         }
     }
 
     /// Returns whether the option is for tests.
     fn is_for_tests(&self) -> bool {
-        matches!(self, Takes::NothingInTests | Takes::OneInTests(_))
+        matches!(self, Operand::NothingInTests | Operand::OneInTests(_))
     }
 }
 
@@ -68,9 +68,9 @@ pub const SERVED: [Served; 17] = [
     Served {
         short: Some('l'),
         long: "listen",
-        takes: Takes::Many(Value {
+        takes: Operand::Many(Value {
             name: "ADDR",
-            kind: Kind::Address,
+            kind: ValueKind::Address,
             rule: "an IP address, alone or with a port, as in 10.0.0.5, ::1, 10.0.0.5:11211 \
 and [::1]:11211; names aren't looked up",
         }),
@@ -80,9 +80,9 @@ and [::1]:11211; names aren't looked up",
     Served {
         short: Some('p'),
         long: "port",
-        takes: Takes::One(Value {
+        takes: Operand::One(Value {
             name: "PORT",
-            kind: Kind::Number(1, 65535),
+            kind: ValueKind::Number(1, 65535),
             rule: "a TCP port, 1 to 65535",
         }),
         help: "Listen at this TCP port, 1 to 65535{n}[default: 11211]",
@@ -90,9 +90,9 @@ and [::1]:11211; names aren't looked up",
     Served {
         short: Some('t'),
         long: "threads",
-        takes: Takes::One(Value {
+        takes: Operand::One(Value {
             name: "N",
-            kind: Kind::Number(1, MOST_WORKERS as u64),
+            kind: ValueKind::Number(1, MOST_WORKERS as u64),
             rule: "a number of workers, 1 to 64",
         }),
         help: "Serve connections by N workers, 1 to 64{n}[default: 4]",
@@ -100,9 +100,9 @@ and [::1]:11211; names aren't looked up",
     Served {
         short: Some('c'),
         long: "conn-limit",
-        takes: Takes::One(Value {
+        takes: Operand::One(Value {
             name: "N",
-            kind: Kind::Number(1, MOST_CONNECTIONS as u64),
+            kind: ValueKind::Number(1, MOST_CONNECTIONS as u64),
             rule: "a number of connections, 1 to 65536",
         }),
         help: "Have at most N connections open, 1 to 65536{n}[default: 1024]",
@@ -110,9 +110,9 @@ and [::1]:11211; names aren't looked up",
     Served {
         short: None,
         long: "idle-timeout",
-        takes: Takes::One(Value {
+        takes: Operand::One(Value {
             name: "SECONDS",
-            kind: Kind::Number(0, LONGEST_TIMEOUT as u64),
+            kind: ValueKind::Number(0, LONGEST_TIMEOUT as u64),
             rule: "a number of seconds without a unit, 0 to 2592000, as in 300; 0 closes none",
         }),
         help: "Close connections that are idle for SECONDS,{n}1 to 2592000; 0 closes none [default: 0]",
@@ -120,9 +120,9 @@ and [::1]:11211; names aren't looked up",
     Served {
         short: None,
         long: "buffer-limit",
-        takes: Takes::One(Value {
+        takes: Operand::One(Value {
             name: "MIB",
-            kind: Kind::Number(1, MOST_BUFFERS as u64),
+            kind: ValueKind::Number(1, MOST_BUFFERS as u64),
             rule: "a number of MiB (megabytes) without a unit, 1 to 65536, as in 64",
         }),
         help: "Hold at most this many MiB of input and output{n}of connections, 1 to 65536 [default: 64]",
@@ -130,15 +130,15 @@ and [::1]:11211; names aren't looked up",
     Served {
         short: Some('v'),
         long: "verbose",
-        takes: Takes::NothingCounted,
+        takes: Operand::NothingCounted,
         help: "Log each connection that opens or closes, on{n}standard error",
     },
     Served {
         short: None,
         long: "metrics",
-        takes: Takes::One(Value {
+        takes: Operand::One(Value {
             name: "[ADDR:]PORT",
-            kind: Kind::Place,
+            kind: ValueKind::Place,
             rule: "a port, 1 to 65535, before which an IP address may stand, \
 as in 9150, 10.0.0.5:9150 and [::1]:9150",
         }),
@@ -147,15 +147,15 @@ as in 9150, 10.0.0.5:9150 and [::1]:9150",
     Served {
         short: None,
         long: "allow-quit",
-        takes: Takes::NothingBeside("metrics"),
+        takes: Operand::NothingBeside("metrics"),
         help: "End by 'POST /quit' at that port, if the{n}request comes from this machine",
     },
     Served {
         short: None,
         long: "quit",
-        takes: Takes::One(Value {
+        takes: Operand::One(Value {
             name: "[ADDR:]PORT",
-            kind: Kind::Place,
+            kind: ValueKind::Place,
             rule: "the port of --metrics of the server, before which its IP address may stand, \
 as in 9150 and 127.0.0.1:9150",
         }),
@@ -165,9 +165,9 @@ its answer",
     Served {
         short: Some('m'),
         long: "memory-limit",
-        takes: Takes::One(Value {
+        takes: Operand::One(Value {
             name: "MIB",
-            kind: Kind::Number(1, Settings::MOST_PAGES as u64),
+            kind: ValueKind::Number(1, Settings::MOST_PAGES as u64),
             rule: "a number of MiB (megabytes) without a unit, 1 to 65536, as in 64",
         }),
         help: "Keep items in at most this many pages of 1 MiB,{n}1 to 65536 [default: 64]",
@@ -175,9 +175,9 @@ its answer",
     Served {
         short: Some('I'),
         long: "max-item-size",
-        takes: Takes::One(Value {
+        takes: Operand::One(Value {
             name: "BYTES",
-            kind: Kind::Bytes,
+            kind: ValueKind::Bytes,
             rule: "1048576 to 8388608 bytes, as in 2097152, 2048k and 2m",
         }),
         help: "Take items of at most BYTES with key and{n}header, 1m to 8m [default: 1m]",
@@ -185,9 +185,9 @@ its answer",
     Served {
         short: None,
         long: "shelves",
-        takes: Takes::One(Value {
+        takes: Operand::One(Value {
             name: "N",
-            kind: Kind::Number(1, Settings::MOST_SHELVES as u64),
+            kind: ValueKind::Number(1, Settings::MOST_SHELVES as u64),
             rule: "a number of shelves, a power of two, 1 to 256",
         }),
         help: "Keep keys on N shelves, a power of two,{n}1 to 256 [default: 64]",
@@ -195,15 +195,15 @@ its answer",
     Served {
         short: Some('M'),
         long: "disable-evictions",
-        takes: Takes::Nothing,
+        takes: Operand::Nothing,
         help: "Change nothing: nothing is ever evicted, and a{n}full store refuses",
     },
     Served {
         short: Some('U'),
         long: "udp-port",
-        takes: Takes::One(Value {
+        takes: Operand::One(Value {
             name: "0",
-            kind: Kind::Number(0, 0),
+            kind: ValueKind::Number(0, 0),
             rule: "only 0: there is no UDP; clients reach it by TCP",
         }),
         help: "Change nothing: there is no UDP, and only 0 is{n}accepted",
@@ -211,15 +211,15 @@ its answer",
     Served {
         short: None,
         long: "stdin",
-        takes: Takes::NothingInTests,
+        takes: Operand::NothingInTests,
         help: "Serve one session over standard input and{n}output",
     },
     Served {
         short: None,
         long: "now",
-        takes: Takes::OneInTests(Value {
+        takes: Operand::OneInTests(Value {
             name: "SECONDS",
-            kind: Kind::Number(0, Moment::LATEST),
+            kind: ValueKind::Number(0, Moment::LATEST),
             rule: "a number of seconds after 1970, 0 to 4611686018427387904",
         }),
         help: "Stop the clock at SECONDS after 1970{n}[default: the system's clock]",
@@ -259,7 +259,7 @@ fn named<'a>(argument: Arg<'a>, short: Option<char>) -> Arg<'a> {
 }
 
 /// Returns an argument below the heading for tests, if its option is for tests.
-fn headed<'a>(argument: Arg<'a>, takes: &Takes) -> Arg<'a> {
+fn headed<'a>(argument: Arg<'a>, takes: &Operand) -> Arg<'a> {
     if takes.is_for_tests() {
         argument.help_heading(FOR_TESTS)
     } else {
@@ -268,15 +268,15 @@ fn headed<'a>(argument: Arg<'a>, takes: &Takes) -> Arg<'a> {
 }
 
 /// Returns an argument that takes what follows its option.
-fn taking<'a>(argument: Arg<'a>, takes: &Takes) -> Result<Arg<'a>, AllocError> {
+fn taking<'a>(argument: Arg<'a>, takes: &Operand) -> Result<Arg<'a>, AllocError> {
     match takes {
-        Takes::Nothing | Takes::NothingInTests => Ok(argument.action(ArgAction::SetTrue)),
-        Takes::NothingBeside(other) => argument.action(ArgAction::SetTrue).requires_arg(*other),
-        Takes::NothingCounted => Ok(argument.action(ArgAction::Count)),
-        Takes::One(value) | Takes::OneInTests(value) => {
+        Operand::Nothing | Operand::NothingInTests => Ok(argument.action(ArgAction::SetTrue)),
+        Operand::NothingBeside(other) => argument.action(ArgAction::SetTrue).requires_arg(*other),
+        Operand::NothingCounted => Ok(argument.action(ArgAction::Count)),
+        Operand::One(value) | Operand::OneInTests(value) => {
             Ok(argument.action(ArgAction::Set).value_name(value.name))
         }
-        Takes::Many(value) => Ok(
+        Operand::Many(value) => Ok(
             argument
                 .action(ArgAction::Append)
                 .value_name(value.name)

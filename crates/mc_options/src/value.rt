@@ -6,7 +6,7 @@ use mc_shelf::Settings;
 
 /// Which texts are fit as the value of an option.
 #[derive(Clone, Copy)]
-pub enum Kind {
+pub enum ValueKind {
     /// A number from the first to the second.
     Number(u64, u64),
     /// The greatest charge of an item, in bytes, KiB or MiB.
@@ -17,17 +17,17 @@ pub enum Kind {
     Place,
 }
 
-impl Kind {
+impl ValueKind {
     /// Returns whether a text is fit.
     pub fn takes(self, text: &str) -> bool {
         match self {
-            Kind::Number(least, most) => match text.parse::<u64>() {
+            ValueKind::Number(least, most) => match text.parse::<u64>() {
                 Ok(number) => least <= number && number <= most,
                 Err(_) => false,
             },
-            Kind::Bytes => greatest_of(text).is_some(),
-            Kind::Address => AskedAddress::of(text).is_some(),
-            Kind::Place => place_of(text).is_some(),
+            ValueKind::Bytes => greatest_of(text).is_some(),
+            ValueKind::Address => AskedAddress::of(text).is_some(),
+            ValueKind::Place => place_of(text).is_some(),
         }
     }
 }

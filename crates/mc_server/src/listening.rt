@@ -11,7 +11,7 @@ use crate::client::StoreClient;
 use crate::plan::{Bound, make_plan};
 use crate::threads::serve;
 use mc_hop::Fnv;
-use mc_host::{Diagnostics, End, Level, Refusal, Wanting, bind_needed, open_door};
+use mc_host::{Diagnostics, End, Level, ListenFault, Wanting, bind_needed, open_door};
 use mc_options::Options;
 use mc_session::ServeFault;
 use mc_shared::{Caller, Shared};
@@ -49,7 +49,7 @@ where
     match begin(rt, diagnostics, &options, Bound { listeners, door }, system) {
         Ok(true) if options.may_quit => End::Stopped,
         Ok(_) => End::Served(Err(ServeFault::Read)),
-        Err(Wanting::Descriptor(why)) => End::CannotListen(Refusal { endpoint, why }),
+        Err(Wanting::Descriptor(why)) => End::CannotListen(ListenFault { endpoint, why }),
         Err(Wanting::Memory) => End::NoMemory,
         Err(Wanting::Thread) => End::NoThread,
     }

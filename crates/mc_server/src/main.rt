@@ -34,7 +34,7 @@ mod serving;
 mod threads;
 
 use clap::error::ErrorKind;
-use mc_host::{Denial, Diagnostics, End, Level, Refusal, ask_server, has_small_stack};
+use mc_host::{Denial, Diagnostics, End, Level, ListenFault, ask_server, has_small_stack};
 use mc_options::{Options, Unfit};
 use running::run;
 use std::process::ExitCode;
@@ -112,7 +112,7 @@ fn tell_why(diagnostics: Diagnostics, end: &End, text: &str) {
     let level = diagnostics.prefix(Level::Error);
     // if standard error is closed too, only the status is left
     let _ = match end {
-        End::CannotListen(Refusal { endpoint, why }) => {
+        End::CannotListen(ListenFault { endpoint, why }) => {
             let reason = why.reason();
             eprintln!(stderr; "{level}{text} on {endpoint}: {reason}")
         }

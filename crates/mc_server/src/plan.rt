@@ -9,9 +9,10 @@ ghost use Rattle.mc_sockets.specs.Crowds.{most_of};
 ghost use Rattle.mc_server.specs.Plans.{IsPlanOf, IsWorkerOf, IsOneAcceptor, ArePlansOf, held_of};
 
 use mc_host::{
-    Diagnostics, Door, Listeners, Wanting, look_for_descriptors, most_descriptors, sockets_of,
+    Diagnostics, Listeners, ScrapeListener, Wanting, look_for_descriptors, most_descriptors,
+    sockets_of,
 };
-use mc_metrics::Counts;
+use mc_metrics::Counters;
 use mc_options::Options;
 use mc_sockets::{Arrivals, Crowd, EVENTS, Inbox, Log, Share, WAKER};
 use mc_telemetry::{MetricsServer, Notice, Observer, Outlet, process_start};
@@ -32,7 +33,7 @@ const MIB: usize = 1_048_576;
 pub struct Bound {
     pub listeners: Listeners,
     /// The listener for scrapes, if there is one.
-    pub door: Option<Door>,
+    pub door: Option<ScrapeListener>,
 }
 
 /// What the program's own thread does, and what the other threads own.
@@ -87,8 +88,8 @@ pub struct WorkerPlan {
     /// How many bytes its connections may hold together.
     pub held: usize,
     /// The counters that its links raise, and the same for its steps.
-    pub moved: Arc<Counts>,
-    pub counts: Arc<Counts>,
+    pub moved: Arc<Counters>,
+    pub counts: Arc<Counters>,
 }
 
 /// What all threads of the server borrow.
@@ -103,7 +104,7 @@ pub struct Common {
 struct Workers {
     plans: Vec<WorkerPlan>,
     inboxes: Vec<Inbox>,
-    counts: Vec<Arc<Counts>>,
+    counts: Vec<Arc<Counters>>,
 }
 
 /// Returns the plan of a server at these sockets, and what its threads borrow. It fails if memory
@@ -204,9 +205,9 @@ fn make_crowd(alloc: Global, options: &Options, log: &Arc<Log>) -> Result<Arc<Cr
 fn make_metrics<R: AllocGlobal + Files + Clock>(
     rt: &R,
     notice: Notice<'_>,
-    door: Option<Door>,
+    door: Option<ScrapeListener>,
     crowd: &Arc<Crowd>,
-    counts: Vec<Arc<Counts>>,
+    counts: Vec<Arc<Counters>>,
 ) -> Result<Option<MetricsServer>, AllocError> {
     let Some(door) = door else {
         return Ok(None);
@@ -254,7 +255,7 @@ impl Workers {
         ensures each { All (IsWorkerOf options.entry.now) self.old.plans.items
             → OnOk result (All (IsWorkerOf options.entry.now) self.new.plans.items) }
     {
-        let counts = Arc::new(rt.alloc(), Counts::new()).map_err(|_| AllocError)?;
+        let counts = Arc::new(rt.alloc(), Counters::new()).map_err(|_| AllocError)?;
         let (plan, waker) = WorkerPlan::new(rt, options, worker, &counts)?;
         self.plans.push(plan).map_err(|_| AllocError)?;
         let inbox = Inbox::new(rt.alloc(), waker)?;
@@ -271,7 +272,7 @@ impl WorkerPlan {
         rt: &R,
         options: &Options,
         worker: u32,
-        counts: &Arc<Counts>,
+        counts: &Arc<Counters>,
     ) -> Result<(WorkerPlan, Waker), Wanting>
         ensures { IfOk result (λ made. IsWorkerOf options.entry.now made.0) }
     {

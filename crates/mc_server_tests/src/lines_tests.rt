@@ -1,20 +1,20 @@
 //! Which lines wait, and how many are counted as dropped.
 
-use mc_sockets::{Line, Lines, Parting, Waiting};
+use mc_sockets::{Lines, LogLine, Parting, WaitingLine};
 use std::test::*;
 
 /// Appends a line of the connection with this number.
 fn push(lines: &Lines, number: u64) {
     let parting = Parting::Ended;
-    lines.push(Line::Closed { number, parting });
+    lines.push(LogLine::Closed { number, parting });
 }
 
 /// Returns the connection of a line, and how many lines were dropped before it.
-fn told(waiting: Option<Waiting>) -> Option<(u64, u64)> {
-    let Waiting { line, dropped } = waiting?;
+fn told(waiting: Option<WaitingLine>) -> Option<(u64, u64)> {
+    let WaitingLine { line, dropped } = waiting?;
     match line {
-        Line::Opened { number, .. } | Line::Closed { number, .. } => Some((number, dropped)),
-        Line::Warned(_) => None,
+        LogLine::Opened { number, .. } | LogLine::Closed { number, .. } => Some((number, dropped)),
+        LogLine::Warned(_) => None,
     }
 }
 

@@ -3,7 +3,7 @@
 use crate::settings::one_page;
 use mc_hop::Fnv;
 use mc_host::{AskedClock, End};
-use mc_options::{Asked, Endpoints, Options};
+use mc_options::{Endpoints, Options, RawOptions};
 use mc_session::ServeFault;
 use mc_testing::{Drip, Sip};
 use mc_time::{Clock, Fixed, Moment};
@@ -30,7 +30,7 @@ fn served(
     reader: &mut Drip<'_>,
     writer: &mut Sip,
 ) -> Result<End, AllocError> {
-    let asked = Asked {
+    let asked = RawOptions {
         stdin: true,
         now,
         pages: None,

@@ -3,7 +3,7 @@
 use crate::settings::one_page;
 use mc_hop::Fnv;
 use mc_host::bind_listener;
-use mc_metrics::Counts;
+use mc_metrics::Counters;
 use mc_shared::Shared;
 use mc_sockets::{
     Arrivals, ClosingLinks, Connection, Crowd, EVENTS, Inbox, Poller, Share, SocketLinks, WAKER,
@@ -42,7 +42,7 @@ where
     let (shared, caller) = Shared::new(alloc, one_page(), Fnv)?;
     let events = Events::with_capacity(alloc, EVENTS)?;
     let poller = Poller { poll, events };
-    let counts = Arc::new(alloc, Counts::new())?;
+    let counts = Arc::new(alloc, Counters::new())?;
     let links = SocketLinks::new(rt, alloc, &arrivals, Share::new(0), poller, counts);
     let mut links = ClosingLinks::new(links, &arrivals);
     let clock = Fixed(Moment::from_seconds_at_most(1000));

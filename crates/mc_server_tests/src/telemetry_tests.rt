@@ -1,6 +1,6 @@
 //! What a scrape reads of a store, of connections and of workers.
 
-use mc_metrics::{Counted, Counts, Figure, TablesReading, number_at};
+use mc_metrics::{Counted, Counters, Figure, TablesReading, number_at};
 use mc_slab::{Account, Class};
 use mc_sockets::{Crowd, PARTINGS};
 use mc_telemetry::{Observer, StoreStats};
@@ -37,7 +37,7 @@ impl StoreStats for FixedStats {
 fn observer_of_two(alloc: Global) -> Result<Observer, AllocError> {
     let mut counts = Vec::new(alloc);
     for hits in [3, 4] {
-        let worker = Arc::new(alloc, Counts::new())?;
+        let worker = Arc::new(alloc, Counters::new())?;
         worker.add(Counted::GetHit, hits);
         worker.refuse(40);
         worker.add(Counted::TooLarge, 1);

@@ -32,7 +32,7 @@ use crate::steps::{decide, give, lower_all, raise_for};
 use crate::store::{Caller, Shared};
 use mc_hop::KeyHash;
 use mc_protocol::{KeyStep, Reply, StepFault};
-use mc_shelf::{Begun, Brought, Desk, Plan, Shelf, Wanted};
+use mc_shelf::{Begun, Brought, Desk, Plan, Shelf, WantedPages};
 use mc_slab::{Chunks, Pages};
 use mc_time::Moment;
 use std::alloc::{AllocError, Global};
@@ -88,7 +88,7 @@ fn exchange(alloc: Global, shelf: &Shelf, looked: &Looked<'_>) -> Option<Chunks>
 }
 
 /// Returns the pages that a step wants, or `None`.
-fn pages_wanted(shelf: &Shelf, desk: &Desk, looked: &Looked<'_>) -> Option<Wanted>
+fn pages_wanted(shelf: &Shelf, desk: &Desk, looked: &Looked<'_>) -> Option<WantedPages>
     requires { (ask : Asked) × IsLooked looked.now shelf.now ask }
     ensures { IfSome result (λ wanted. (1 ≤ wanted.pages) × (wanted.pages ≤ 8)) }
 {

@@ -10,8 +10,8 @@ use Rattle.mc_slab.specs.declared.slab.TakeFault.TheVariants.{NoMemory}
 use Rattle.mc_protocol.specs.declared.row.Refusal.{Refusal}
 use Rattle.mc_protocol.specs.declared.row.Refusal.TheVariants as refusal
 use Rattle.mc_protocol.specs.Plain.{has_room as plain_has_room}
-use Rattle.mc_shelf.specs.declared.plan.Next.{Next}
-use Rattle.mc_shelf.specs.declared.plan.Next.TheVariants.{Answer, Expire, Discard, Write}
+use Rattle.mc_shelf.specs.declared.plan.Action.{Action}
+use Rattle.mc_shelf.specs.declared.plan.Action.TheVariants.{Answer, Expire, Discard, Write}
 use Rattle.mc_shelf.specs.Plans.{NeedsDesk, WantsDesk, answered, charge_of, is_gone, next_by, next_of, row_at, stood, wants_desk}
 use Rattle.mc_shelf.proofs.KeyLemmas.{get_gone, get_put}
 use Rattle.mc_shelf.proofs.StandLemmas.{base, step_is}
@@ -28,7 +28,7 @@ hit_apart None e = cc
 hit_apart (Some old) e = cc
 
 -- the reply of what needs no desk is another
-abbrev Tells : Next → Type 0
+abbrev Tells : Action → Type 0
 Tells (Answer reply) = reply ≢ NoChunk
 Tells (Expire expiry reply) = reply ≢ NoChunk
 Tells next = Unit {0}
@@ -65,7 +65,7 @@ module _ (shelf : ShelfContent) (desk : DeskState) (step : KeyStep) (now : ℕ) 
   abbrev its_key : List ℕ
   its_key = key_of step
 
-  does : (next : Next) → next ≡ next_of shelf step now → Does shelf step now s (plain s step now) next
+  does : (next : Action) → next ≡ next_of shelf step now → Does shelf step now s (plain s step now) next
   does next is = next_does shelf step now desk s on at (plain s step now) (step_is step now shelf desk s on at) next is
 
   discard_needs : (reply : Reply) → Discard reply ≡ next_of shelf step now → NeedsDesk its_key s (plain s step now)
@@ -94,7 +94,7 @@ module _ (shelf : ShelfContent) (desk : DeskState) (step : KeyStep) (now : ℕ) 
           else Answered NoChunk under
 
   -- where it is wanted, it is needed
-  pub wanted_needs : (next : Next) → next ≡ next_of shelf step now → wants_desk next ≡ true → NeedsDesk its_key s (plain s step now)
+  pub wanted_needs : (next : Action) → next ≡ next_of shelf step now → wants_desk next ≡ true → NeedsDesk its_key s (plain s step now)
   wanted_needs (Discard reply) is e = discard_needs reply is
   wanted_needs (Write size draft) is e = write_needs size draft is
   wanted_needs next is e = absurd (true≢false (sym e))
@@ -124,13 +124,13 @@ module _ (shelf : ShelfContent) (desk : DeskState) (step : KeyStep) (now : ℕ) 
       ]
 
   -- where it is needed, it is wanted
-  pub needs_wanted : (next : Next) → next ≡ next_of shelf step now → NeedsDesk its_key s (plain s step now) → wants_desk next ≡ true
+  pub needs_wanted : (next : Action) → next ≡ next_of shelf step now → NeedsDesk its_key s (plain s step now) → wants_desk next ≡ true
   needs_wanted (Answer reply) is needs = absurd (answer_needs_none reply is needs)
   needs_wanted (Expire expiry reply) is needs = absurd (expire_needs_none expiry reply is needs)
   needs_wanted next is needs = refl
 
 -- the desk is wanted exactly where each plain state needs it
-pub wanted_exactly : (shelf : ShelfContent) (desk : DeskState) (step : KeyStep) (now : ℕ) → IsOnKey step → CanStandAt (key_of step) shelf desk → (next : Next)
+pub wanted_exactly : (shelf : ShelfContent) (desk : DeskState) (step : KeyStep) (now : ℕ) → IsOnKey step → CanStandAt (key_of step) shelf desk → (next : Action)
     → next ≡ next_of shelf step now → (wants_desk next ≡ true) ↔ WantsDesk step now shelf desk
 wanted_exactly shelf desk step now on can next is =
     ((λ wants s at. wanted_needs shelf desk step now on s at next is wants), (λ needs. needs_wanted shelf desk step now on can.plain can.stands next is (needs can.plain can.stands)))

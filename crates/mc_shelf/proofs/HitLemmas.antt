@@ -2,8 +2,8 @@
 use Rattle.std.proofs.Common.{◌≡◌, ℕ, true, false, Option, Some, None, is_some, is_none, refl, sym, ap, subst, ◌∙◌, true≢false}
 use Rattle.mc_shelf.proofs.Common.{alive, cond_both, Entry, Expiry, get, hit_of, is_dead, IsOnKey, key_of, KeyStep, Place, read_row, row_of, ShelfContent}
 use Rattle.mc_protocol.specs.declared.step.KeyStep.TheVariants.{Read, ReadTouch}
-use Rattle.mc_shelf.specs.declared.plan.Next.{Next}
-use Rattle.mc_shelf.specs.declared.plan.Next.TheVariants.{Answer, Expire}
+use Rattle.mc_shelf.specs.declared.plan.Action.{Action}
+use Rattle.mc_shelf.specs.declared.plan.Action.TheVariants.{Answer, Expire}
 use Rattle.mc_shelf.specs.Plans.{IsKnown, IsPut, PlanIsSettled, is_gone, next_by, next_of, stood}
 use Rattle.mc_shelf.specs.Hits.{is_read, read_expiry}
 use Rattle.mc_shelf.proofs.ShelfLemmas.{others_same}
@@ -23,7 +23,7 @@ row_read (ReadTouch key exptime) now item is = refl
 row_read step now item is = absurd (cc is)
 
 -- what comes next where no dead item is found, by the item that stands
-abbrev reading : Option Expiry → Option Entry → Next
+abbrev reading : Option Expiry → Option Entry → Action
 reading None item = Answer (hit_of item)
 reading (Some expiry) None = Answer (hit_of None)
 reading (Some expiry) (Some item) = Expire expiry (hit_of (Some item))

@@ -10,8 +10,8 @@ use Rattle.mc_protocol.specs.declared.step.Verb.TheVariants.{Set, Add, Replace, 
 use Rattle.mc_protocol.specs.declared.step.KeyStep.TheVariants.{Store, Cas, Count, Flush}
 use Rattle.mc_protocol.specs.declared.row.Refusal.TheVariants as refusal
 use Rattle.mc_protocol.specs.Plain.{given}
-use Rattle.mc_shelf.specs.declared.plan.Next.{Next}
-use Rattle.mc_shelf.specs.declared.plan.Next.TheVariants.{Answer, Expire, Discard, Write}
+use Rattle.mc_shelf.specs.declared.plan.Action.{Action}
+use Rattle.mc_shelf.specs.declared.plan.Action.TheVariants.{Answer, Expire, Discard, Write}
 use Rattle.mc_shelf.specs.Plans.{answered, block_in, charge_of, is_gone, made_block, next_by, next_of, row_at, stood}
 use Rattle.mc_shelf.proofs.StandLemmas.{base, wrote_too_large}
 
@@ -106,7 +106,7 @@ module _ (shelf : ShelfContent) (step : KeyStep) (now : ℕ) where
   stands = stood shelf step now
 
   -- what the next step says of an outcome of the plain machine
-  abbrev pub Does : Plain → Outcome → Next → Type 0
+  abbrev pub Does : Plain → Outcome → Action → Type 0
   Does s outcome (Answer reply) = (outcome ≡ Answered reply (found_in shelf step now s)) × (is_gone shelf.cut now found ≡ false)
   Does s outcome (Expire expiry reply) = (item : Entry) × (stands ≡ Some item) × (outcome ≡ Answered reply (record s { items = insert s.items key (record item { expiry = expiry }) }))
   Does s outcome (Discard reply) = (old : Entry) × (found ≡ Some old) × (outcome ≡ Answered reply (record s { items = remove s.items key }))
@@ -151,8 +151,8 @@ module _ (shelf : ShelfContent) (step : KeyStep) (now : ℕ) where
   -- what the plain machine does, by what comes next
   pub next_does : (desk : DeskState) (s : Plain) → IsOnKey step → StandsAt key shelf desk s → (outcome : Outcome)
       → outcome ≡ changed (row_at shelf step now) step stands (found_in shelf step now s) now
-      → (next : Next) → next ≡ next_of shelf step now → Does s outcome next
+      → (next : Action) → next ≡ next_of shelf step now → Does s outcome next
   next_does desk s on at outcome outcome_is next next_is =
       subst (λ (o : Outcome). Does s o next) (sym outcome_is)
-      (subst (λ (n : Next). Does s (changed (row_at shelf step now) step stands (found_in shelf step now s) now) n) (sym next_is)
+      (subst (λ (n : Action). Does s (changed (row_at shelf step now) step stands (found_in shelf step now s) now) n) (sym next_is)
       (row_does s at.greatest (row_at shelf step now) (row_speaks step now stands)))

@@ -3,8 +3,8 @@ use Rattle.std.proofs.Common.{◌≡◌, ◌≢◌, ℕ, ◌-◌, ◌≤◌, ◌
 use Rattle.mc_shelf.proofs.Common.{Answered, block_need, Body, CanStandAt, charge, CopiesBlock, DeskState, Draft, Given, has_room, StandsAt, IsOnKey, IsSlab}
 use Rattle.mc_shelf.proofs.Common.{keeps_chunk, key_of, KeyStep, MayFail, need_for, Plain, plain, Reply, ShelfContent, Spent, StepFault, write_reply, wrote}
 use Rattle.mc_slab.specs.Slabs as slabs
-use Rattle.mc_shelf.specs.declared.plan.Next.{Next}
-use Rattle.mc_shelf.specs.declared.plan.Next.TheVariants.{Write}
+use Rattle.mc_shelf.specs.declared.plan.Action.{Action}
+use Rattle.mc_shelf.specs.declared.plan.Action.TheVariants.{Write}
 use Rattle.mc_protocol.specs.declared.step.StepFault.TheVariants.{NoMemory, NumbersSpent}
 use Rattle.mc_shelf.specs.Plans.{CanWrite, IsSpent, StepTaken, MayWantMemory, NeedsPages, back_at, next_of, stood, writes}
 use Rattle.mc_shelf.proofs.StandLemmas.{wrote_kept, wrote_taken}
@@ -42,7 +42,7 @@ module _ (step : KeyStep) (now : ℕ) (shelf : ShelfContent) (desk : DeskState) 
   pub write_wants : MayFail (plain s step now)
   write_wants = subst MayFail (sym (wrote_is step now shelf desk on size draft next s at)) (answers (keeps_chunk draft.body (key_of step) (stood shelf step now)))
 
-pub needs_can : (next : Next) (shelf : ShelfContent) (key : List ℕ) (now : ℕ) (desk : DeskState) → NeedsPages next shelf key now desk → CanWrite next shelf key now desk
+pub needs_can : (next : Action) (shelf : ShelfContent) (key : List ℕ) (now : ℕ) (desk : DeskState) → NeedsPages next shelf key now desk → CanWrite next shelf key now desk
 needs_can next shelf key now desk needs = record { size = needs.size; draft = needs.draft; writes_it = needs.writes_it; number = needs.number; chunks = needs.pages.0 }
 
 -- ---- spent numbers
@@ -61,12 +61,12 @@ wants_not_spent step now shelf desk can wants spent = subst MayFail (spent can.p
 
 -- a plan that can be taken wants memory
 pub can_wants : (step : KeyStep) (now : ℕ) (shelf : ShelfContent) (desk : DeskState) → IsOnKey step → IsSlab desk.slab
-    → (next : Next) → next ≡ next_of shelf step now → CanWrite next shelf (key_of step) now desk → MayWantMemory step now shelf desk
+    → (next : Action) → next ≡ next_of shelf step now → CanWrite next shelf (key_of step) now desk → MayWantMemory step now shelf desk
 can_wants step now shelf desk on is next next_is can s at =
     write_wants step now shelf desk on is can.size can.draft (sym can.writes_it ∙ next_is) can.number can.chunks s at
 
 -- what writes is a write
-pub writes_some : (next : Next) → writes next ≡ true → (size : ℕ) × (draft : Draft) × (next ≡ Write size draft)
+pub writes_some : (next : Action) → writes next ≡ true → (size : ℕ) × (draft : Draft) × (next ≡ Write size draft)
 writes_some (Write size draft) e = (size, draft, refl)
 writes_some next e = absurd (true≢false (sym e))
 

@@ -8,8 +8,8 @@ use Rattle.mc_shelf.proofs.Common.{or_right, out_of, Plain, plain, remove, Reply
 use Rattle.mc_shelf.proofs.Common.{written, written_block, wrote}
 use Rattle.mc_slab.specs.Slabs as slabs
 use Rattle.mc_protocol.specs.Plain as machine
-use Rattle.mc_shelf.specs.declared.plan.Next.{Next}
-use Rattle.mc_shelf.specs.declared.plan.Next.TheVariants.{Answer, Expire, Discard, Write}
+use Rattle.mc_shelf.specs.declared.plan.Action.{Action}
+use Rattle.mc_shelf.specs.declared.plan.Action.TheVariants.{Answer, Expire, Discard, Write}
 use Rattle.mc_shelf.specs.declared.write.Write.{Write as Writing}
 use Rattle.mc_shelf.specs.Plans.{GivesBack, GivesChunks, gives_way, IsDropped, IsOut, IsPut, IsSpent, StepTaken, IsWriteOf, TakesStepAtKey, back_at}
 use Rattle.mc_shelf.specs.Plans.{block_beside, block_in, counts, dead_chunks, drafted, made_block, has_need, is_gone, next_of, readied, reuses, row_at, stood, way_given}
@@ -26,9 +26,9 @@ module _ (shelf : ShelfContent) (step : KeyStep) (now : ℕ) where
   none_yet : Plain
   none_yet = record { greatest = shelf.greatest; limit = 0; items = empty; cut = None; next_unique = 0; pages = [] }
 
-  does_yet : (next : Next) → next ≡ next_of shelf step now → Does shelf step now none_yet (changed (row_at shelf step now) step (stood shelf step now) (found_in shelf step now none_yet) now) next
+  does_yet : (next : Action) → next ≡ next_of shelf step now → Does shelf step now none_yet (changed (row_at shelf step now) step (stood shelf step now) (found_in shelf step now none_yet) now) next
   unfolding none_yet
-  does_yet next is = subst (λ (n : Next). Does shelf step now none_yet (changed (row_at shelf step now) step (stood shelf step now) (found_in shelf step now none_yet) now) n) (sym is)
+  does_yet next is = subst (λ (n : Action). Does shelf step now none_yet (changed (row_at shelf step now) step (stood shelf step now) (found_in shelf step now none_yet) now) n) (sym is)
       (row_does shelf step now none_yet refl (row_at shelf step now) (row_speaks step now (stood shelf step now)))
 
   pub drafts : (size : ℕ) (draft : Draft) → Write size draft ≡ next_of shelf step now → IsDrafted shelf step now size draft
@@ -63,7 +63,7 @@ module _ (step : KeyStep) (now : ℕ) (shelf : ShelfContent) (desk : DeskState) 
   abbrev stands : Option Entry
   stands = stood shelf step now
 
-  does_at : (next : Next) → next ≡ next_of shelf step now → (s : Plain) → StandsAt key shelf desk s → Does shelf step now s (plain s step now) next
+  does_at : (next : Action) → next ≡ next_of shelf step now → (s : Plain) → StandsAt key shelf desk s → Does shelf step now s (plain s step now) next
   does_at next is s at = next_does shelf step now desk s on at (plain s step now) (step_is step now shelf desk s on at) next is
 
   -- where no dead item is found, the step finds the state as it is

@@ -23,8 +23,8 @@ use Rattle.mc_protocol.specs.Laws.{IsOnKey, of_class}
 use Rattle.mc_shelf.specs.States.{EntryState, ShelfContent, ShelfState, DeskState, StandsAt, IsHash}
 use Rattle.mc_shelf.specs.Counts.{CatchesUp, counts_of}
 use Rattle.mc_grow.specs.declared.index.Place.{Place}
-use Rattle.mc_shelf.specs.declared.plan.Next.{Next}
-use Rattle.mc_shelf.specs.declared.plan.Next.TheVariants.{Answer, Expire, Discard, Write}
+use Rattle.mc_shelf.specs.declared.plan.Action.{Action}
+use Rattle.mc_shelf.specs.declared.plan.Action.TheVariants.{Answer, Expire, Discard, Write}
 use Rattle.mc_shelf.specs.declared.plan.Plan.{Plan}
 use Rattle.mc_shelf.specs.declared.write.Write.{Write as Writing}
 use Rattle.mc_shelf.specs.declared.begun.Unwritten.{Unwritten}
@@ -36,7 +36,7 @@ abbrev pub item_in : Option (Bor EntryState) → Option Entry
 item_in found = standing_in (λ e. e.item) found
 
 -- an answer that leaves the key's item, but a dead one is dropped
-abbrev pub answered : (dead : Bool) → Reply → Next
+abbrev pub answered : (dead : Bool) → Reply → Action
 answered true reply = Discard reply
 answered false reply = Answer reply
 
@@ -57,7 +57,7 @@ abbrev pub charge_of : KeyStep → Option Entry → Draft → ℕ
 charge_of step item draft = charge (key_of step) (written_block draft.body (block_of step) item)
 
 -- what comes next of a row: a write is too large if its charge is above the greatest
-abbrev pub next_by : (dead : Bool) → (greatest : ℕ) → KeyStep → Option Entry → Row → Next
+abbrev pub next_by : (dead : Bool) → (greatest : ℕ) → KeyStep → Option Entry → Row → Action
 next_by dead greatest step item (Refuses refusal) = answered dead (refusal_reply refusal)
 next_by dead greatest step item (Reads None) = answered dead (hit_of item)
 next_by dead greatest step item (Reads (Some expiry)) = Expire expiry (hit_of item)
@@ -72,7 +72,7 @@ abbrev pub is_gone : (cut : Option ℕ) → (now : ℕ) → Option Entry → Boo
 is_gone cut now found = is_some found && is_none (alive cut now found)
 
 -- what comes next in a step, by the item that is found under its key
-abbrev pub next_found : (greatest : ℕ) → (cut : Option ℕ) → KeyStep → (now : ℕ) → Option Entry → Next
+abbrev pub next_found : (greatest : ℕ) → (cut : Option ℕ) → KeyStep → (now : ℕ) → Option Entry → Action
 next_found greatest cut step now found =
     let item = alive cut now found in
     next_by (is_gone cut now found) greatest step item (row_of step now item)
@@ -86,18 +86,18 @@ abbrev pub row_at : ShelfContent → KeyStep → ℕ → Row
 row_at shelf step now = row_of step now (stood shelf step now)
 
 -- what comes next in a step
-abbrev pub next_of : ShelfContent → KeyStep → ℕ → Next
+abbrev pub next_of : ShelfContent → KeyStep → ℕ → Action
 next_of shelf step now = next_found shelf.greatest shelf.cut step now (get shelf.items (key_of step))
 
 -- it needs the desk: it drops an item, or writes one if there is a number and a chunk
-abbrev pub wants_desk : Next → Bool
+abbrev pub wants_desk : Action → Bool
 wants_desk (Answer reply) = false
 wants_desk (Expire expiry reply) = false
 wants_desk (Discard reply) = true
 wants_desk (Write size draft) = true
 
 -- it writes
-abbrev pub writes : Next → Bool
+abbrev pub writes : Action → Bool
 writes (Answer reply) = false
 writes (Expire expiry reply) = false
 writes (Discard reply) = false
@@ -141,7 +141,7 @@ abbrev pub back_at : ShelfContent → (key : List ℕ) → (now : ℕ) → NeedS
 back_at shelf key now need = dead_chunks shelf.cut now key (get shelf.items key) need.class
 
 -- a key's item gives way to what comes next
-abbrev pub gives_way_to : Next → ShelfContent → (key : List ℕ) → (now : ℕ) → Bool
+abbrev pub gives_way_to : Action → ShelfContent → (key : List ℕ) → (now : ℕ) → Bool
 gives_way_to (Answer reply) shelf key now = false
 gives_way_to (Expire expiry reply) shelf key now = false
 gives_way_to (Discard reply) shelf key now = false
@@ -149,12 +149,12 @@ gives_way_to (Write size draft) shelf key now =
     gives_way shelf.cut now key (get shelf.items key) (need_for size)
 
 -- what comes next puts in an entry, if it writes: the key has no item, or one that gives way
-abbrev pub PutsEntry : Next → ShelfContent → (key : List ℕ) → (now : ℕ) → Type 0
+abbrev pub PutsEntry : Action → ShelfContent → (key : List ℕ) → (now : ℕ) → Type 0
 PutsEntry next shelf key now =
     (get shelf.items key ≡ None) ⊎ (gives_way_to next shelf key now ≡ true)
 
 -- a write can be taken: a number is left, and the chunks that it needs can be had, once those of a dead item came back
-pub record CanWrite (next : Next) (shelf : ShelfContent) (key : List ℕ) (now : ℕ) (desk : DeskState)
+pub record CanWrite (next : Action) (shelf : ShelfContent) (key : List ℕ) (now : ℕ) (desk : DeskState)
     : Type 0 where
   pub size : ℕ
   pub draft : Draft
@@ -303,7 +303,7 @@ left_of Full = None
 left_of (Left rest) = Some rest
 
 -- a shelf after what is left of a step that comes next so was written
-abbrev pub written_next : Plan → Next → Option Unwritten → KeyStep → ShelfContent → ShelfContent
+abbrev pub written_next : Plan → Action → Option Unwritten → KeyStep → ShelfContent → ShelfContent
 written_next plan (Answer reply) rest step shelf = shelf
 written_next plan (Expire expiry reply) rest step shelf = shelf
 written_next plan (Discard reply) rest step shelf = shelf
@@ -321,7 +321,7 @@ write_told body Full = NoChunk
 write_told body (Left rest) = write_reply body
 
 -- the answer of a step that comes next so and was begun
-abbrev pub told_next : Next → Begun → Reply
+abbrev pub told_next : Action → Begun → Reply
 told_next (Answer reply) begun = reply
 told_next (Expire expiry reply) begun = reply
 told_next (Discard reply) begun = reply
@@ -371,7 +371,7 @@ pub record CanWriteBlock (write : Writing) (rest : Unwritten) (step : KeyStep) (
         (block_beside shelf.content step write.draft) shelf
 
 -- what is left of a step that comes next so can be done; nothing is asked unless it writes
-abbrev pub CanWriteNext : Plan → Next → Unwritten → KeyStep → ShelfState → Type 0
+abbrev pub CanWriteNext : Plan → Action → Unwritten → KeyStep → ShelfState → Type 0
 CanWriteNext plan (Answer reply) rest step shelf = Unit {0}
 CanWriteNext plan (Expire expiry reply) rest step shelf = Unit {0}
 CanWriteNext plan (Discard reply) rest step shelf = Unit {0}
@@ -397,7 +397,7 @@ left_behind (Counted number) own need = None
 
 -- the chunks for which others may be brought in exchange: pages of the key's item, out of which a
 -- join copies
-abbrev pub exchange_for : Next → (key : List ℕ) → Option Entry → Option NeedState
+abbrev pub exchange_for : Action → (key : List ℕ) → Option Entry → Option NeedState
 exchange_for (Answer reply) key found = None
 exchange_for (Expire expiry reply) key found = None
 exchange_for (Discard reply) key found = None
@@ -475,7 +475,7 @@ has_no_number desk = desk.next_unique ≡ 2 ^ 64 - 1
 
 -- a write asks for pages: a number is left, and its class wants pages for the chunks that it needs, once those of a dead item
 -- came back
-pub record NeedsPages (next : Next) (shelf : ShelfContent) (key : List ℕ) (now : ℕ) (desk : DeskState)
+pub record NeedsPages (next : Action) (shelf : ShelfContent) (key : List ℕ) (now : ℕ) (desk : DeskState)
     : Type 0 where
   pub size : ℕ
   pub draft : Draft

@@ -78,36 +78,40 @@ impl Shelf {
 
 /// A place in the shelves aside, from which a search goes on.
 #[derive(Clone, Copy)]
-pub(crate) struct Seek {
+pub(crate) struct AsidePlace {
     /// The index of the shelf.
     shelf: usize,
     /// The number of the entry.
     at: usize,
 }
 
-impl Seek {
+impl AsidePlace {
     /// The first place of all.
-    pub(crate) const START: Seek = Seek { shelf: 0, at: 0 };
+    pub(crate) const START: AsidePlace = AsidePlace { shelf: 0, at: 0 };
 }
 
 /// Removes the first item with chunks of a class from a place on, and returns its chunks.
 ///
 /// All others stay. The place becomes the item's, or the first of all if no item was found.
-pub(crate) fn chunks_of(aside: &mut Vec<Shelf>, class: Class, from: &mut Seek) -> Option<Chunks>
+pub(crate) fn chunks_of(
+    aside: &mut Vec<Shelf>,
+    class: Class,
+    from: &mut AsidePlace,
+) -> Option<Chunks>
     ensures off { IfSome result (AreOff aside.old.items aside.new.items) }
     ensures class { IfSome result (λ chunks. chunks.class ≡ class) }
     ensures none { result ≡ None → aside.new.items ≡ aside.old.items }
 {
-    let Seek { mut shelf, mut at } = *from;
+    let AsidePlace { mut shelf, mut at } = *from;
     while shelf < aside.len() {
         if let Some(entry) = aside[shelf].take_of(class, &mut at) {
-            *from = Seek { shelf, at };
+            *from = AsidePlace { shelf, at };
             return Some(entry.into_chunks());
         }
         shelf += 1;
         at = 0;
     }
-    *from = Seek::START;
+    *from = AsidePlace::START;
     None
 }
 

@@ -22,7 +22,7 @@ ghost use Rattle.mc_shelf.specs.Plans.{
   written,
 };
 
-use crate::plan::{Next, Plan};
+use crate::plan::{Action, Plan};
 use crate::shelf::Shelf;
 use crate::write::Write;
 use mc_protocol::{Draft, KeyStep, Reply};
@@ -86,10 +86,10 @@ impl Shelf {
         ensures table { KeepsTable 0 (counts_of self.old) (counts_of self.new) }
     {
         match &mut plan.next {
-            Next::Answer(reply) => mem::replace(reply, Reply::Miss),
-            Next::Expire(_, reply) => mem::replace(reply, Reply::Miss),
-            Next::Discard(reply) => mem::replace(reply, Reply::Miss),
-            Next::Write(charge, draft) => {
+            Action::Answer(reply) => mem::replace(reply, Reply::Miss),
+            Action::Expire(_, reply) => mem::replace(reply, Reply::Miss),
+            Action::Discard(reply) => mem::replace(reply, Reply::Miss),
+            Action::Write(charge, draft) => {
                 let reply = begun.begun_reply(draft);
                 if let Begun::Left(rest) = begun {
                     let write = Write {

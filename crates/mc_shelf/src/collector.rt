@@ -19,7 +19,7 @@ ghost use Rattle.mc_slab.specs.Slabs.{
 };
 ghost use Rattle.mc_shelf.specs.Asides.{AreCollected, GivesOwn, LieAside, Suffices, all_out, count_in, none_out};
 
-use crate::aside::{Seek, chunks_of, join, next_chunks};
+use crate::aside::{AsidePlace, chunks_of, join, next_chunks};
 use crate::shelf::Shelf;
 use mc_slab::{Account, Chunks, Class, Need, Pages, Slab, TakeFault};
 use std::alloc::{AllocError, Global};
@@ -189,7 +189,7 @@ struct Aside {
     /// For each class, class 1 first, where the search for its chunks goes on.
     ///
     /// None of them is before it, except those of a stray that took the place of another.
-    sought: [Seek; 40],
+    sought: [AsidePlace; 40],
 }
 
 impl Aside {
@@ -200,7 +200,7 @@ impl Aside {
         Aside {
             shelves,
             at: 0,
-            sought: [Seek::START; 40],
+            sought: [AsidePlace::START; 40],
         }
     }
 }

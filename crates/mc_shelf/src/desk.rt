@@ -52,7 +52,7 @@ impl Model for Desk {
 
 /// The pages that a write wants.
 #[derive(Clone, Copy, Debug, PartialEq, Eq)]
-pub struct Wanted {
+pub struct WantedPages {
     /// The class of the pages.
     pub class: Class,
     /// The number of pages, 1 to 8.
@@ -167,7 +167,7 @@ impl Desk {
     /// Returns the pages that a need wants once `back` chunks of its class were given back.
     ///
     /// It is `None` if it wants none, or if there is no room for it.
-    pub(crate) fn wanted_pages(&self, need: Need, back: u64) -> Option<Wanted>
+    pub(crate) fn wanted_pages(&self, need: Need, back: u64) -> Option<WantedPages>
         requires { back ≤ 8 }
         ensures wanted { IfSome result (λ wanted. WantsPages self.now.slab need back
             × (wanted ≡ record {
@@ -181,7 +181,7 @@ impl Desk {
         if pages == 0 || !self.has_room(need, back) {
             return None;
         }
-        Some(Wanted {
+        Some(WantedPages {
             class: need.class(),
             pages,
         })

@@ -23,7 +23,7 @@ ghost use Rattle.mc_shelf.specs.Plans.{
 };
 
 use crate::desk::Desk;
-use crate::plan::{Next, Plan};
+use crate::plan::{Action, Plan};
 use crate::shelf::Shelf;
 use crate::write::{Write, has_need, is_same};
 use mc_protocol::Body;
@@ -84,7 +84,7 @@ impl Shelf {
         ensures { result ≡ exchange_for plan.now.next plan.now.key
             (get self.now.content.items plan.now.key) }
     {
-        let Next::Write(charge, draft) = plan.next else {
+        let Action::Write(charge, draft) = plan.next else {
             return None;
         };
         if !joins(draft.body) {

@@ -56,13 +56,13 @@ const AHEAD: usize = 16;
 /// It is a growing index by hash and key, in which no key has two hashes. Contracts see what that
 /// index shows.
 #[derive(Drop)]
-pub(crate) struct Index {
+pub(crate) struct EntryIndex {
     entries: mc_grow::Index<Entry>,
     /// As long as an item with these two moments would be alive, every item is.
     soonest: Soonest,
 }
 
-impl Model for Index {
+impl Model for EntryIndex {
     ghost use Rattle.mc_grow.specs.Indexes.{IndexState, coded_index};
     ghost use Rattle.mc_shelf.specs.States.{EntryState, coded_entry_state};
     ghost use Rattle.mc_shelf.specs.KeyMaps.{EntriesAreKeyed};
@@ -79,11 +79,11 @@ impl Model for Index {
         × DieNoSooner i.soonest (items_of i.entries) };
 }
 
-impl Index {
+impl EntryIndex {
     ghost use Rattle.mc_protocol.specs.Commands.{longest_key};
 
     /// Makes an empty index. The only error is a refused allocation.
-    pub(crate) fn new(alloc: Global) -> Result<Index, AllocError>
+    pub(crate) fn new(alloc: Global) -> Result<EntryIndex, AllocError>
         ensures items { IfOk result (λ index. items_of index ≡ empty) }
         ensures hashes { IfOk result (λ index. hashes_of index ≡ empty) }
         ensures left { IfOk result (λ index. left index ≡ 0) }
@@ -91,7 +91,7 @@ impl Index {
         ensures rests { IfOk result (λ index.
             (index.growing ≡ false) × (length index.strays ≡ 0)) }
     {
-        Ok(Index {
+        Ok(EntryIndex {
             entries: mc_grow::Index::new(alloc, LEAST_EXPONENT)?,
             soonest: Soonest::empty(),
         })

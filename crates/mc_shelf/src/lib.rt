@@ -45,7 +45,7 @@ mod write;
 
 pub use begun::{Begun, Unwritten};
 pub use counts::ShelfCounts;
-pub use desk::{Desk, Wanted};
+pub use desk::{Desk, WantedPages};
 pub use entry::Entry;
 pub use exchange::Brought;
 pub use hit::{Found, Hit};

@@ -11,7 +11,7 @@ ghost use Rattle.mc_protocol.specs.declared.row.Row.TheVariants.{Reads};
 ghost use Rattle.mc_protocol.specs.Commands.{key_of, longest_key};
 ghost use Rattle.mc_protocol.specs.Plain as machine;
 ghost use Rattle.mc_protocol.specs.Plain.{hit_of, row_of};
-ghost use Rattle.mc_shelf.specs.declared.plan.Next.TheVariants.{Answer};
+ghost use Rattle.mc_shelf.specs.declared.plan.Action.TheVariants.{Answer};
 ghost use Rattle.mc_shelf.specs.States.{CanStandAt, DeskState, ShelfContent};
 ghost use Rattle.mc_shelf.specs.Plans as plans;
 ghost use Rattle.mc_shelf.specs.Plans.{
@@ -37,7 +37,7 @@ use std::alloc::{AllocError, Global};
 
 /// What a step does.
 #[derive(Drop)]
-pub(crate) enum Next {
+pub(crate) enum Action {
     /// It has a reply, and the key's item stays.
     Answer(Reply),
     /// The expiry of the key's item is set.
@@ -58,7 +58,7 @@ pub struct Plan<'a> {
     /// Where the key's item was found, or `None` if the key has no item.
     pub(crate) place: Option<Place>,
     /// What comes next.
-    pub(crate) next: Next,
+    pub(crate) next: Action,
     /// The moment of the step, and of its write.
     pub(crate) moment: Moment,
 }
@@ -72,7 +72,7 @@ impl<'a> Plan<'a> {
             key: Bytes::of(&[]),
             hash: 0,
             place: None,
-            next: Next::Answer(reply),
+            next: Action::Answer(reply),
             moment: Moment::from_seconds_at_most(0),
         }
     }
@@ -86,8 +86,8 @@ impl<'a> Plan<'a> {
             (result ≡ true) ↔ WantsDesk step now shelf desk }
     {
         match self.next {
-            Next::Answer(_) | Next::Expire(..) => false,
-            Next::Discard(_) | Next::Write(..) => true,
+            Action::Answer(_) | Action::Expire(..) => false,
+            Action::Discard(_) | Action::Write(..) => true,
         }
     }
 
@@ -104,8 +104,8 @@ impl<'a> Plan<'a> {
         ensures { result ≡ writes self.now.next }
     {
         match self.next {
-            Next::Answer(_) | Next::Expire(..) | Next::Discard(_) => false,
-            Next::Write(..) => true,
+            Action::Answer(_) | Action::Expire(..) | Action::Discard(_) => false,
+            Action::Write(..) => true,
         }
     }
 }
@@ -118,7 +118,7 @@ pub(crate) fn next_of(
     greatest: u64,
     cut: Option<u64>,
     now: Moment,
-) -> Result<Next, AllocError>
+) -> Result<Action, AllocError>
     requires { length (key_of step.now) ≤ longest_key }
     ensures next { IfOk result (λ next.
         next ≡ next_found greatest cut step.now now (item_in found.entry)) }
@@ -130,28 +130,28 @@ pub(crate) fn next_of(
     match command::row_of(step, item, now) {
         Row::Refuses(refusal) => Ok(answer_alone(dead, refusal.reply())),
         Row::Reads(None) => Ok(answer_alone(dead, hit(alloc, item)?)),
-        Row::Reads(Some(expiry)) => Ok(Next::Expire(expiry, hit(alloc, item)?)),
-        Row::Touches(expiry) => Ok(Next::Expire(expiry, Reply::Touched)),
-        Row::Deletes => Ok(Next::Discard(Reply::Deleted)),
+        Row::Reads(Some(expiry)) => Ok(Action::Expire(expiry, hit(alloc, item)?)),
+        Row::Touches(expiry) => Ok(Action::Expire(expiry, Reply::Touched)),
+        Row::Deletes => Ok(Action::Discard(Reply::Deleted)),
         Row::Writes(draft) => {
             let charge = charge_of(step, item, draft);
             if greatest < charge {
                 Ok(answer_alone(dead, Reply::TooLarge))
             } else {
-                Ok(Next::Write(charge, draft))
+                Ok(Action::Write(charge, draft))
             }
         }
     }
 }
 
 /// Returns a reply that leaves the key's item; a dead item is dropped.
-fn answer_alone(dead: bool, reply: Reply) -> Next
+fn answer_alone(dead: bool, reply: Reply) -> Action
     ensures { result ≡ plans.answered dead reply }
 {
     if dead {
-        Next::Discard(reply)
+        Action::Discard(reply)
     } else {
-        Next::Answer(reply)
+        Action::Answer(reply)
     }
 }
 

@@ -51,11 +51,11 @@ ghost use Rattle.mc_shelf.specs.Sweeps.{AreOut, GivesFor};
 
 use crate::begun::Begun;
 use crate::counts::{ShelfCounts, counted_up};
-use crate::desk::{Desk, Wanted};
+use crate::desk::{Desk, WantedPages};
 use crate::entry::Entry;
 use crate::exchange::Brought;
-use crate::index::{Index, Place};
-use crate::plan::{Next, Plan, next_of};
+use crate::index::{EntryIndex, Place};
+use crate::plan::{Action, Plan, next_of};
 use crate::soonest::Soonest;
 use crate::write::{Write, dead_chunks, gives_way};
 use mc_protocol::{Bytes, KeyStep, Reply, StepFault};
@@ -78,7 +78,7 @@ pub struct Shelf {
     /// The greatest charge of an item, in bytes, 0 to 8388608.
     pub(crate) greatest: u64,
     /// The items, by their keys.
-    pub(crate) index: Index,
+    pub(crate) index: EntryIndex,
     /// The second of the pending or past flush. Items that were updated before it die then.
     pub(crate) cut: Option<u64>,
     /// The number of items that purges and flushes dropped, at most 2^64 - 1.
@@ -129,7 +129,7 @@ impl Shelf {
     {
         Ok(Shelf {
             greatest,
-            index: Index::new(alloc)?,
+            index: EntryIndex::new(alloc)?,
             cut: None,
             reclaimed: 0,
         })
@@ -258,13 +258,13 @@ impl Shelf {
             ..
         } = plan;
         match next {
-            Next::Answer(reply) => reply,
-            Next::Expire(expiry, reply) => {
+            Action::Answer(reply) => reply,
+            Action::Expire(expiry, reply) => {
                 self.expire(place, hash, key.as_slice(), expiry);
                 reply
             }
             // A plan that needs the desk isn't settled, by what this call requires.
-            Next::Discard(_) | Next::Write(..) => unreachable!(),
+            Action::Discard(_) | Action::Write(..) => unreachable!(),
         }
     }
 
@@ -314,7 +314,7 @@ impl Shelf {
     /// Returns the pages that the step of a plan wants at the desk, or `None`.
     ///
     /// They can be allocated before the desk is held, and passed to `begin`.
-    pub fn page_wanted(&self, plan: &Plan<'_>, desk: &Desk) -> Option<Wanted>
+    pub fn page_wanted(&self, plan: &Plan<'_>, desk: &Desk) -> Option<WantedPages>
         requires { (step : Step) × (now : ℕ) × IsPlan plan.now self.now.content step now }
         ensures wanted { IfSome result (λ wanted. (needs : NeedsPages plan.now.next
             self.now.content plan.now.key plan.now.moment desk.now) × (wanted ≡ record {
@@ -329,7 +329,7 @@ impl Shelf {
         if desk.is_spent() {
             return None;
         }
-        let Next::Write(charge, _) = plan.next else {
+        let Action::Write(charge, _) = plan.next else {
             return None;
         };
         let need = self.need_for(charge);
@@ -379,16 +379,16 @@ impl Shelf {
             ((self.new.content ≡ self.old.content) × (desk.new ≡ desk.old)) }
     {
         match plan.next {
-            Next::Answer(_) => Ok(Begun::Done),
-            Next::Expire(expiry, _) => {
+            Action::Answer(_) => Ok(Begun::Done),
+            Action::Expire(expiry, _) => {
                 self.expire(plan.place, plan.hash, step.key(), expiry);
                 Ok(Begun::Done)
             }
-            Next::Discard(_) => {
+            Action::Discard(_) => {
                 self.discard(plan.place, plan.hash, step.key(), desk);
                 Ok(Begun::Done)
             }
-            Next::Write(charge, draft) => {
+            Action::Write(charge, draft) => {
                 let write = Write {
                     hash: plan.hash,
                     place: plan.place,
@@ -529,7 +529,7 @@ impl Shelf {
         ensures { result
             ≡ gives_way_to plan.now.next self.now.content plan.now.key plan.now.moment }
     {
-        let Next::Write(charge, _) = plan.next else {
+        let Action::Write(charge, _) = plan.next else {
             return false;
         };
         if charge <= SMALL {
@@ -582,7 +582,7 @@ impl Shelf {
         if desk.is_spent() {
             return false;
         }
-        let Next::Write(charge, _) = plan.next else {
+        let Action::Write(charge, _) = plan.next else {
             return false;
         };
         if plan.place.is_some() && !self.gives_way(plan) {

@@ -57,7 +57,7 @@ use crate::desk::Desk;
 use crate::entry::Entry;
 use crate::exchange::Brought;
 use crate::index::Place;
-use crate::plan::{Next, is_gone};
+use crate::plan::{Action, is_gone};
 use crate::shelf::Shelf;
 use itoa::Buffer;
 use mc_bytes::Lent;
@@ -428,9 +428,9 @@ impl Shelf {
         brought: Brought,
     ) -> Result<Begun, StepFault>
         requires write { IsWriteOf write.now self.old.content step.now }
-        requires room { CanWrite (Next.Write write.now.charge write.now.draft) self.old.content
+        requires room { CanWrite (Action.Write write.now.charge write.now.draft) self.old.content
             (key_of step.now) write.now.moment desk.old →
-            PutsEntry (Next.Write write.now.charge write.now.draft) self.old.content
+            PutsEntry (Action.Write write.now.charge write.now.draft) self.old.content
             (key_of step.now) write.now.moment → 1 ≤ self.old.room }
         requires stands { CanStandAt (key_of step.now) self.old.content desk.old }
         ensures took { IfOk result (λ begun. StepTaken step.now write.now.moment write.now.hash
@@ -440,7 +440,7 @@ impl Shelf {
             IfSome (left_of begun) (λ rest. CanWriteBlock write.now rest step.now self.new)) }
         ensures spent { result ≡ Err StepFault.NumbersSpent ↔ has_no_number desk.old }
         ensures refused { result ≡ Err StepFault.NoMemory
-            → NeedsPages (Next.Write write.now.charge write.now.draft) self.old.content
+            → NeedsPages (Action.Write write.now.charge write.now.draft) self.old.content
             (key_of step.now) write.now.moment desk.old }
         ensures table { KeepsTable 1 (counts_of self.old) (counts_of self.new) }
         ensures err { OnErr result

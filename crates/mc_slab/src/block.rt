@@ -43,7 +43,7 @@ pub const BESIDE: usize = 512;
 
 /// Bytes of a chunk that can be lent. Contracts see the bytes.
 #[derive(Drop)]
-pub(crate) struct Block {
+pub(crate) struct Lendable {
     memory: Memory,
 }
 
@@ -64,7 +64,7 @@ enum Memory {
     Hollow,
 }
 
-impl Model for Block {
+impl Model for Lendable {
     ghost use Rattle.std.specs.Prelude.{List, ℕ};
     ghost use Rattle.mc_slab.specs.Blocks.{bytes_in, IsBlock};
 
@@ -75,15 +75,15 @@ impl Model for Block {
     ghost invariant = { λ b. IsBlock b.memory };
 }
 
-impl Block {
+impl Lendable {
     /// Allocates one of `size` zeros. The only error is a refused allocation.
-    pub(crate) fn new(alloc: Global, size: usize) -> Result<Block, AllocError>
+    pub(crate) fn new(alloc: Global, size: usize) -> Result<Lendable, AllocError>
         ensures { IfOk result (λ block. length block ≡ size) }
     {
         let bytes = Vec::with_capacity(alloc, size.saturating_add(BESIDE))?;
         let mut large = Large { bytes };
         large.bytes.resize(size, 0)?;
-        Ok(Block {
+        Ok(Lendable {
             memory: shared(alloc, large),
         })
     }
@@ -136,7 +136,7 @@ impl Block {
         ensures size { length self.new ≡ length self.old }
         ensures kept { IsFalse result → self.new ≡ self.old }
     {
-        let Block { memory } = self;
+        let Lendable { memory } = self;
         exchange(memory, part)
     }
 
@@ -146,7 +146,7 @@ impl Block {
         ensures value { self.new ≡ with_part self.old at part.now }
         ensures size { length self.new ≡ length self.old }
     {
-        let Block { memory } = self;
+        let Lendable { memory } = self;
         if !write_in_place(memory, at, part) {
             let old = mem::replace(memory, Memory::Hollow);
             *memory = written_copy(old, at, part);

@@ -21,7 +21,7 @@ ghost use Rattle.mc_slab.specs.declared.held.Held.TheVariants.{Sheets};
 use crate::class::Class;
 use crate::cut;
 use crate::held::{self, Held};
-use crate::lone::Lone;
+use crate::lone::LoneChunk;
 use crate::need::Need;
 use crate::sheet::Sheet;
 use mc_bytes::Lent;
@@ -172,7 +172,7 @@ impl Chunks {
         requires { (27 ≤ class) × (class < 40) }
         ensures { IfOk result (AreChunksOf (record { class = class; count = 1 })) }
     {
-        let lone = Lone::new(alloc, class.size() as usize)?;
+        let lone = LoneChunk::new(alloc, class.size() as usize)?;
         Ok(of_lone(class, Box::new(alloc, lone)?))
     }
 
@@ -209,7 +209,7 @@ impl Chunks {
 }
 
 /// Returns the chunk of a class from 27 to 39 whose memory is given.
-fn of_lone(class: Class, lone: Box<Lone>) -> Chunks
+fn of_lone(class: Class, lone: Box<LoneChunk>) -> Chunks
     requires class { (27 ≤ class) × (class < 40) }
     requires size { length lone.value.bytes ≡ size_of class }
     requires head { length lone.value.head ≡ 304 }

@@ -14,11 +14,11 @@ const HEAD: usize = 304;
 
 /// The bytes of a head.
 #[derive(Drop)]
-pub(crate) struct Head {
+pub(crate) struct HeadBytes {
     bytes: [u8; HEAD],
 }
 
-impl Model for Head {
+impl Model for HeadBytes {
     ghost use Rattle.std.specs.Prelude.{◌≡◌, List, ℕ, length};
 
     ghost Value = { List ℕ };
@@ -28,12 +28,12 @@ impl Model for Head {
     ghost invariant = { λ h. length h.bytes ≡ 304 };
 }
 
-impl Head {
+impl HeadBytes {
     /// Returns a head of zeros.
-    pub(crate) fn new() -> Head
+    pub(crate) fn new() -> HeadBytes
         ensures { length result ≡ 304 }
     {
-        Head { bytes: [0; HEAD] }
+        HeadBytes { bytes: [0; HEAD] }
     }
 
     /// States that it has 304 bytes. It does nothing.

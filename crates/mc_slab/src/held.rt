@@ -21,7 +21,7 @@ ghost use Rattle.mc_slab.specs.Classes.{size_of};
 ghost use Rattle.mc_slab.specs.Helds.{chunks_in, first_in};
 
 use crate::class::{CLASSES, Class, LENT, each_class};
-use crate::lone::Lone;
+use crate::lone::LoneChunk;
 use crate::need::Need;
 use crate::sheet::Sheet;
 use mc_bytes::Lent;
@@ -58,19 +58,19 @@ pub(crate) enum Held {
     C24(&'static mut [u8; 17352]),
     C25(&'static mut [u8; 21696]),
     C26(&'static mut [u8; 27120]),
-    C27(Box<Lone>),
-    C28(Box<Lone>),
-    C29(Box<Lone>),
-    C30(Box<Lone>),
-    C31(Box<Lone>),
-    C32(Box<Lone>),
-    C33(Box<Lone>),
-    C34(Box<Lone>),
-    C35(Box<Lone>),
-    C36(Box<Lone>),
-    C37(Box<Lone>),
-    C38(Box<Lone>),
-    C39(Box<Lone>),
+    C27(Box<LoneChunk>),
+    C28(Box<LoneChunk>),
+    C29(Box<LoneChunk>),
+    C30(Box<LoneChunk>),
+    C31(Box<LoneChunk>),
+    C32(Box<LoneChunk>),
+    C33(Box<LoneChunk>),
+    C34(Box<LoneChunk>),
+    C35(Box<LoneChunk>),
+    C36(Box<LoneChunk>),
+    C37(Box<LoneChunk>),
+    C38(Box<LoneChunk>),
+    C39(Box<LoneChunk>),
     Sheets(Box<Sheet>),
 }
 
@@ -362,7 +362,7 @@ fn copy(bytes: &mut [u8], part: &[u8])
 }
 
 /// Lends the memory of a chunk of a class from 27 to 39.
-fn lone(held: &Held) -> &Lone
+fn lone(held: &Held) -> &LoneChunk
     requires { (27 ≤ (chunks_in held.now).class) × ((chunks_in held.now).class < 40) }
     ensures { result.now.bytes ≡ (chunks_in held.now).bytes }
 {
@@ -370,7 +370,7 @@ fn lone(held: &Held) -> &Lone
 }
 
 /// Returns where a chunk of a class from 27 to 39 lies whose memory is given.
-pub(crate) fn of_lone(class: Class, lone: Box<Lone>) -> Held
+pub(crate) fn of_lone(class: Class, lone: Box<LoneChunk>) -> Held
     requires { (27 ≤ class) × (class < 40) }
     ensures { chunks_in result ≡ record {
       class = class;

@@ -3,20 +3,20 @@
 ghost use Rattle.std.specs.Prelude.{◌≡◌, ◌+◌, ◌-◌, ◌≤◌, length, take, drop, IfOk, IfSome, IsTrue, IsFalse};
 ghost use Rattle.mc_slab.specs.Chunks.{with_part};
 
-use crate::block::Block;
-use crate::head::Head;
+use crate::block::Lendable;
+use crate::head::HeadBytes;
 use mc_bytes::Lent;
 use std::alloc::{AllocError, Global};
 use std::marker::Model;
 
 /// A block with its head. Contracts see the bytes of both.
 #[derive(Drop)]
-pub(crate) struct Lone {
-    head: Head,
-    block: Block,
+pub(crate) struct LoneChunk {
+    head: HeadBytes,
+    block: Lendable,
 }
 
-impl Model for Lone {
+impl Model for LoneChunk {
     ghost use Rattle.std.specs.Prelude.{◌≡◌, length};
     ghost use Rattle.mc_slab.specs.Blocks.{LoneState, coded_lone};
 
@@ -29,17 +29,17 @@ impl Model for Lone {
     ghost invariant = { λ l. length l.head ≡ 304 };
 }
 
-impl Lone {
+impl LoneChunk {
     /// Allocates the memory of `size` zeros, with a head of zeros.
     ///
     /// The only error is a refused allocation.
-    pub(crate) fn new(alloc: Global, size: usize) -> Result<Lone, AllocError>
+    pub(crate) fn new(alloc: Global, size: usize) -> Result<LoneChunk, AllocError>
         ensures { IfOk result (λ lone.
             (length lone.bytes ≡ size) × (length lone.head ≡ 304)) }
     {
-        Ok(Lone {
-            head: Head::new(),
-            block: Block::new(alloc, size)?,
+        Ok(LoneChunk {
+            head: HeadBytes::new(),
+            block: Lendable::new(alloc, size)?,
         })
     }
 

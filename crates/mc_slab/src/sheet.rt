@@ -4,7 +4,7 @@ ghost use Rattle.std.specs.Prelude.{◌≡◌, ◌+◌, ◌-◌, ◌*◌, ◌<�
 ghost use Rattle.mc_slab.specs.Chunks.{with_part};
 ghost use Rattle.mc_slab.specs.Sheets.{sheets_in};
 
-use crate::head::Head;
+use crate::head::HeadBytes;
 use crate::whole::{WHOLE, Whole};
 use mc_bytes::Lent;
 use std::alloc::{AllocError, Global};
@@ -18,7 +18,7 @@ use std::mem;
 #[cycle(sheet)]
 #[derive(Drop)]
 pub(crate) struct Sheet {
-    head: Head,
+    head: HeadBytes,
     node: Node,
 }
 
@@ -55,7 +55,7 @@ impl Sheet {
             × (length sheet.value.1.0 ≡ 1048576) × (length sheet.value.1.1 ≡ 304)) }
     {
         let sheet = Sheet {
-            head: Head::new(),
+            head: HeadBytes::new(),
             node: Node::Last(Whole::new(alloc)?),
         };
         Ok(Box::new(alloc, sheet)?)

@@ -3,7 +3,7 @@
 ghost use Rattle.std.specs.Prelude.{◌≡◌, ◌+◌, ◌-◌, ◌≤◌, length, take, drop, IfOk, IfSome, IsTrue, IsFalse};
 ghost use Rattle.mc_slab.specs.Chunks.{with_part};
 
-use crate::block::Block;
+use crate::block::Lendable;
 use crate::class::PAGE;
 use mc_bytes::Lent;
 use std::alloc::{AllocError, Global};
@@ -15,7 +15,7 @@ pub(crate) const WHOLE: usize = PAGE as usize;
 /// A chunk of a page's bytes. Contracts see its bytes.
 #[derive(Drop)]
 pub(crate) struct Whole {
-    block: Block,
+    block: Lendable,
 }
 
 impl Model for Whole {
@@ -34,7 +34,7 @@ impl Whole {
         ensures { IfOk result (λ whole. length whole ≡ 1048576) }
     {
         Ok(Whole {
-            block: Block::new(alloc, WHOLE)?,
+            block: Lendable::new(alloc, WHOLE)?,
         })
     }
 

@@ -3,10 +3,10 @@ use Rattle.std.proofs.Common.{◌≡◌, ◌∙◌, ◌||◌, ℕ, Bool, List, M
 use Rattle.mc_sockets.specs.Places.{AsksIfUnheard, AsksOrCloses, EndsIfIdle, Finds, HappensTo, Look, lingers, seen_waiting}
 use Rattle.mc_sockets.specs.Readiness.{AskedAgain, Ended}
 use Rattle.mc_sockets.specs.declared.connection.Parting.{Parting}
-use Rattle.mc_sockets.specs.declared.place.Place.{Place}
+use Rattle.mc_sockets.specs.declared.place.LinkRecord.{LinkRecord}
 use Rattle.mc_sockets.specs.declared.readiness.Readiness.{Readiness}
 
-module _ {F : Type 0} (known : F → Option Readiness) (look : Look) (IsFull : Type 0) (old new : Place F) (old_names new_names : List ℕ) (is_so : Bool) (seen : Place F)
+module _ {F : Type 0} (known : F → Option Readiness) (look : Look) (IsFull : Type 0) (old new : LinkRecord F) (old_names new_names : List ℕ) (is_so : Bool) (seen : LinkRecord F)
     (first : seen.number ≡ old.number) (then : new.number ≡ seen.number) where
   -- nothing but the look is noted
   abbrev IsNoted : Type 0

@@ -5,7 +5,7 @@ use Rattle.std.proofs.lemmas.Option.{slice_get_read, slice_get_cases}
 use Rattle.mio.specs.declared.event.event.Event.{Event}
 use Rattle.mio.specs.declared.token.Token.{Token}
 use Rattle.mio.specs.Event.{event_token}
-use Rattle.mc_sockets.specs.declared.place.Place.{Place}
+use Rattle.mc_sockets.specs.declared.place.LinkRecord.{LinkRecord}
 use Rattle.mc_sockets.specs.declared.readiness.Readiness.{Readiness}
 use Rattle.mc_sockets.specs.declared.readiness.Report.{Report}
 use Rattle.mc_sockets.specs.declared.seats.Seats.{Seats}
@@ -19,7 +19,7 @@ pub some_at : {P : Type 0} (places : List P) (n at : ℕ) (place : P) (N : Type 
 some_at places n at place N Q len within is holds = subst (λ o. MatchOption o N Q) (sym (slice_get_read places n at place len within is)) holds
 
 -- that is done with the record of a place, and nothing else changes
-pub done_at : {F : Type 0} (N : Type 0) (act : Place F → Place F → List ℕ → List ℕ → Type 0) (n at : ℕ) (place left : Place F) (old new : Seats F)
+pub done_at : {F : Type 0} (N : Type 0) (act : LinkRecord F → LinkRecord F → List ℕ → List ℕ → Type 0) (n at : ℕ) (place left : LinkRecord F) (old new : Seats F)
     → n ≡ length old.places.items → at < n → place ≡ slice_index_or old.places.items at place → act place left old.named.items new.named.items
     → new.places.items ≡ slice_set old.places.items at left → new.given ≡ old.given
     → MatchOption (slice_get old.places.items at) N (λ stood. Acts act at stood old new)

@@ -5,7 +5,7 @@ use Rattle.std.specs.Time.{instant_nanos}
 use Rattle.std.specs.declared.time.Duration.{Duration}
 use Rattle.std.specs.declared.time.Instant.{Instant}
 use Rattle.mc_sockets.specs.declared.connection.Parting.{Parting}
-use Rattle.mc_sockets.specs.declared.place.Place.{Place}
+use Rattle.mc_sockets.specs.declared.place.LinkRecord.{LinkRecord}
 use Rattle.mc_sockets.specs.declared.readiness.Readiness.{Readiness}
 use Rattle.mc_sockets.specs.declared.readiness.Report.{Report}
 use Rattle.mc_sockets.specs.Readiness.{Happening, AskedAgain, Ended, Reported, after, names}
@@ -59,41 +59,41 @@ abbrev pub WasDropped : Option Readiness → (answer : Bool) → Type 0
 WasDropped known answer = IfSome known (λ stands. answer ≡ stands.leaves)
 
 -- that happens to the link of a record: its own number is named if one is
-pub record HappensTo {F : Type 0} (known : F → Option Readiness) (happening : Happening) (IsFull : Type 0) (old new : Place F) (old_names new_names : List ℕ) : Type 0 where
+pub record HappensTo {F : Type 0} (known : F → Option Readiness) (happening : Happening) (IsFull : Type 0) (old new : LinkRecord F) (old_names new_names : List ℕ) : Type 0 where
   pub number : new.number ≡ old.number
   pub happens : Happens happening old.number IsFull (known old.readiness) (known new.readiness) old_names new_names
 
 -- what a report tells happens to the link of a record; the answer is whether the link was dropped
-pub record Notes {F : Type 0} (known : F → Option Readiness) (report : Report) (IsFull : Type 0) (answer : Bool) (old new : Place F) (old_names new_names : List ℕ) : Type 0 where
+pub record Notes {F : Type 0} (known : F → Option Readiness) (report : Report) (IsFull : Type 0) (answer : Bool) (old new : LinkRecord F) (old_names new_names : List ℕ) : Type 0 where
   pub happens : HappensTo known (Reported report) IsFull old new old_names new_names
   pub left : WasDropped (known old.readiness) answer
 
 -- the same if its number is this, and nothing if it has another
-pub record HappensIf {F : Type 0} (known : F → Option Readiness) (happening : Happening) (number : ℕ) (IsFull : Type 0) (old new : Place F) (old_names new_names : List ℕ) : Type 0 where
+pub record HappensIf {F : Type 0} (known : F → Option Readiness) (happening : Happening) (number : ℕ) (IsFull : Type 0) (old new : LinkRecord F) (old_names new_names : List ℕ) : Type 0 where
   pub own : old.number ≡ number → Happens happening number IsFull (known old.readiness) (known new.readiness) old_names new_names
   pub others : (old.number ≡ number → ⊥) → (new ≡ old) × (new_names ≡ old_names)
 
 -- a connection ends if its link has waited for the limit, and else only the look is noted
-pub record EndsIfIdle {F : Type 0} (known : F → Option Readiness) (look : Look) (parting : Parting) (IsFull : Type 0) (old new : Place F) (old_names new_names : List ℕ) : Type 0 where
+pub record EndsIfIdle {F : Type 0} (known : F → Option Readiness) (look : Look) (parting : Parting) (IsFull : Type 0) (old new : LinkRecord F) (old_names new_names : List ℕ) : Type 0 where
   pub has_waited : Bool
-  pub seen : Place F
+  pub seen : LinkRecord F
   pub number : new.number ≡ old.number
   pub finds : Finds (known old.readiness) look (λ stood. stood.waits) (λ stood. seen_waiting stood old.waits_since) has_waited seen.waits_since
   pub ends : MatchBool has_waited (HappensTo known (Ended parting) IsFull seen new old_names new_names) ((new ≡ seen) × (new_names ≡ old_names))
 
 -- A link is asked again if it waits or was dropped, and nothing was heard of it for the limit. Else only the
 -- look is noted.
-pub record AsksIfUnheard {F : Type 0} (known : F → Option Readiness) (look : Look) (IsFull : Type 0) (old new : Place F) (old_names new_names : List ℕ) : Type 0 where
+pub record AsksIfUnheard {F : Type 0} (known : F → Option Readiness) (look : Look) (IsFull : Type 0) (old new : LinkRecord F) (old_names new_names : List ℕ) : Type 0 where
   pub is_unheard : Bool
-  pub seen : Place F
+  pub seen : LinkRecord F
   pub number : new.number ≡ old.number
   pub finds : Finds (known old.readiness) look (λ stood. stood.waits || stood.leaves) (λ _. old.asked_since) is_unheard seen.asked_since
   pub asks : MatchBool is_unheard (HappensTo known AskedAgain IsFull seen new old_names new_names) ((new ≡ seen) × (new_names ≡ old_names))
 
 -- one that has lingered for its limit is to be closed, and any other is asked again if nothing was heard of it
-pub record AsksOrCloses {F : Type 0} (known : F → Option Readiness) (linger look : Look) (IsFull : Type 0) (old new : Place F) (old_names new_names : List ℕ) : Type 0 where
+pub record AsksOrCloses {F : Type 0} (known : F → Option Readiness) (linger look : Look) (IsFull : Type 0) (old new : LinkRecord F) (old_names new_names : List ℕ) : Type 0 where
   pub has_lingered : Bool
-  pub seen : Place F
+  pub seen : LinkRecord F
   pub number : new.number ≡ old.number
   pub finds : Finds (known old.readiness) linger (λ stood. lingers stood) (λ _. old.lingers_since) has_lingered seen.lingers_since
   pub asks : MatchBool has_lingered ((new ≡ seen) × (new_names ≡ old_names)) (AsksIfUnheard known look IsFull seen new old_names new_names)

@@ -5,7 +5,7 @@ use Rattle.mio.specs.declared.event.event.Event.{Event}
 use Rattle.mio.specs.Event.{event_token}
 use Rattle.mc_sockets.specs.Places.{Notes}
 use Rattle.mc_sockets.specs.Readiness.{report_of}
-use Rattle.mc_sockets.specs.declared.place.Place.{Place}
+use Rattle.mc_sockets.specs.declared.place.LinkRecord.{LinkRecord}
 use Rattle.mc_sockets.specs.declared.readiness.Readiness.{Readiness}
 use Rattle.mc_sockets.specs.declared.seats.Seats.{Seats}
 
@@ -19,14 +19,14 @@ module _ {F : Type 0} where
   HasRoom seats = vec_len seats.places < vec_capacity seats.places
 
   -- what is done with the record of a place, and with the names: no other place changes
-  pub record Acts (act : Place F → Place F → List ℕ → List ℕ → Type 0) (at : ℕ) (place : Place F) (old new : Seats F) : Type 0 where
-    pub left : Place F
+  pub record Acts (act : LinkRecord F → LinkRecord F → List ℕ → List ℕ → Type 0) (at : ℕ) (place : LinkRecord F) (old new : Seats F) : Type 0 where
+    pub left : LinkRecord F
     pub acts : act place left old.named.items new.named.items
     pub places : new.places.items ≡ slice_set old.places.items at left
     pub given : new.given ≡ old.given
 
   -- that is done at a place, if there is one, and at no other
-  abbrev pub ActsAt : (Place F → Place F → List ℕ → List ℕ → Type 0) → ℕ → Seats F → Seats F → Type 0
+  abbrev pub ActsAt : (LinkRecord F → LinkRecord F → List ℕ → List ℕ → Type 0) → ℕ → Seats F → Seats F → Type 0
   ActsAt act at old new = MatchOption (slice_get old.places.items at) (new ≡ old) (λ place. Acts act at place old new)
 
   -- a step at each place before this one, from the first on
@@ -35,11 +35,11 @@ module _ {F : Type 0} where
     one_more : (at : ℕ) (old mid new : Seats F) → AtEach step at old mid → step at mid new → AtEach step (at + 1) old new
 
   -- that is done at a place, and answered; without a record there nothing is done, and the answer is no
-  abbrev pub AnswersAt : (act : Bool → Place F → Place F → List ℕ → List ℕ → Type 0) → ℕ → (answer : Bool) → Seats F → Seats F → Type 0
+  abbrev pub AnswersAt : (act : Bool → LinkRecord F → LinkRecord F → List ℕ → List ℕ → Type 0) → ℕ → (answer : Bool) → Seats F → Seats F → Type 0
   AnswersAt act at answer old new = MatchOption (slice_get old.places.items at) ((answer ≡ false) × (new ≡ old)) (λ place. Acts (act answer) at place old new)
 
   -- That is done at a place. What the link there left is sent if the answer is yes, and else nothing is sent.
-  pub record SendsAt {R : Type 0} (sends : R → ℕ → R → Type 0) (act : Bool → Place F → Place F → List ℕ → List ℕ → Type 0) (at : ℕ) (old new : Seats F) (old_rests new_rests : R) : Type 0 where
+  pub record SendsAt {R : Type 0} (sends : R → ℕ → R → Type 0) (act : Bool → LinkRecord F → LinkRecord F → List ℕ → List ℕ → Type 0) (at : ℕ) (old new : Seats F) (old_rests new_rests : R) : Type 0 where
     pub answer : Bool
     pub answers : AnswersAt act at answer old new
     pub rest : MatchBool answer (sends old_rests at new_rests) (new_rests ≡ old_rests)
@@ -60,7 +60,7 @@ module _ {F : Type 0} where
 
   -- a link gets a place: its record has the next number, and stands there or behind all others
   pub record Settles (at : ℕ) (cell : F) (old new : Seats F) : Type 0 where
-    pub place : Place F
+    pub place : LinkRecord F
     pub number : place.number ≡ old.given
     pub readiness : place.readiness ≡ cell
     pub there : at < length old.places.items → new.places.items ≡ slice_set old.places.items at place

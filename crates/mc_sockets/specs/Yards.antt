@@ -3,8 +3,8 @@ use Rattle.std.specs.Prelude.{◌≡◌, ◌≢◌, ℕ, Bool, false, if◌then�
 use Rattle.std.specs.Box.{box_value}
 use Rattle.std.specs.declared.alloc.AllocError.{AllocError}
 use Rattle.slab.specs.Slab.{Slab, get}
-use Rattle.mc_sockets.specs.declared.yard.Spot.{Spot}
-use Rattle.mc_sockets.specs.declared.yard.Spot.TheVariants as spot
+use Rattle.mc_sockets.specs.declared.yard.YardSpot.{YardSpot}
+use Rattle.mc_sockets.specs.declared.yard.YardSpot.TheVariants as spot
 
 -- A place: nobody has it, a link has it, or what a link left lingers there.
 pub data PlaceState (L : Type 0) : Type 0 where
@@ -12,41 +12,41 @@ pub data PlaceState (L : Type 0) : Type 0 where
   InUse : PlaceState L
   Lingering : (one : L) → PlaceState L
 
-abbrev pub state_of : {L : Type 0} → Option (Spot L) → PlaceState L
+abbrev pub state_of : {L : Type 0} → Option (YardSpot L) → PlaceState L
 state_of None = Free
 state_of (Some spot.InUse) = InUse
 state_of (Some (spot.Lingers one)) = Lingering (box_value one)
 
 -- what is at a place
-abbrev pub place_at : {L : Type 0} → Slab (Spot L) → ℕ → PlaceState L
+abbrev pub place_at : {L : Type 0} → Slab (YardSpot L) → ℕ → PlaceState L
 place_at spots place = state_of (get spots place)
 
 -- this place changes to that, and no other changes
-pub record Changes {L : Type 0} (old new : Slab (Spot L)) (place : ℕ) (state : PlaceState L) : Type 0 where
+pub record Changes {L : Type 0} (old new : Slab (YardSpot L)) (place : ℕ) (state : PlaceState L) : Type 0 where
   pub changed : place_at new place ≡ state
   pub others : (other : ℕ) → other ≢ place → place_at new other ≡ place_at old other
 
 -- what a link left lingers at its place, which is free if memory is refused
-abbrev pub Stays : {L : Type 0} → (L → L → Type 0) → ℕ → L → Result (Unit {0}) AllocError → Slab (Spot L) → Slab (Spot L) → Type 0
+abbrev pub Stays : {L : Type 0} → (L → L → Type 0) → ℕ → L → Result (Unit {0}) AllocError → Slab (YardSpot L) → Slab (YardSpot L) → Type 0
 Stays {L} leaves place one (Ok done) old new = (left : L) × leaves one left × Changes old new place (Lingering left)
 Stays {L} leaves place one (Err refused) old new = Changes old new place Free
 
 -- what becomes of a place whose link is dropped: it is free if nothing is left to do, and what the link
 -- left lingers there if something is, unless memory for it is refused
-abbrev pub TakesIn : {L : Type 0} → (L → Bool → L → Type 0) → (L → L → Type 0) → ℕ → L → Result (Unit {0}) AllocError → Slab (Spot L) → Slab (Spot L) → Type 0
+abbrev pub TakesIn : {L : Type 0} → (L → Bool → L → Type 0) → (L → L → Type 0) → ℕ → L → Result (Unit {0}) AllocError → Slab (YardSpot L) → Slab (YardSpot L) → Type 0
 TakesIn {L} looks leaves place one result old new =
     (is_done : Bool) × (seen : L) × looks one is_done seen
     × MatchBool is_done (IsOk result × Changes old new place Free) (Stays leaves place seen result old new)
 
 -- What lingers there is sent, and answers whether nothing is left to do; where nothing lingers, something is.
-abbrev pub SpotSent : {L : Type 0} → (L → Bool → L → Type 0) → Spot L → Bool → Spot L → Type 0
+abbrev pub SpotSent : {L : Type 0} → (L → Bool → L → Type 0) → YardSpot L → Bool → YardSpot L → Type 0
 SpotSent sends spot.InUse is_done new = (is_done ≡ false) × (new ≡ spot.InUse)
 SpotSent {L} sends (spot.Lingers one) is_done new =
     (left : L) × sends (box_value one) is_done left × (state_of (Some new) ≡ Lingering left)
 
 -- What lingers at a place is sent, and answers whether nothing is left to do. Where nothing lingers,
 -- something is, and nothing changes.
-abbrev pub HasSent : {L : Type 0} → (L → Bool → L → Type 0) → ℕ → PlaceState L → Bool → Slab (Spot L) → Slab (Spot L) → Type 0
+abbrev pub HasSent : {L : Type 0} → (L → Bool → L → Type 0) → ℕ → PlaceState L → Bool → Slab (YardSpot L) → Slab (YardSpot L) → Type 0
 HasSent sends place Free is_done old new = (is_done ≡ false) × (new ≡ old)
 HasSent sends place InUse is_done old new = (is_done ≡ false) × (new ≡ old)
 HasSent {L} sends place (Lingering one) is_done old new =
@@ -54,7 +54,7 @@ HasSent {L} sends place (Lingering one) is_done old new =
 
 -- What lingers at a place is sent, and the place is free if nothing is left to do then. Nothing happens
 -- at any other place.
-abbrev pub SendsRest : {L : Type 0} → (L → Bool → L → Type 0) → ℕ → PlaceState L → Slab (Spot L) → Slab (Spot L) → Type 0
+abbrev pub SendsRest : {L : Type 0} → (L → Bool → L → Type 0) → ℕ → PlaceState L → Slab (YardSpot L) → Slab (YardSpot L) → Type 0
 SendsRest sends place Free old new = new ≡ old
 SendsRest sends place InUse old new = new ≡ old
 SendsRest {L} sends place (Lingering one) old new =

@@ -30,7 +30,7 @@ enum Stop {
 
 /// The result of an accept.
 #[derive(Drop)]
-enum Came {
+enum AcceptResult {
     Connection(Connection),
     /// A connection that was closed, or failed before it was accepted.
     Nothing,
@@ -44,7 +44,7 @@ enum Came {
 /// closed. Otherwise it would stay in the listener's queue, and each further accept would fail at
 /// once.
 #[derive(Drop)]
-struct Door {
+struct ListenerWithSpare {
     listener: TcpListener,
     spare: Option<TcpListener>,
     crowd: Arc<Crowd>,
@@ -62,7 +62,7 @@ pub fn accept_all<R: Wait + Clock>(
     crowd: Arc<Crowd>,
     arrivals: &Arrivals,
 ) {
-    let mut door = Door::new(listener, crowd);
+    let mut door = ListenerWithSpare::new(listener, crowd);
     if let Stop::Asked = door.deal_all(rt, arrivals, 0) {
         door.close(rt);
     }
@@ -80,17 +80,17 @@ pub fn accept_beside<R: Wait + Clock>(
     arrivals: &Arrivals,
     turn: usize,
 ) {
-    let mut door = Door::new(listener, crowd);
+    let mut door = ListenerWithSpare::new(listener, crowd);
     if let Stop::Failed = door.deal_all(rt, arrivals, turn) {
         arrivals.end();
     }
 }
 
-impl Door {
+impl ListenerWithSpare {
     /// Returns a listener with a spare descriptor; its connections count in this crowd.
-    fn new(listener: TcpListener, crowd: Arc<Crowd>) -> Door {
+    fn new(listener: TcpListener, crowd: Arc<Crowd>) -> ListenerWithSpare {
         let spare = listener.try_clone().ok();
-        Door {
+        ListenerWithSpare {
             listener,
             spare,
             crowd,
@@ -103,21 +103,21 @@ impl Door {
         let mut turn = turn;
         for _ in rt.forever() {
             match self.accept(rt, arrivals) {
-                Came::Connection(connection) => {
+                AcceptResult::Connection(connection) => {
                     turn = arrivals.deal(rt, connection, turn);
                 }
-                Came::Nothing => {}
-                Came::Stop(why) => return why,
+                AcceptResult::Nothing => {}
+                AcceptResult::Stop(why) => return why,
             }
         }
         Stop::Failed
     }
 
     /// Waits for the next connection. One that comes after the program is asked to end is closed.
-    fn accept<R: Clock>(&mut self, rt: &R, arrivals: &Arrivals) -> Came {
+    fn accept<R: Clock>(&mut self, rt: &R, arrivals: &Arrivals) -> AcceptResult {
         let accepted = self.listener.accept();
         if arrivals.begins_to_close() {
-            return Came::Stop(Stop::Asked);
+            return AcceptResult::Stop(Stop::Asked);
         }
         match accepted {
             Ok((stream, peer)) => {
@@ -129,9 +129,9 @@ impl Door {
     }
 
     /// Handles an error of accept by its remedy.
-    fn remedy<R: Clock>(&mut self, rt: &R, error: &io::Error) -> Came {
+    fn remedy<R: Clock>(&mut self, rt: &R, error: &io::Error) -> AcceptResult {
         match remedy_for(error) {
-            Remedy::End => return Came::Stop(Stop::Failed),
+            Remedy::End => return AcceptResult::Stop(Stop::Failed),
             Remedy::FreeSpare => return self.accept_by_spare(rt),
             Remedy::AwaitMemory => {
                 self.crowd.warn(rt, Warning::NoMemory);
@@ -141,7 +141,7 @@ impl Door {
             Remedy::Retry if self.has_failed => pause(rt),
             Remedy::Retry => self.has_failed = true,
         }
-        Came::Nothing
+        AcceptResult::Nothing
     }
 
     /// Notes that a connection was accepted, and makes the spare descriptor if there is none.
@@ -155,19 +155,19 @@ impl Door {
     /// Accepts the next connection with the spare descriptor, and closes it if there is no other.
     ///
     /// It pauses if there is no spare one, or if it doesn't help.
-    fn accept_by_spare<R: Clock>(&mut self, rt: &R) -> Came {
+    fn accept_by_spare<R: Clock>(&mut self, rt: &R) -> AcceptResult {
         self.crowd.warn(rt, Warning::NoDescriptor);
         if self.spare.is_none() {
             pause(rt);
             self.spare = self.listener.try_clone().ok();
-            return Came::Nothing;
+            return AcceptResult::Nothing;
         }
         self.spare = None;
         let accepted = self.listener.accept();
         self.spare = self.listener.try_clone().ok();
         let Ok((stream, peer)) = accepted else {
             pause(rt);
-            return Came::Nothing;
+            return AcceptResult::Nothing;
         };
         if self.spare.is_some() {
             return self.let_in(rt, stream, peer);
@@ -176,25 +176,30 @@ impl Door {
             connection.entry.note(Parting::NoDescriptor);
         }
         self.spare = self.listener.try_clone().ok();
-        Came::Nothing
+        AcceptResult::Nothing
     }
 
     /// Admits a connection, or refuses it with an error if the limit of connections is reached.
-    fn let_in<R: Clock>(&mut self, rt: &R, stream: std::net::TcpStream, peer: SocketAddr) -> Came {
+    fn let_in<R: Clock>(
+        &mut self,
+        rt: &R,
+        stream: std::net::TcpStream,
+        peer: SocketAddr,
+    ) -> AcceptResult {
         let Some(mut connection) = self.count_connection(stream, peer) else {
-            return Came::Nothing;
+            return AcceptResult::Nothing;
         };
         if connection.entry.is_one_too_many() {
             connection.refuse();
             self.crowd.warn(rt, Warning::TooManyConnections);
-            return Came::Nothing;
+            return AcceptResult::Nothing;
         }
-        Came::Connection(connection)
+        AcceptResult::Connection(connection)
     }
 
     /// Closes the listener, and waits until no connection is open, for at most 5 seconds.
     fn close<R: Clock>(self, rt: &R) {
-        let Door {
+        let ListenerWithSpare {
             listener,
             spare,
             crowd,

@@ -7,12 +7,12 @@ ghost use Rattle.std.specs.Prelude.{◌≡◌, ◌+◌, ◌++◌, length};
 ghost use Rattle.mc_sockets.specs.Channels.{ReadsBy, WritesBy};
 ghost use Rattle.mc_sockets.specs.Streams.{MovesIn, MovesOut};
 
-use crate::connection::{Entry, Parting};
+use crate::connection::{Parting, Registration};
 use crate::dropping::drop_input;
 use crate::readiness::{Readiness, ReadinessCell, SharedReadiness};
 use crate::stream::{Hindrance, Received, Sent, Stream, receive_again, send_again};
 use mc_guests::{Got, Link, LinkFault, Took};
-use mc_metrics::{Counted, Counts};
+use mc_metrics::{Counted, Counters};
 use mio::net::TcpStream;
 use std::cell::Cell;
 use std::net::Shutdown;
@@ -30,12 +30,12 @@ use std::sync::Arc;
 #[derive(Drop)]
 pub struct Channel<S: Stream + Drop, F: ReadinessCell + Drop> {
     stream: S,
-    entry: Entry,
+    entry: Registration,
     readiness: F,
     /// The bytes that all channels of the worker moved.
     moved: Rc<Cell<usize>>,
     /// The worker's counters.
-    counts: Arc<Counts>,
+    counts: Arc<Counters>,
     calls: Calls,
 }
 
@@ -61,10 +61,10 @@ impl<S: Stream + Drop, F: ReadinessCell + Drop> Channel<S, F> {
     /// It adds the bytes that it moves to `moved` and to the counters. It takes no memory.
     pub fn new(
         stream: S,
-        entry: Entry,
+        entry: Registration,
         readiness: F,
         moved: Rc<Cell<usize>>,
-        counts: Arc<Counts>,
+        counts: Arc<Counters>,
     ) -> Channel<S, F> {
         Channel {
             stream,

@@ -2,9 +2,9 @@
 //!
 //! A connection is counted from its accept until it is dropped, after the system closed it, so
 //! never more than `-c` are open. One more is accepted, answered with an error and closed. The
-//! reason for its close is kept in its [`Entry`].
+//! reason for its close is kept in its [`Registration`].
 
-use crate::lines::Line;
+use crate::lines::LogLine;
 use crate::log::Log;
 use crate::warning::Warning;
 use mio::net::TcpStream;
@@ -154,7 +154,7 @@ impl Crowd {
     fn enter(&self, peer: SocketAddr) -> u64 {
         let number = self.accepted.fetch_add(1, Ordering::SeqCst).wrapping_add(1);
         if let Some(log) = &self.log {
-            log.say(Line::Opened { number, peer });
+            log.say(LogLine::Opened { number, peer });
         }
         number
     }
@@ -178,30 +178,30 @@ impl Crowd {
             count.fetch_add(1, Ordering::SeqCst);
         }
         if let Some(log) = &self.log {
-            log.say(Line::Closed { number, parting });
+            log.say(LogLine::Closed { number, parting });
         }
     }
 }
 
 /// The entry of a connection among the open ones. It is counted until it is dropped.
-pub struct Entry {
+pub struct Registration {
     crowd: Arc<Crowd>,
     number: u64,
     parting: Parting,
 }
 
-impl Entry {
+impl Registration {
     ghost use Rattle.std.specs.Prelude.{◌≡◌};
 
     /// Counts a connection. It takes no memory.
-    pub fn new(crowd: Arc<Crowd>, peer: SocketAddr) -> Entry {
+    pub fn new(crowd: Arc<Crowd>, peer: SocketAddr) -> Registration {
         let number = crowd.enter(peer);
         let parting = if crowd.open_one() {
             Parting::OneTooMany
         } else {
             Parting::NoRoom
         };
-        Entry {
+        Registration {
             crowd,
             number,
             parting,
@@ -233,9 +233,9 @@ impl Entry {
     }
 }
 
-impl Drop for Entry {
+impl Drop for Registration {
     fn drop(self) {
-        let Entry {
+        let Registration {
             crowd,
             number,
             parting,
@@ -250,13 +250,13 @@ impl Drop for Entry {
 #[derive(Drop)]
 pub struct Connection {
     pub stream: TcpStream,
-    pub entry: Entry,
+    pub entry: Registration,
 }
 
 impl Connection {
     /// Returns a counted connection. It takes no memory.
     pub fn new(crowd: Arc<Crowd>, stream: TcpStream, peer: SocketAddr) -> Connection {
-        let entry = Entry::new(crowd, peer);
+        let entry = Registration::new(crowd, peer);
         Connection { stream, entry }
     }
 

@@ -13,7 +13,7 @@ use std::sync::atomic::{AtomicBool, AtomicU64, Ordering};
 
 /// What a line is about.
 #[derive(Clone, Copy)]
-pub enum Line {
+pub enum LogLine {
     Opened { number: u64, peer: SocketAddr },
     Closed { number: u64, parting: Parting },
     Warned(Warning),
@@ -21,8 +21,8 @@ pub enum Line {
 
 /// A waiting line, and how many lines were dropped before it since the last report of that.
 #[derive(Clone, Copy)]
-pub struct Waiting {
-    pub line: Line,
+pub struct WaitingLine {
+    pub line: LogLine,
     pub dropped: u64,
 }
 
@@ -31,7 +31,7 @@ pub struct Waiting {
 /// So neither ever finds it locked.
 #[derive(Drop)]
 struct Slot {
-    waiting: Mutex<Option<Waiting>>,
+    waiting: Mutex<Option<WaitingLine>>,
     is_filled: AtomicBool,
 }
 
@@ -45,7 +45,7 @@ impl Slot {
     }
 
     /// Stores a line.
-    fn fill(&self, waiting: Waiting) {
+    fn fill(&self, waiting: WaitingLine) {
         if let Some(mut place) = self.waiting.try_lock() {
             *place = Some(waiting);
             drop(place);
@@ -54,7 +54,7 @@ impl Slot {
     }
 
     /// Takes its line, if it has one.
-    fn empty(&self) -> Option<Waiting> {
+    fn empty(&self) -> Option<WaitingLine> {
         if !self.is_filled.load(Ordering::SeqCst) {
             return None;
         }
@@ -102,7 +102,7 @@ impl Lines {
     }
 
     /// Appends a line, or drops it if there is no place.
-    pub fn push(&self, line: Line) {
+    pub fn push(&self, line: LogLine) {
         let most = self.slots.len() as u64;
         if self.taken.fetch_add(1, Ordering::SeqCst) >= most {
             self.taken.fetch_sub(1, Ordering::SeqCst);
@@ -112,12 +112,12 @@ impl Lines {
         let turn = self.dealt.fetch_add(1, Ordering::SeqCst);
         if let Some(slot) = self.slot(turn) {
             let dropped = self.take_dropped();
-            slot.fill(Waiting { line, dropped });
+            slot.fill(WaitingLine { line, dropped });
         }
     }
 
     /// Takes the line of a turn, if it is there. Turns are taken in order, from 0.
-    pub fn take(&self, turn: u64) -> Option<Waiting> {
+    pub fn take(&self, turn: u64) -> Option<WaitingLine> {
         let waiting = self.slot(turn)?.empty()?;
         self.taken.fetch_sub(1, Ordering::SeqCst);
         Some(waiting)

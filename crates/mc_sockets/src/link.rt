@@ -16,11 +16,11 @@ use std::rc::Rc;
 /// When it is dropped, output that the system doesn't take at once stays in the yard.
 #[derive(Drop)]
 pub struct SocketLink {
-    parts: Box<Parts>,
+    parts: Box<LinkParts>,
 }
 
 /// What a link has on the heap.
-struct Parts {
+struct LinkParts {
     gathering: Gathering<SocketChannel>,
     place: usize,
     yard: Rc<RefCell<SocketYard>>,
@@ -35,7 +35,7 @@ impl SocketLink {
         place: usize,
         yard: Rc<RefCell<SocketYard>>,
     ) -> Option<SocketLink> {
-        let parts = Parts {
+        let parts = LinkParts {
             gathering: Gathering::new(alloc, channel),
             place,
             yard,
@@ -84,13 +84,13 @@ impl Link for SocketLink {
     }
 }
 
-impl Drop for Parts {
+impl Drop for LinkParts {
     fn drop(mut self) {
         if self.gathering.faults() == 0 {
             // if that fails, the client no longer reads
             let _ = self.gathering.flush();
         }
-        let Parts {
+        let LinkParts {
             gathering,
             place,
             yard,

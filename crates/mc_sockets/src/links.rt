@@ -13,7 +13,7 @@ use crate::readiness::{Readiness, SharedReadiness};
 use crate::seats::{Rests, Seats, token_of};
 use crate::yard::SocketYard;
 use mc_guests::{Links, Next};
-use mc_metrics::Counts;
+use mc_metrics::Counters;
 use mio::{Events, Interest, Poll, Token};
 use std::alloc::Global;
 use std::cell::{Cell, RefCell};
@@ -45,25 +45,25 @@ const LINGER: u64 = 2;
 
 /// What the links of one worker share.
 #[derive(Drop)]
-struct Common {
+struct LinkContext {
     /// The output that they leave behind.
     yard: Rc<RefCell<SocketYard>>,
     /// The bytes that they moved since the last poll.
     moved: Rc<Cell<usize>>,
 }
 
-impl Common {
+impl LinkContext {
     /// Makes what the first link shares with later ones. The only error is a refused allocation.
-    fn new(alloc: Global) -> Option<Common> {
-        Some(Common {
+    fn new(alloc: Global) -> Option<LinkContext> {
+        Some(LinkContext {
             yard: Rc::new(alloc, RefCell::new(SocketYard::new(alloc))).ok()?,
             moved: Rc::new(alloc, Cell::new(0)).ok()?,
         })
     }
 
     /// Returns a further reference.
-    fn another(&self) -> Option<Common> {
-        Some(Common {
+    fn another(&self) -> Option<LinkContext> {
+        Some(LinkContext {
             yard: self.yard.clone().ok()?,
             moved: self.moved.clone().ok()?,
         })
@@ -80,7 +80,7 @@ impl Common {
 /// What the links leave behind; there is nothing before the first link.
 ///
 /// What is sent is unspecified: the yard is shared with the links.
-impl Rests for Option<Common> {
+impl Rests for Option<LinkContext> {
     ghost use Rattle.std.specs.Prelude.{⊤};
 
     ghost sends = { λ _ _ _. ⊤ };
@@ -111,7 +111,7 @@ pub struct SocketLinks<'a, R: Wait + Clock> {
     /// The records of the links, and those to be named.
     seats: Seats<SharedReadiness>,
     /// What the links share; `None` before the first link.
-    common: Option<Common>,
+    common: Option<LinkContext>,
     /// Whether the last call for a link returned one.
     gave: bool,
     /// Finds idle connections; `None` without an idle timeout.
@@ -126,7 +126,7 @@ pub struct SocketLinks<'a, R: Wait + Clock> {
     polled: Option<Instant>,
     /// Finds connections that are to be tried again.
     unheard: Option<Watch>,
-    counts: Arc<Counts>,
+    counts: Arc<Counters>,
 }
 
 impl<'a, R: Wait + Clock> SocketLinks<'a, R> {
@@ -140,7 +140,7 @@ impl<'a, R: Wait + Clock> SocketLinks<'a, R> {
         arrivals: &'a Arrivals,
         share: Share,
         poller: Poller,
-        counts: Arc<Counts>,
+        counts: Arc<Counters>,
     ) -> SocketLinks<'a, R> {
         SocketLinks {
             rt,
@@ -272,7 +272,7 @@ impl<'a, R: Wait + Clock> SocketLinks<'a, R> {
         let _ = connection.stream.set_nodelay(true);
         let readiness = Rc::new(self.alloc, Cell::new(Readiness::NEW)).ok()?;
         let counts = self.counts.clone().ok()?;
-        let Common { yard, moved } = self.shared_parts()?;
+        let LinkContext { yard, moved } = self.shared_parts()?;
         let at = self.settle(&yard, readiness.clone().ok()?)?;
         let all = Interest::READABLE | Interest::WRITABLE | Interest::PRIORITY;
         let token = Token(token_of(at));
@@ -313,11 +313,11 @@ impl<'a, R: Wait + Clock> SocketLinks<'a, R> {
     }
 
     /// Returns what the links share, and makes it for the first one.
-    fn shared_parts(&mut self) -> Option<Common> {
+    fn shared_parts(&mut self) -> Option<LinkContext> {
         if let Some(common) = &self.common {
             return common.another();
         }
-        let common = Common::new(self.alloc)?;
+        let common = LinkContext::new(self.alloc)?;
         self.common = Some(common.another()?);
         Some(common)
     }

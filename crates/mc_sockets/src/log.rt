@@ -1,6 +1,6 @@
 //! Lines for standard error, on their way to the thread that writes them.
 
-use crate::lines::{Line, Lines, Waiting};
+use crate::lines::{Lines, LogLine, WaitingLine};
 use crate::shortage::{Shortage, Wanted};
 use crate::warning::{Warning, Warnings};
 use mc_protocol::KeyStep;
@@ -70,7 +70,7 @@ impl Log {
     /// Logs an event of a connection, if connections are logged.
     ///
     /// The line is dropped if too many wait. It never waits.
-    pub fn say(&self, line: Line) {
+    pub fn say(&self, line: LogLine) {
         if self.tells_connections {
             self.push(line);
         }
@@ -79,12 +79,12 @@ impl Log {
     /// Logs a warning, unless it was logged within a minute.
     pub fn warn<R: Clock>(&self, rt: &R, warning: Warning) {
         if self.warnings.is_due(rt, warning) {
-            self.push(Line::Warned(warning));
+            self.push(LogLine::Warned(warning));
         }
     }
 
     /// Appends a line, or drops it if too many wait. It never waits.
-    fn push(&self, line: Line) {
+    fn push(&self, line: LogLine) {
         self.lines.push(line);
         self.logger.unpark();
     }
@@ -92,7 +92,7 @@ impl Log {
     /// Takes the line of a turn, if it is there.
     ///
     /// Only the thread that writes calls it, with turns in order, from 0.
-    pub fn take_line(&self, turn: u64) -> Option<Waiting> {
+    pub fn take_line(&self, turn: u64) -> Option<WaitingLine> {
         self.lines.take(turn)
     }
 

@@ -10,7 +10,7 @@ use std::time::{Duration, Instant};
 
 /// A worker's record of a link.
 #[derive(Drop)]
-pub struct Place<F: ReadinessCell + Drop> {
+pub struct LinkRecord<F: ReadinessCell + Drop> {
     /// The number by which the link is named.
     number: u64,
     readiness: F,
@@ -22,7 +22,7 @@ pub struct Place<F: ReadinessCell + Drop> {
     lingers_since: Option<Instant>,
 }
 
-impl<F: ReadinessCell + Drop> Place<F> {
+impl<F: ReadinessCell + Drop> LinkRecord<F> {
     ghost use Rattle.std.specs.Prelude.{Some, None, IfSome};
     ghost use Rattle.std.specs.VecDeque.{deque_len, deque_capacity};
     ghost use Rattle.mc_sockets.specs.Readiness.{Reported, AskedAgain, Ended};
@@ -31,7 +31,7 @@ impl<F: ReadinessCell + Drop> Place<F> {
     ghost use Rattle.mc_sockets.specs.Places.{seen_waiting};
 
     /// Returns the record of a new link with this number.
-    pub fn new(number: u64, readiness: F) -> Place<F>
+    pub fn new(number: u64, readiness: F) -> LinkRecord<F>
         ensures { result ≡ record {
           number = number;
           readiness = readiness;
@@ -40,7 +40,7 @@ impl<F: ReadinessCell + Drop> Place<F> {
           lingers_since = None;
         } }
     {
-        Place {
+        LinkRecord {
             number,
             readiness,
             waits_since: None,

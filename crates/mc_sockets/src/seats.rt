@@ -7,7 +7,7 @@ ghost use Rattle.std.specs.Prelude.{◌≡◌, ◌<◌, ◌≤◌, ◌+◌, ◌-
 ghost use Rattle.std.specs.Prelude.{IsTrue, IsFalse, OnOk};
 
 use crate::connection::Parting;
-use crate::place::Place;
+use crate::place::LinkRecord;
 use crate::readiness::{ReadinessCell, Report};
 use mio::Events;
 use mio::event::Event;
@@ -30,7 +30,7 @@ pub trait Rests {
 /// The records of a worker's links by place, and the links to be named.
 #[derive(Drop)]
 pub struct Seats<F: ReadinessCell + Drop> {
-    places: Vec<Place<F>>,
+    places: Vec<LinkRecord<F>>,
     /// The numbers of the links to be named, oldest first.
     ///
     /// A waiting link is named once, so there are at most as many as places.
@@ -96,7 +96,7 @@ impl<F: ReadinessCell + Drop> Seats<F> {
         ensures succeeds { at ≤ length self.old.places.items → HasRoom self.old → IsTrue result }
         ensures refused { IsFalse result → self.new.places.items ≡ self.old.places.items }
     {
-        let place = Place::new(self.given, readiness);
+        let place = LinkRecord::new(self.given, readiness);
         if let Some(one) = self.places.get_mut(at) {
             *one = place;
             return true;

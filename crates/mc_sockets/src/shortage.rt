@@ -36,7 +36,7 @@ impl Wanted {
     /// Returns the word that encodes it, which is 2 or more.
     fn word(self) -> u64 {
         match self {
-            Wanted::Size(size) => size.max(HEAD),
+            Wanted::Size(size) => size.max(CHUNK_HEAD),
             Wanted::Growth => GROWTH,
         }
     }

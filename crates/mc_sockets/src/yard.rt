@@ -70,14 +70,14 @@ impl Lingering for Gathering<SocketChannel> {
 
 /// A place that isn't free.
 #[derive(Drop)]
-pub(crate) enum Spot<L: Lingering + Drop> {
+pub(crate) enum YardSpot<L: Lingering + Drop> {
     /// A link has it.
     InUse,
     /// What a link left lingers there.
     Lingers(Box<L>),
 }
 
-impl<L: Lingering + Drop> Spot<L> {
+impl<L: Lingering + Drop> YardSpot<L> {
     ghost use Rattle.mc_sockets.specs.Yards.{SpotSent};
 
     /// Sends what lingers there, and returns whether nothing is left to do.
@@ -85,8 +85,8 @@ impl<L: Lingering + Drop> Spot<L> {
         ensures { SpotSent L.sends self.old result self.new }
     {
         match self {
-            Spot::Lingers(one) => one.send_rest(),
-            Spot::InUse => false,
+            YardSpot::Lingers(one) => one.send_rest(),
+            YardSpot::InUse => false,
         }
     }
 }
@@ -95,7 +95,7 @@ impl<L: Lingering + Drop> Spot<L> {
 #[derive(Drop)]
 pub struct Yard<L: Lingering + Drop> {
     alloc: Global,
-    spots: Slab<Spot<L>>,
+    spots: Slab<YardSpot<L>>,
 }
 
 /// The yard of a worker's sockets.
@@ -130,7 +130,7 @@ impl<L: Lingering + Drop> Yard<L> {
         ensures taken { IfSome result (λ place.
             Changes self.old.spots self.new.spots place InUse) }
     {
-        self.spots.insert(Spot::InUse).ok()
+        self.spots.insert(YardSpot::InUse).ok()
     }
 
     /// Takes in what a link left that is dropped.
@@ -171,8 +171,8 @@ impl<L: Lingering + Drop> Yard<L> {
         ensures { IsTrue result ↔ (place_at self.now.spots place ≡ InUse) }
     {
         match self.spots.get(place) {
-            Some(Spot::InUse) => true,
-            Some(Spot::Lingers(_)) | None => false,
+            Some(YardSpot::InUse) => true,
+            Some(YardSpot::Lingers(_)) | None => false,
         }
     }
 
@@ -190,7 +190,7 @@ impl<L: Lingering + Drop> Yard<L> {
     {
         match Box::new(self.alloc, one) {
             Ok(one) => {
-                self.set(place, Spot::Lingers(one));
+                self.set(place, YardSpot::Lingers(one));
                 Ok(())
             }
             Err(_) => {
@@ -201,7 +201,7 @@ impl<L: Lingering + Drop> Yard<L> {
     }
 
     /// Sets a place that isn't free.
-    fn set(&mut self, place: usize, spot: Spot<L>)
+    fn set(&mut self, place: usize, spot: YardSpot<L>)
         requires { (place_at self.old.spots place ≡ Free) → ⊥ }
         ensures { self.new.spots ≡ with_value self.old.spots place spot }
     {

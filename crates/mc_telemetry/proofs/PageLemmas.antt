@@ -3,7 +3,7 @@ use Rattle.std.proofs.Common.{◌≡◌, refl, sym, ap, ◌∙◌, subst, ℕ, z
 use Rattle.std.specs.Prelude.{slice_get}
 use Rattle.std.proofs.lemmas.List.{append_assoc}
 use Rattle.mc_metrics.specs.declared.family.Family.{Family}
-use Rattle.mc_metrics.specs.declared.reading.Reading.{Reading}
+use Rattle.mc_metrics.specs.declared.reading.PageValues.{PageValues}
 use Rattle.mc_metrics.specs.Pages.{families_text, family_text, head_text, samples_text}
 use Rattle.mc_telemetry.specs.Labels.{commands_text, HasPart, HasCommands}
 
@@ -16,14 +16,14 @@ deeper more part text (before, after, is) = (
       ∙ sym (append_assoc (more ++ before) part after),
 )
 
-at_front : (reading : Reading) (f : Family) (fs : List Family)
+at_front : (reading : PageValues) (f : Family) (fs : List Family)
     → HasPart (samples_text reading f.1.now f.3) (families_text reading (f ∷ fs))
 at_front reading f fs = (head_text f.0 f.1.now f.2.now, families_text reading fs, refl)
 
 same : (f g : Family) → Some f ≡ Some g → f ≡ g
 same f g is = cc
 
-at_place : (reading : Reading) (families : List Family) (place : ℕ) (family : Family) → slice_get families place ≡ Some family
+at_place : (reading : PageValues) (families : List Family) (place : ℕ) (family : Family) → slice_get families place ≡ Some family
     → HasPart (samples_text reading family.1.now family.3) (families_text reading families)
 at_place reading [] place family is = cc
 at_place reading (f ∷ fs) zero family is =
@@ -32,7 +32,7 @@ at_place reading (f ∷ fs) (suc place) family is =
     deeper (family_text reading f) (samples_text reading family.1.now family.3) (families_text reading fs) (at_place reading fs place family is)
 
 -- one of the families has them, so the text of all has
-pub has_commands : (reading : Reading) (families : List Family) (page : List ℕ) → HasCommands families
+pub has_commands : (reading : PageValues) (families : List Family) (page : List ℕ) → HasCommands families
     → page ≡ families_text reading families → HasPart (commands_text reading) page
 has_commands reading families page (place, family, stands, is) text =
     subst (λ (whole : List ℕ). HasPart (commands_text reading) whole) (sym text)

@@ -2,7 +2,7 @@
 use Rattle.std.specs.Prelude.{◌≡◌, ℕ, Bool, List, length, take, min, ⊤}
 use Rattle.std.specs.declared.net.ip_addr.IpAddr.{IpAddr}
 use Rattle.mc_metrics.specs.Scrapes.{IsAskedToEnd}
-use Rattle.mc_metrics.specs.declared.answer.Answer.TheVariants.{Stopping}
+use Rattle.mc_metrics.specs.declared.answer.HttpAnswer.TheVariants.{Stopping}
 use Rattle.mc_telemetry.specs.declared.exchange.Due.{Due}
 use Rattle.mc_telemetry.specs.declared.exchange.Due.TheVariants.{Nothing, More, Answer, Close}
 

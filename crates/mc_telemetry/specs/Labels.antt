@@ -10,7 +10,7 @@ use Rattle.mc_metrics.specs.declared.counts.Counted.TheVariants as counted
 use Rattle.mc_metrics.specs.declared.family.Family.{Family}
 use Rattle.mc_metrics.specs.declared.reading.Figure.{Figure}
 use Rattle.mc_metrics.specs.declared.reading.Figure.TheVariants as figure
-use Rattle.mc_metrics.specs.declared.reading.Reading.{Reading}
+use Rattle.mc_metrics.specs.declared.reading.PageValues.{PageValues}
 use Rattle.mc_metrics.specs.Pages.{figure_of, sample_text, samples_text}
 
 -- a command and a result
@@ -109,7 +109,7 @@ abbrev pub commands_name : List ℕ
 commands_name = codes "memcached_commands_total"
 
 -- a line for each number of steps, with its counters' command and result
-abbrev pub commands_text : Reading → List ℕ
+abbrev pub commands_text : PageValues → List ℕ
 commands_text reading = flat_map (λ told. sample_text commands_name (labels_of told) (figure_of reading told)) command_figures
 
 -- a text has this part
@@ -120,4 +120,4 @@ HasPart part text = (before after : List ℕ) × (text ≡ before ++ part ++ aft
 abbrev pub HasCommands : List Family → Type 0
 HasCommands families =
     (place : ℕ) × (family : Family) × (slice_get families place ≡ Some family)
-    × ((reading : Reading) → samples_text reading family.1.now family.3 ≡ commands_text reading)
+    × ((reading : PageValues) → samples_text reading family.1.now family.3 ≡ commands_text reading)

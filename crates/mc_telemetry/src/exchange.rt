@@ -6,7 +6,7 @@ ghost use Rattle.std.specs.Prelude.{◌≡◌, IfOk, IfSome};
 ghost use Rattle.mc_metrics.specs.Scrapes.{IsAskedToEnd};
 ghost use Rattle.mc_telemetry.specs.Exchanges.{come, EndsRightly, EndsNothing};
 
-use mc_metrics::{Answer, NO_MEMORY, Reply, read_request};
+use mc_metrics::{HttpAnswer, HttpReply, NO_MEMORY, read_request};
 use mio::net::TcpStream;
 use std::alloc::{AllocError, Global};
 use std::io::{self, ErrorKind, Read, Write};
@@ -43,7 +43,7 @@ pub enum Due {
     /// It is to be asked to go on.
     More,
     /// Its request is to be answered.
-    Answer(Reply),
+    Answer(HttpReply),
     /// Its connection is to be closed.
     Close,
 }
@@ -141,7 +141,7 @@ impl Exchange {
         for _call in 0..CALLS {
             match self.read_piece() {
                 Ok(0) if self.came == 0 => return Due::Close,
-                Ok(0) => return Due::Answer(Reply::whole(Answer::Bad)),
+                Ok(0) => return Due::Answer(HttpReply::whole(HttpAnswer::Bad)),
                 Ok(count) => self.came = self.came.saturating_add(count),
                 Err(error) if error.kind() == ErrorKind::Interrupted => {}
                 Err(error) => return self.awaited(rt, &error, true),
@@ -163,8 +163,8 @@ impl Exchange {
     }
 
     /// Returns how the request is answered, if it is whole or can't be.
-    fn whole_request(&self) -> Option<Reply>
-        ensures { IfSome result (λ reply. reply.answer ≡ Answer.Stopping
+    fn whole_request(&self) -> Option<HttpReply>
+        ensures { IfSome result (λ reply. reply.answer ≡ HttpAnswer.Stopping
             → IsAskedToEnd self.now.may_quit self.now.peer
             (come self.now.came self.now.request.items)) }
     {
@@ -173,7 +173,7 @@ impl Exchange {
             .as_slice()
             .split_at(self.came.min(self.request.len()));
         match read_request(self.may_quit, self.peer, front) {
-            None if room.is_empty() => Some(Reply::whole(Answer::TooLong)),
+            None if room.is_empty() => Some(HttpReply::whole(HttpAnswer::TooLong)),
             reply => reply,
         }
     }
@@ -246,7 +246,7 @@ impl Exchange {
         if !self.is_late(rt) {
             Due::Nothing
         } else if reads {
-            Due::Answer(Reply::whole(Answer::TooSlow))
+            Due::Answer(HttpReply::whole(HttpAnswer::TooSlow))
         } else {
             Due::Close
         }

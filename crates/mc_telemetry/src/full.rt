@@ -5,7 +5,7 @@ use std::fmt::{self, Display, Formatter};
 
 /// The chunks that an item needs, and what their class has.
 #[derive(Clone, Copy)]
-pub struct Stock {
+pub struct ClassState {
     pub need: Need,
     pub account: Account,
 }
@@ -14,7 +14,7 @@ pub struct Stock {
 #[derive(Clone, Copy)]
 pub struct Full {
     /// What the refused item needs; nothing if its size isn't known.
-    pub stock: Option<Stock>,
+    pub stock: Option<ClassState>,
     /// The number of pages of the store.
     pub pages: u32,
     /// The number of pages that one item may take.
@@ -46,7 +46,7 @@ impl Display for Full {
     }
 }
 
-impl Stock {
+impl ClassState {
     /// Writes which chunks were wanted.
     fn write_need<W: fmt::Write>(&self, f: &mut Formatter<W>) -> fmt::Result {
         let class = self.need.class();
@@ -83,7 +83,7 @@ impl Stock {
     }
 }
 
-impl Display for Stock {
+impl Display for ClassState {
     fn fmt<W: fmt::Write>(&self, f: &mut Formatter<W>) -> fmt::Result {
         self.write_need(f)?;
         self.write_pages(f)?;

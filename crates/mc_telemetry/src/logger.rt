@@ -3,13 +3,13 @@
 //! One thread writes to standard error, so a full pipe stops no worker. The same thread reports
 //! that the store is full, and reads the class's counts by a caller of its own.
 
-use crate::full::{Full, Stock};
+use crate::full::{ClassState, Full};
 use crate::outlet::Outlet;
 use crate::stats::StoreStats;
 use mc_host::{Diagnostics, Level};
 use mc_options::{Endpoints, Options};
 use mc_slab::need_of;
-use mc_sockets::{Line, Log, Waiting, Wanted};
+use mc_sockets::{Log, LogLine, WaitingLine, Wanted};
 use std::io::{self, Stderr};
 use std::net::IpAddr;
 use std::sync::Wait;
@@ -92,7 +92,7 @@ impl Logger<'_> {
     /// one. A line that can't be written is dropped.
     fn write_next(&mut self) -> bool {
         let (log, turn) = (self.log, self.turn);
-        let Some(Waiting { line, dropped }) = log.take_line(turn) else {
+        let Some(WaitingLine { line, dropped }) = log.take_line(turn) else {
             self.tell_dropped(log.take_dropped());
             return false;
         };
@@ -150,13 +150,13 @@ impl Logger<'_> {
 }
 
 /// Returns what the class of the refused item has; nothing if the item's size isn't known.
-fn stock_of<R: Wait, S: StoreStats>(rt: &R, wanted: Wanted, stats: &mut S) -> Option<Stock> {
+fn stock_of<R: Wait, S: StoreStats>(rt: &R, wanted: Wanted, stats: &mut S) -> Option<ClassState> {
     let need = match wanted {
         Wanted::Size(size) => need_of(size)?,
         Wanted::Growth => return None,
     };
     let account = stats.account(rt, need.class());
-    Some(Stock { need, account })
+    Some(ClassState { need, account })
 }
 
 /// Returns how many pages an item of this size takes at most, and at least 1.
@@ -173,25 +173,25 @@ fn at_level(diagnostics: Diagnostics, level: Level) -> (Stderr, &'static str) {
 }
 
 /// Returns the level of a line.
-fn level_of(line: Line) -> Level {
+fn level_of(line: LogLine) -> Level {
     match line {
-        Line::Opened { .. } | Line::Closed { .. } => Level::Info,
-        Line::Warned(_) => Level::Warning,
+        LogLine::Opened { .. } | LogLine::Closed { .. } => Level::Info,
+        LogLine::Warned(_) => Level::Warning,
     }
 }
 
 /// Writes a line.
-fn write_line(diagnostics: Diagnostics, line: Line) -> io::Result<()> {
+fn write_line(diagnostics: Diagnostics, line: LogLine) -> io::Result<()> {
     let (stderr, level) = at_level(diagnostics, level_of(line));
     match line {
-        Line::Opened { number, peer } => {
+        LogLine::Opened { number, peer } => {
             eprintln!(stderr; "{level}mcserver: connection {number} from {peer} opened")
         }
-        Line::Closed { number, parting } => {
+        LogLine::Closed { number, parting } => {
             let why = parting.text();
             eprintln!(stderr; "{level}mcserver: connection {number} closed: {why}")
         }
-        Line::Warned(warning) => {
+        LogLine::Warned(warning) => {
             let text = warning.text();
             eprintln!(stderr; "{level}mcserver: warning: {text} (reported once a minute)")
         }

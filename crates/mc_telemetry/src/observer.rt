@@ -3,7 +3,8 @@
 use crate::process::process_now;
 use crate::stats::StoreStats;
 use mc_metrics::{
-    BuffersReading, COUNTED, Counts, ProcessReading, REFUSED, Reading, RefusedReading, SlabReading,
+    BuffersReading, COUNTED, Counters, PageValues, ProcessReading, REFUSED, RefusedReading,
+    SlabReading,
 };
 use mc_slab::class_of;
 use mc_sockets::{Crowd, PARTINGS};
@@ -24,7 +25,7 @@ pub struct Observer {
     /// The connections of the server.
     pub crowd: Arc<Crowd>,
     /// The counters of each worker.
-    pub counts: Vec<Arc<Counts>>,
+    pub counts: Vec<Arc<Counters>>,
     /// The number of pages that items may take.
     pub pages: u32,
     /// The limit of bytes of buffers that connections hold.
@@ -45,11 +46,11 @@ impl Observer {
         &self,
         rt: &R,
         stats: &mut S,
-    ) -> Result<Reading, AllocError> {
+    ) -> Result<PageValues, AllocError> {
         let alloc = rt.alloc();
         let tables = stats.tables(rt);
         let slabs = slabs_of(rt, alloc, stats)?;
-        Ok(Reading {
+        Ok(PageValues {
             counts: self.sum_counts(),
             closed: self.closed_counts(alloc)?,
             uptime: self.uptime(rt),

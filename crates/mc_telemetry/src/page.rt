@@ -7,14 +7,14 @@ ghost use Rattle.mc_telemetry.specs.Labels.{commands_text, HasCommands, HasPart}
 ghost use Rattle.mc_telemetry.specs.Names.{is_named};
 
 use crate::families::FAMILIES;
-use mc_metrics::{Family, Reading, page_of};
+use mc_metrics::{Family, PageValues, page_of};
 use std::alloc::{AllocError, Global};
 
 /// Returns the page of metrics with a reading. Each number stands behind its own name, and each
 /// counter of steps behind their command and their result.
 ///
 /// The one error is a refused allocation.
-pub fn metrics_page(alloc: Global, reading: &Reading) -> Result<Vec<u8>, AllocError>
+pub fn metrics_page(alloc: Global, reading: &PageValues) -> Result<Vec<u8>, AllocError>
     ensures commands { IfOk result (λ page. HasPart (commands_text reading.now) page.items) }
     ensures names { IfOk result (λ page. (families : List FamilyOf)
         × (list_all is_named families ≡ true)

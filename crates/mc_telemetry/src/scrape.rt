@@ -4,8 +4,8 @@ use crate::exchange::{Due, Exchange};
 use crate::observer::Observer;
 use crate::page::metrics_page;
 use crate::stats::StoreStats;
-use mc_host::Door;
-use mc_metrics::{Answer, Reply, response};
+use mc_host::ScrapeListener;
+use mc_metrics::{HttpAnswer, HttpReply, response};
 use mc_sockets::Arrivals;
 use mio::net::TcpStream;
 use std::alloc::{AllocError, AllocGlobal, Global};
@@ -23,7 +23,7 @@ const REST: u64 = 100;
 /// Answers requests over HTTP at one listener.
 #[derive(Drop)]
 pub struct MetricsServer {
-    door: Door,
+    door: ScrapeListener,
     observer: Observer,
     /// Whether peers of this machine may ask the program to end.
     may_quit: bool,
@@ -33,7 +33,12 @@ pub struct MetricsServer {
 
 impl MetricsServer {
     /// Takes a listener and what reads the values of a page. It takes no memory.
-    pub fn new(alloc: Global, door: Door, observer: Observer, may_quit: bool) -> MetricsServer {
+    pub fn new(
+        alloc: Global,
+        door: ScrapeListener,
+        observer: Observer,
+        may_quit: bool,
+    ) -> MetricsServer {
         MetricsServer {
             door,
             observer,
@@ -145,9 +150,11 @@ fn go_on<R: Files + AllocGlobal + Wait + Clock, S: StoreStats>(
 }
 
 /// Asks the server to end if a reply answers so. Returns the reply, or that it can't be asked.
-fn stopped_by(arrivals: &Arrivals, reply: Reply) -> Reply {
+fn stopped_by(arrivals: &Arrivals, reply: HttpReply) -> HttpReply {
     match reply.answer {
-        Answer::Stopping if !arrivals.ask_to_close() => Reply::whole(Answer::CannotStop),
+        HttpAnswer::Stopping if !arrivals.ask_to_close() => HttpReply::whole(
+            HttpAnswer::CannotStop,
+        ),
         _ => reply,
     }
 }
@@ -155,13 +162,13 @@ fn stopped_by(arrivals: &Arrivals, reply: Reply) -> Reply {
 /// Returns the text of a reply. The one error is a refused allocation.
 fn text_of<R: Files + AllocGlobal + Wait + Clock, S: StoreStats>(
     rt: &R,
-    reply: Reply,
+    reply: HttpReply,
     observer: &Observer,
     stats: &mut S,
 ) -> Result<Vec<u8>, AllocError> {
     let alloc = rt.alloc();
     match reply.answer {
-        Answer::Metrics => {
+        HttpAnswer::Metrics => {
             let reading = observer.read(rt, stats)?;
             let page = metrics_page(alloc, &reading)?;
             response(alloc, reply, page.as_slice())

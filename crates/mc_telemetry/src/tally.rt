@@ -5,7 +5,7 @@
 
 use crate::counting::counted_as;
 use mc_guests::{Outcome, Tally};
-use mc_metrics::{Counted, Counts};
+use mc_metrics::{Counted, Counters};
 use mc_protocol::KeyStep;
 use mc_slab::need_of;
 use mc_sockets::{Refusals, Wanted};
@@ -15,7 +15,7 @@ use mc_sockets::{Refusals, Wanted};
 #[derive(Clone, Copy)]
 pub struct WorkerTally<'a> {
     /// The counters of the worker.
-    pub counts: &'a Counts,
+    pub counts: &'a Counters,
     /// Where refused steps are noted.
     pub refusals: Refusals<'a>,
 }

@@ -3,7 +3,7 @@
 use Rattle.mc_world.proofs.Words.{◌≡◌, ℕ, zero, suc, ◌≤◌, Bool, true, false, List, [], ◌∷◌, ◌++◌, length, take, Option, Some, None, refl, sym, ap, ◌∙◌, subst, arith, append_assoc, if◌then◌else◌}
 use Rattle.mc_world.proofs.Words.{option_map, take-append-drop, SessionState, sent, Writes, nothing, front, Connection, PlainWorld, WorldState, numbered, output_of, open_session, IsIdle, IsClosed}
 use Rattle.mc_world.proofs.Words.{StandAll, WorldStandsAs, RunsIn, Told, with_written, in_front, with_front, in_world, with_sent, Event}
-use Rattle.mc_world.proofs.Words.{Seat, ◌+◌, ◌<◌, length-append, ◌⊎◌, inl, inr, ◌^◌, Result, Ok, Err}
+use Rattle.mc_world.proofs.Words.{WorldSession, ◌+◌, ◌<◌, length-append, ◌⊎◌, inl, inr, ◌^◌, Result, Ok, Err}
 use Rattle.mc_world.proofs.Words.{OnOk, mod-eq_of_lt, lt-ltb, IsAtEnd, Appends-nil, Appends-trans, Consumes-trans, Settings, Exchange, Wrote, Exchanges, HasEnded, Refusal, no_turn, no_piece}
 use Rattle.mc_world.proofs.Words.{FallsShort, ServeFault, fresh, ended, Runs, at_connection, Happens, RunsUntil, named, with_end, GivesUp, next_session, waiting, most_waiting, most_turns, shelf_of}
 use Rattle.mc_world.proofs.Words.{turn_events, IsService, starts, turn, piece, write, scene, IsRefusal, refused_turn, refused_piece, UntilRefused, Served, ServedAll, seat, one_more, Begins, HasServed}
@@ -73,13 +73,13 @@ written_sent : {K : Type 0} (n k : ℕ) (w : WorldState K) → with_written n (t
 written_sent n k w = ap (with_sessions w) (simp changed_is (sent_number k n w.sessions))
 
 -- what was written was the front of the session's output
-pub was_written : {K : Type 0} {hash_of : K → List ℕ → ℕ} {s : Seat} {old : WorldState K} {part : List ℕ} {last : Seat} {new : WorldState K}
+pub was_written : {K : Type 0} {hash_of : K → List ℕ → ℕ} {s : WorldSession} {old : WorldState K} {part : List ℕ} {last : WorldSession} {new : WorldState K}
     → Writes (in_world hash_of) s old part last new → (last ≡ s) × (old ≡ with_written s.number part new)
 was_written {s = s} {old = old} nothing = (refl, sym (written_nothing s.number old))
 was_written {s = s} {new = new} (front {written = written} {mid = mid} {between = between} k writes (same, is)) = let so_far = was_written writes in
     let part = take k (output_of (numbered mid.number between.sessions)) in (
       same ∙ so_far.0,
-      so_far.1 ∙ ap (with_written s.number written) (sym (written_sent mid.number k between) ∙ ap (with_written mid.number part) (sym is) ∙ ap (λ (m : Seat). with_written m.number part new) so_far.0)
+      so_far.1 ∙ ap (with_written s.number written) (sym (written_sent mid.number k between) ∙ ap (with_written mid.number part) (sym is) ∙ ap (λ (m : WorldSession). with_written m.number part new) so_far.0)
           ∙ written_twice s.number written part new,
     )
 
@@ -172,22 +172,22 @@ module _ {K : Type 0} {hash_of : K → List ℕ → ℕ} {may_give : ℕ → Typ
       record { events = served.events ++ Piece n bytes ∷ []; service = piece bytes short (record { world = old; told = served.told; idle = idle }) all_written served.service; told = told_behind served tt told }
 
   -- what was done with the session as an endpoint of its world
-  pub served_by : {start : WorldState K} {turns : ℕ} {read written : List ℕ} {last : Seat} {after : WorldState K}
+  pub served_by : {start : WorldState K} {turns : ℕ} {read written : List ℕ} {last : WorldSession} {after : WorldState K}
       → Exchange (in_world hash_of) may_give (seat n 0) start turns read written last after → turns ≤ most_turns → HasServed hash_of may_give n first 0 [] [] start
       → (last ≡ seat n turns) × HasServed hash_of may_give n first turns read written after
   served_by exchanges.begins few begun = (refl, begun)
   served_by {after = after} (exchanges.turn {turns = turns} {between = between} now exchange small gives (same, told)) few begun = let (is, served) = served_by exchange (omega (arith, few)) begun in (
     same ∙ ap one_more is ∙ ap (seat n) (mod-eq_of_lt (omega (arith, few))),
-    then_turned now gives (subst (λ (s : Seat). waiting s.number between < most_waiting) is small)
-        (subst (λ (s : Seat). Told hash_of between (turn_events s.number (shelf_of s.turns between.settings.shelves) now) after) is told) served,
+    then_turned now gives (subst (λ (s : WorldSession). waiting s.number between < most_waiting) is small)
+        (subst (λ (s : WorldSession). Told hash_of between (turn_events s.number (shelf_of s.turns between.settings.shelves) now) after) is told) served,
   )
   served_by {after = after} (exchanges.piece {between = between} bytes short exchange idle all_written (same, told)) few begun = let (is, served) = served_by exchange few begun in (
     same ∙ is,
-    then_read bytes short (subst (λ (s : Seat). IsIdle (numbered s.number between.sessions)) is idle) (subst (λ (s : Seat). output_of (numbered s.number between.sessions) ≡ []) is all_written)
-        (subst (λ (s : Seat). Told hash_of between (Piece s.number bytes ∷ []) after) is told) served,
+    then_read bytes short (subst (λ (s : WorldSession). IsIdle (numbered s.number between.sessions)) is idle) (subst (λ (s : WorldSession). output_of (numbered s.number between.sessions) ≡ []) is all_written)
+        (subst (λ (s : WorldSession). Told hash_of between (Piece s.number bytes ∷ []) after) is told) served,
   )
   served_by {after = after} (exchanges.write {between = between} bytes exchange writes) few begun = let (is, served) = served_by exchange few begun in let wrote = was_written writes in
-      (wrote.0 ∙ is, then_wrote bytes (subst (λ (s : Seat). between ≡ with_written s.number bytes after) is wrote.1) served)
+      (wrote.0 ∙ is, then_wrote bytes (subst (λ (s : WorldSession). between ≡ with_written s.number bytes after) is wrote.1) served)
 
 -- What was served of a session until memory ran out, and the close of it.
 -- a connection that was closed is closed
@@ -244,7 +244,7 @@ module _ {K : Type 0} (hash_of : K → List ℕ → ℕ) where
         × IsRefusal hash_of may_give n first events written before event lost calls × (turns + calls ≤ most_turns) × NoneOpens before × (named event ≡ Some n) × TellsUntil old before decided event new
         × GoesOn old (before ++ event ∷ []) new
 
-    lost_of : {turns : ℕ} {read written lost : List ℕ} {old new : WorldState K} {last : Seat} → turns ≤ most_turns → (served : HasServed hash_of may_give n first turns read written old)
+    lost_of : {turns : ℕ} {read written lost : List ℕ} {old new : WorldState K} {last : WorldSession} → turns ≤ most_turns → (served : HasServed hash_of may_give n first turns read written old)
         → Refusal (in_world hash_of) may_give turns (seat n turns) old last new lost → Lost turns served.events written lost old new
     lost_of {old = old} {new = new} few served (no_turn now fewer small gives (refused, told)) = let tells : TellsUntil old (Clock now ∷ []) refused.decided (Turn n) new =
         λ plain stands. let moved : PlainWorld = record plain { now = now } in (moved, (moved, refl, refl), (until_only told).told moved (moment_stands {old = old} now stands)) in
@@ -258,7 +258,7 @@ module _ {K : Type 0} (hash_of : K → List ℕ → ℕ) where
         ([], Piece n bytes, 0, refused.decided, refusal, omega (arith, few), tt, refl, tells, goes)
 
 -- A whole run: the worlds before it, after the opening, after the rounds and after the close, and the seat after the rounds.
-pub record Ran {K : Type 0} (hash_of : K → List ℕ → ℕ) (may_give : ℕ → Type 0) (w0 w2 w3 : WorldState K) (s : Seat) (r0 r1 o0 o1 : Option (List ℕ)) : Type 0 where
+pub record Ran {K : Type 0} (hash_of : K → List ℕ → ℕ) (may_give : ℕ → Type 0) (w0 w2 w3 : WorldState K) (s : WorldSession) (r0 r1 o0 o1 : Option (List ℕ)) : Type 0 where
   pub w1 : WorldState K
   pub run : Exchanges (in_world hash_of) may_give (2 ^ 40) (exchanges.scene (seat (next_session w0) 0) w1 r0 o0) (exchanges.scene s w2 r1 o1)
   pub at : s ≡ seat (next_session w0) run.turns
@@ -266,7 +266,7 @@ pub record Ran {K : Type 0} (hash_of : K → List ℕ → ℕ) (may_give : ℕ �
   pub inside : (1 ≤ next_session w0) × (next_session w0 ≤ length w2.sessions)
   pub closes : Told hash_of w2 (Close (next_session w0) ∷ []) w3
 
-module _ {K : Type 0} {hash_of : K → List ℕ → ℕ} {may_give : ℕ → Type 0} {w0 w2 w3 : WorldState K} {s : Seat} {r0 r1 o0 o1 : Option (List ℕ)} where
+module _ {K : Type 0} {hash_of : K → List ℕ → ℕ} {may_give : ℕ → Type 0} {w0 w2 w3 : WorldState K} {s : WorldSession} {r0 r1 o0 o1 : Option (List ℕ)} where
   pub ran_of : {n : ℕ} {w1 : WorldState K} → Begins hash_of n w0 w1 → Told hash_of w2 (Close n ∷ []) w3
       → Exchanges (in_world hash_of) may_give (2 ^ 40) (exchanges.scene (seat n 0) w1 r0 o0) (exchanges.scene s w2 r1 o1) → Ran hash_of may_give w0 w2 w3 s r0 r1 o0 o1
   ran_of {w1 = w1} begins closes run = let (begun, closed, ran) = subst (λ (n : ℕ). Begins hash_of n w0 w1 × Told hash_of w2 (Close n ∷ []) w3
@@ -278,7 +278,7 @@ module _ {K : Type 0} {hash_of : K → List ℕ → ℕ} {may_give : ℕ → Typ
   ran_short {w1 = w1} begins closes run = let (begun, closed, short) = subst (λ (n : ℕ). Begins hash_of n w0 w1 × Told hash_of w2 (Close n ∷ []) w3
       × FallsShort (in_world hash_of) may_give (exchanges.scene (seat n 0) w1 r0 o0) (exchanges.scene s w2 r1 o1)) begins.number (begins, closes, run) in let ran = short.exchanges in
       let n = next_session w0 in let (is, served) = served_by ran.exchange ran.few (served_nothing begun) in let (before, event, calls, decided, refusal, few, none, names, tells, goes) =
-      lost_of hash_of may_give n w0 ran.few served (subst (λ (t : Seat). Refusal (in_world hash_of) may_give ran.turns t short.between s w2 short.lost) is short.refusal) in record {
+      lost_of hash_of may_give n w0 ran.few served (subst (λ (t : WorldSession). Refusal (in_world hash_of) may_give ran.turns t short.between s w2 short.lost) is short.refusal) in record {
         events = served.events;
         read = ran.read;
         written = ran.written;
@@ -302,10 +302,10 @@ module _ {K : Type 0} {hash_of : K → List ℕ → ℕ} {may_give : ℕ → Typ
       }
 
   -- what was left was written behind the close, or a part of it
-  module _ {last : Seat} {w4 : WorldState K} {o2 : Option (List ℕ)} (ran : Ran hash_of may_give w0 w2 w3 s r0 r1 o0 o1) (wrote : Wrote (in_world hash_of) s w3 last w4 o1 o2) where
+  module _ {last : WorldSession} {w4 : WorldState K} {o2 : Option (List ℕ)} (ran : Ran hash_of may_give w0 w2 w3 s r0 r1 o0 o1) (wrote : Wrote (in_world hash_of) s w3 last w4 o1 o2) where
     abbrev pub ran_and_wrote : Served hash_of may_give (scene w0 r0 o0) (scene w4 r1 o2)
     ran_and_wrote = let n = next_session w0 in let run = ran.run in let had = ran.served in let part = wrote.written in
-        let parts : w3 ≡ with_written n part w4 = subst (λ (t : Seat). w3 ≡ with_written t.number part w4) ran.at (was_written wrote.writes).1 in
+        let parts : w3 ≡ with_written n part w4 = subst (λ (t : WorldSession). w3 ≡ with_written t.number part w4) ran.at (was_written wrote.writes).1 in
         let all = Appends-trans o0 o1 o2 run.written part run.appends wrote.appends in let came : Came hash_of may_give (scene w0 r0 o0) (scene w4 r1 o2) =
         record { events = had.events; read = run.read; written = run.written ++ part; turns = run.turns; service = write part had.service; few = run.few; consumes = run.consumes; appends = all } in
         let same = ap (with_written n run.written) parts ∙ written_twice n run.written part w4 in
@@ -317,8 +317,8 @@ module _ {K : Type 0} {hash_of : K → List ℕ → ℕ} {may_give : ℕ → Typ
     run_ended (inr (idle, end)) = inr (idle_written (next_session w0) ran.run.written w2 idle, end)
 
     pub ran_whole : HasEnded (in_world hash_of) s w2 r1 → output_of (numbered last.number w4.sessions) ≡ [] → ServedAll hash_of may_give (scene w0 r0 o0) (scene w4 r1 o2)
-    ran_whole ended all = let none = subst (λ (t : Seat). output_of (numbered t.number w4.sessions) ≡ []) ((was_written wrote.writes).0 ∙ ran.at) all in
-        let end = run_ended (subst (λ (t : Seat). HasEnded (in_world hash_of) t w2 r1) ran.at ended) in
+    ran_whole ended all = let none = subst (λ (t : WorldSession). output_of (numbered t.number w4.sessions) ≡ []) ((was_written wrote.writes).0 ∙ ran.at) all in
+        let end = run_ended (subst (λ (t : WorldSession). HasEnded (in_world hash_of) t w2 r1) ran.at ended) in
         record { served = ran_and_wrote; written = none; last = with_written (next_session w0) ran.run.written w2; until = ran.served.told; ended = end }
 
   pub ran_served : Ran hash_of may_give w0 w2 w3 s r0 r1 o0 o1 → Served hash_of may_give (scene w0 r0 o0) (scene w3 r1 o1)

@@ -46,4 +46,4 @@ pub use Rattle.mc_world.specs.Worlds.{named, Runs, with_end, EventDecides, Takes
 pub use Rattle.mc_world.specs.declared.event.Event.{Event}
 pub use Rattle.mc_world.specs.declared.event.Event.TheVariants.{Open, Piece, Turn, Clock, Grow, Purge, Close}
 pub use Rattle.mc_world.specs.declared.event.Refused.{Refused}
-pub use Rattle.mc_world.specs.declared.seat.Seat.{Seat}
+pub use Rattle.mc_world.specs.declared.seat.WorldSession.{WorldSession}

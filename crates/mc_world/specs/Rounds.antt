@@ -7,14 +7,14 @@ use Rattle.mc_world.specs.Serving.{next_session, with_written, shelf_of, turn_ev
 use Rattle.mc_world.specs.declared.event.Event.{Event}
 use Rattle.mc_world.specs.declared.event.Event.TheVariants.{Open, Piece, Turn}
 use Rattle.mc_world.specs.declared.event.Refused.{Refused}
-use Rattle.mc_world.specs.declared.seat.Seat.{Seat}
+use Rattle.mc_world.specs.declared.seat.WorldSession.{WorldSession}
 
 -- the seat of a session that was given this many turns
-abbrev pub seat : (number turns : ℕ) → Seat
+abbrev pub seat : (number turns : ℕ) → WorldSession
 seat number turns = record { number = number; turns = turns }
 
 -- one more turn, counted in 64 bits
-abbrev pub one_more : Seat → Seat
+abbrev pub one_more : WorldSession → WorldSession
 one_more s = seat s.number ((s.turns + 1) % 2 ^ 64)
 
 -- the first `count` bytes of the output were written
@@ -31,7 +31,7 @@ module _ {K : Type 0} (hash_of : K → List ℕ → ℕ) where
 
   -- A session as an endpoint of its world: a turn is given at the clock's moment, and then the next
   -- shelf in turn grows.
-  abbrev pub in_world : Relations Seat (WorldState K)
+  abbrev pub in_world : Relations WorldSession (WorldState K)
   in_world =
       record {
         waits = λ s world. output_of (numbered s.number world.sessions);

@@ -12,7 +12,7 @@ use Rattle.mc_shelf.specs.Stores.{FallsAt}
 use Rattle.mc_world.specs.Worlds.{WorldState, EventMoves, TurnMoves, eight_moved, numbered, put, changed, open_session, IsIdle, in_plain, named}
 use Rattle.mc_world.specs.declared.event.Event.{Event}
 use Rattle.mc_world.specs.declared.event.Event.TheVariants.{Open, Piece, Turn, Clock, Grow, Purge, Close}
-use Rattle.mc_world.specs.declared.parts.Parts.{Parts}
+use Rattle.mc_world.specs.declared.parts.WorldParts.{WorldParts}
 
 -- the open session of that number is changed; nothing is if none is open
 abbrev pub at_session : List SessionState → ℕ → (SessionState → SessionState) → List SessionState
@@ -140,7 +140,7 @@ pub record Undone {K : Type 0} (decided : Bool) (old : WorldState K) (event : Ev
   pub decides : IsTrue decided → DecidedIn old event new.state
 
 -- a world's parts as contracts see it
-abbrev pub state_of : {K : Type 0} → Parts K → WorldState K
+abbrev pub state_of : {K : Type 0} → WorldParts K → WorldState K
 state_of w =
     record {
       settings = w.store.settings;

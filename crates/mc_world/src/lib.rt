@@ -9,7 +9,7 @@
 //!
 //! A [`World`] runs such lists: `run` until memory is refused ([`Refused`]), and `run_through` past
 //! refusals, which it counts ([`Ended`]). [`serve_one`] serves one session of a world over a reader
-//! and a writer, by the loop of `mc_session`; the program uses it for `--stdin`. [`Parts`] are the
+//! and a writer, by the loop of `mc_session`; the program uses it for `--stdin`. [`WorldParts`] are the
 //! parts of a world, for a caller that makes one from a store and also calls the store itself.
 //!
 //! The definitions have a plain world beside it: for each session the stream so far and the turns
@@ -39,6 +39,6 @@ pub use laws::{
     a_piece_may_be_cut, a_plain_world_stands_one_way, a_session_follows_its_own_answers,
     a_turn_is_due_of_both, growth_never_shows, sessions_may_change_places,
 };
-pub use parts::Parts;
+pub use parts::WorldParts;
 pub use serving::{serve_one, written_output_never_shows};
 pub use world::World;

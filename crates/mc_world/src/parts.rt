@@ -17,15 +17,15 @@ const MOVED: usize = 8;
 
 /// The parts of a world: a store, a moment, and the sessions that use the store in turn.
 #[derive(Drop)]
-pub struct Parts<K: KeyHash + Drop> {
+pub struct WorldParts<K: KeyHash + Drop> {
     pub store: Store<K>,
     pub moment: Moment,
     pub sessions: Sessions,
 }
 
-impl<K: KeyHash + Drop> Parts<K> {
+impl<K: KeyHash + Drop> WorldParts<K> {
     /// Makes the parts of a world from a store, at a moment, without sessions. It takes no memory.
-    pub fn new(alloc: Global, store: Store<K>, now: Moment) -> Parts<K>
+    pub fn new(alloc: Global, store: Store<K>, now: Moment) -> WorldParts<K>
         ensures { state_of result ≡ record {
           settings = store.settings;
           hasher = store.hasher;
@@ -35,7 +35,7 @@ impl<K: KeyHash + Drop> Parts<K> {
           left = store.left;
         } }
     {
-        Parts {
+        WorldParts {
             store,
             moment: now,
             sessions: Sessions::new(alloc),

@@ -10,14 +10,14 @@ use std::alloc::{AllocError, Global};
 
 /// A session of a world as one end of a connection.
 #[derive(Drop)]
-pub struct Seat {
+pub struct WorldSession {
     /// The session's number.
     pub number: u32,
     /// The number of turns it was given.
     pub turns: u64,
 }
 
-impl<K: KeyHash + Drop> Endpoint<World<K>> for Seat {
+impl<K: KeyHash + Drop> Endpoint<World<K>> for WorldSession {
     ghost use Rattle.mc_world.specs.Rounds.{in_world};
 
     ghost waits = { (in_world K.hash_of).waits };

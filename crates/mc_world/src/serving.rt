@@ -11,7 +11,7 @@ ghost use Rattle.mc_world.specs.Serving.{with_front, scene, Served, ServedAll, R
 ghost use Rattle.mc_world.specs.Rounds.{Begins};
 
 use crate::event::Event;
-use crate::seat::Seat;
+use crate::seat::WorldSession;
 use crate::world::World;
 use mc_hop::KeyHash;
 use mc_session::{ServeFault, TurnContext, piece_buffer, serve_endpoint, write_out};
@@ -55,7 +55,7 @@ pub fn serve_one<R: Read, W: Write, K: KeyHash + Drop, C: Clock>(
         Ok(number) => number,
         Err(fault) => return Err(fault),
     };
-    let mut seat = Seat { number, turns: 0 };
+    let mut seat = WorldSession { number, turns: 0 };
     let piece = buffer.as_mut_slice();
     let context = TurnContext { alloc, clock };
     let ended = serve_endpoint(&context, reader, writer, &mut seat, world, piece);

@@ -11,7 +11,7 @@ ghost use Rattle.mc_world.specs.Refusals.{ToldThrough};
 ghost use Rattle.mc_world.specs.Sessions.{SessionIsDue};
 
 use crate::event::{Ended, Event, Refused};
-use crate::parts::Parts;
+use crate::parts::WorldParts;
 use mc_hop::KeyHash;
 use mc_session::{Turn, TurnFault};
 use mc_shelf::{Settings, Store};
@@ -26,7 +26,7 @@ use std::marker::Model;
 /// entries of an old table are still to be moved.
 #[derive(Drop)]
 pub struct World<K: KeyHash + Drop> {
-    parts: Parts<K>,
+    parts: WorldParts<K>,
 }
 
 impl<K: KeyHash + Drop> Model for World<K> {
@@ -84,7 +84,7 @@ impl<K: KeyHash + Drop> World<K> {
     {
         let store = Store::starting(alloc, settings, hasher, next)?;
         Ok(World {
-            parts: Parts::new(alloc, store, now),
+            parts: WorldParts::new(alloc, store, now),
         })
     }
 

@@ -8,7 +8,7 @@ use mc_hop::Constant;
 use mc_protocol::Bytes;
 use mc_shelf::{Settings, Store};
 use mc_time::Moment;
-use mc_world::{Event, Parts, World};
+use mc_world::{Event, World, WorldParts};
 use std::alloc::{AllocError, Global};
 use std::process::Abort;
 use std::test::Fail;
@@ -66,7 +66,11 @@ fn keys_of_one_hash_are_apart(rt: HostRuntime) -> Result<(), Fail> {
     Ok(())
 }
 
-fn happen(parts: &mut Parts<Constant>, alloc: Global, event: &Event<'_>) -> Result<(), AllocError> {
+fn happen(
+    parts: &mut WorldParts<Constant>,
+    alloc: Global,
+    event: &Event<'_>,
+) -> Result<(), AllocError> {
     match parts.happen(alloc, event) {
         Ok(()) => Ok(()),
         Err(_) => Err(AllocError),
@@ -74,24 +78,24 @@ fn happen(parts: &mut Parts<Constant>, alloc: Global, event: &Event<'_>) -> Resu
 }
 
 /// Returns the parts of a world with one page and one hash.
-fn parts_of_one_hash(alloc: Global) -> Result<Parts<Constant>, AllocError> {
+fn parts_of_one_hash(alloc: Global) -> Result<WorldParts<Constant>, AllocError> {
     let settings = Settings {
         pages: 1,
         greatest: 1048576,
         shelves: 64,
     };
     let store = Store::new(alloc, settings, Constant(0))?;
-    Ok(Parts::new(alloc, store, Moment::from_seconds(1000)))
+    Ok(WorldParts::new(alloc, store, Moment::from_seconds(1000)))
 }
 
-fn set_key(parts: &mut Parts<Constant>, alloc: Global, number: u32) -> Result<(), AllocError> {
+fn set_key(parts: &mut WorldParts<Constant>, alloc: Global, number: u32) -> Result<(), AllocError> {
     let set = set_of(alloc, number)?;
     happen(parts, alloc, &Event::Piece(1, Bytes::of(set.as_bytes())))?;
     happen(parts, alloc, &Event::Turn(1))
 }
 
 /// Sets the keys of 1 to 34. Returns how many entries one event of growth leaves in the old table.
-fn left_by_growth(parts: &mut Parts<Constant>, alloc: Global) -> Result<usize, AllocError> {
+fn left_by_growth(parts: &mut WorldParts<Constant>, alloc: Global) -> Result<usize, AllocError> {
     happen(parts, alloc, &Event::Open)?;
     for number in 1..35 {
         set_key(parts, alloc, number)?;

@@ -18,7 +18,7 @@ const PAGE: u64 = 1 << 20;
 
 /// What the plain store keeps under a key.
 #[derive(Drop)]
-pub(crate) struct Item {
+pub(crate) struct PlainItem {
     flags: u32,
     expiry: Expiry,
     block: Block,
@@ -26,7 +26,7 @@ pub(crate) struct Item {
     updated: Moment,
 }
 
-impl Model for Item {
+impl Model for PlainItem {
     ghost use Rattle.mc_protocol.specs.Plain.{Entry, coded_entry};
 
     ghost Value = { Entry };
@@ -143,9 +143,9 @@ fn lend_slices<'a>(draft: Draft, front: &'a [u8], back: &'a [u8]) -> LentWrite<'
     }
 }
 
-impl Item {
+impl PlainItem {
     /// Returns the item of a write with this unique number and this moment.
-    pub(crate) fn of(written: Written, unique: u64, updated: Moment) -> Item
+    pub(crate) fn of(written: Written, unique: u64, updated: Moment) -> PlainItem
         ensures { result ≡ record {
           flags = written.flags;
           expiry = written.expiry;
@@ -154,7 +154,7 @@ impl Item {
           updated = updated;
         } }
     {
-        Item {
+        PlainItem {
             flags: written.flags,
             expiry: written.expiry,
             block: written.block,
@@ -214,7 +214,7 @@ impl Item {
     }
 }
 
-impl Standing for Item {
+impl Standing for PlainItem {
     ghost entry_of = { λ item. item };
 
     fn flags(&self) -> u32 {

@@ -12,7 +12,7 @@ ghost use Rattle.mc_command.specs.Items.{items_of};
 ghost use Rattle.mc_command.specs.Steps.{found, paged};
 
 use crate::plain::PlainStore;
-use crate::plain::item::Item;
+use crate::plain::item::PlainItem;
 use mc_slab::{Class, Need};
 use mc_time::Moment;
 use std::collections::BTreeMap;
@@ -89,7 +89,7 @@ impl PlainStore {
 }
 
 /// Returns how many of `chunks` chunks of the class the items leave.
-fn chunks_but(chunks: u64, items: &BTreeMap<Vec<u8>, Item>, class: Class) -> u64
+fn chunks_but(chunks: u64, items: &BTreeMap<Vec<u8>, PlainItem>, class: Class) -> u64
     requires { IsClass class }
     ensures { result ≡ chunks - count_of (items_of items.now.entries) class }
 {

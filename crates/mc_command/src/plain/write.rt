@@ -11,7 +11,7 @@ ghost use Rattle.mc_command.specs.Steps.{Ends, Prepares, IsReady, StaysIn, needs
 ghost use Rattle.mc_command.specs.Steps.{number_in, block_in, found, drafting, writing, rewritten, placed, done};
 
 use crate::plain::PlainStore;
-use crate::plain::item::{Item, LentWrite, Written, lend_write};
+use crate::plain::item::{LentWrite, PlainItem, Written, lend_write};
 use itoa::Buffer;
 use mc_protocol::{Body, Draft, Reply, StepFault};
 use mc_slab::Need;
@@ -28,7 +28,7 @@ pub(crate) struct Effect {
 
 /// The outcome of a write that was checked.
 #[derive(Drop)]
-pub(crate) enum Next {
+pub(crate) enum CheckedWrite {
     /// Nothing is written; this is the reply.
     Answer(Reply),
     /// The block goes into the chunks of the present item; this is the reply.
@@ -90,7 +90,7 @@ impl PlainStore {
         write: &LentWrite<'_>,
         effect: Effect,
         now: Moment,
-    ) -> Result<Next, StepFault>
+    ) -> Result<CheckedWrite, StepFault>
         requires reply { CopiesBlock effect.reply }
         requires stays { effect.stays ≡ true → StaysIn self.now key.now write.now now }
         ensures { Prepares (writing effect.stays effect.reply write.now key.now self.now now)
@@ -98,18 +98,18 @@ impl PlainStore {
     {
         let Effect { stays, reply } = effect;
         let Some(need) = self.need_for(key, write) else {
-            return Ok(Next::Answer(Reply::TooLarge));
+            return Ok(CheckedWrite::Answer(Reply::TooLarge));
         };
         if self.is_spent() {
             return Err(StepFault::NumbersSpent);
         }
         if stays {
-            return Ok(Next::Rewrite(reply, write.make_block(alloc)?));
+            return Ok(CheckedWrite::Rewrite(reply, write.make_block(alloc)?));
         }
         if !self.has_room(key, need, now) {
-            return Ok(Next::Answer(Reply::NoChunk));
+            return Ok(CheckedWrite::Answer(Reply::NoChunk));
         }
-        Ok(Next::Place(reply, need, write.make_block(alloc)?))
+        Ok(CheckedWrite::Place(reply, need, write.make_block(alloc)?))
     }
 
     /// Commits a checked write and returns its reply. If nothing is written it drops the key's dead
@@ -118,22 +118,22 @@ impl PlainStore {
         &mut self,
         alloc: Global,
         key: &[u8],
-        next: Next,
+        next: CheckedWrite,
         now: Moment,
     ) -> Result<Reply, StepFault>
         requires { IsReady next key.now self.old now }
         ensures { Ends (done next key.now self.old now) result self.old self.new }
     {
         match next {
-            Next::Answer(reply) => {
+            CheckedWrite::Answer(reply) => {
                 self.drop_dead(key, now);
                 Ok(reply)
             }
-            Next::Rewrite(reply, written) => {
+            CheckedWrite::Rewrite(reply, written) => {
                 self.put_in_place(key, written, now);
                 Ok(reply)
             }
-            Next::Place(reply, need, written) => {
+            CheckedWrite::Place(reply, need, written) => {
                 self.put(alloc, key, need, written, now)?;
                 Ok(reply)
             }
@@ -171,7 +171,7 @@ impl PlainStore {
         ensures ok { OnOk result (self.new ≡ rewritten written key.items self.old now) }
         ensures err { OnErr result (self.new ≡ self.old) }
     {
-        let item = Item::of(written, self.next_unique, now);
+        let item = PlainItem::of(written, self.next_unique, now);
         let _ = self.items.insert(key, item)?;
         self.next_unique += 1;
         Ok(())
@@ -185,7 +185,7 @@ impl PlainStore {
         ensures { self.new ≡ rewritten written key.now self.old now }
     {
         let item = self.items.get_mut(key).unwrap();
-        *item = Item::of(written, self.next_unique, now);
+        *item = PlainItem::of(written, self.next_unique, now);
         self.next_unique += 1;
     }
 }
@@ -201,7 +201,7 @@ fn number_in(body: Body) -> u64
 }
 
 /// Lends the block of an item, and an empty one if there is none.
-fn block_in<'a>(item: Option<&'a Item>) -> &'a [u8]
+fn block_in<'a>(item: Option<&'a PlainItem>) -> &'a [u8]
     ensures { result.now ≡ block_in (option_copied item.entry) }
 {
     match item {
@@ -213,7 +213,7 @@ fn block_in<'a>(item: Option<&'a Item>) -> &'a [u8]
 /// Returns whether a write stays in the chunks of the present item.
 ///
 /// It does if it stores a counted number and has the same need.
-fn stays(body: Body, key: &[u8], item: Option<&Item>, write: &LentWrite<'_>) -> bool
+fn stays(body: Body, key: &[u8], item: Option<&PlainItem>, write: &LentWrite<'_>) -> bool
     requires { length key.now ≤ longest_key }
     ensures { (block : List ℕ) →
         write.now.block ≡ written_block body block (option_copied item.entry) →

@@ -7,7 +7,7 @@ invariant-loop-low g l = record {
   inside : l.high ≤ length l.fn.order.items;
   before : (p : ℕ) → p < l.low → IsBefore (key_by (keys_in g.T.Keyed.hash_of g.T.Keyed.key_of l.fn.items.items) l.fn.order.items p) (l.fn.hash ∷ l.fn.key);
   behind : (p : ℕ) → l.high ≤ p → p < length l.fn.order.items → IsBefore (l.fn.hash ∷ l.fn.key) (key_by (keys_in g.T.Keyed.hash_of g.T.Keyed.key_of l.fn.items.items) l.fn.order.items p);
-  reads : (digits : ℕ) → length l.fn.items.items < 2 ^ digits → (left : ℕ) × (l.high - l.low < 2 ^ left) × (g.C.Counts.count l.reads + left ≤ g.C.Counts.count l.fn.reads + digits);
+  reads : (digits : ℕ) → length l.fn.items.items < 2 ^ digits → (left : ℕ) × (l.high - l.low < 2 ^ left) × (g.C.ReadCounter.count l.reads + left ≤ g.C.ReadCounter.count l.fn.reads + digits);
 }
 
 abbrev pub decreases-loop-low : goal.decreases-loop-low

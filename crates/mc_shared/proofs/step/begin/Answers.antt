@@ -1,6 +1,6 @@
 use Rattle.std.proofs.Common.{◌≡◌, ℕ, Err, ap, refl, subst, sym, ◌∙◌}
 use Rattle.mc_shared.proofs.Words.{key_of, StepFault, NoMemory, NumbersSpent, next_of, writes}
-use Rattle.mc_shelf.specs.declared.plan.Next.{Next}
+use Rattle.mc_shelf.specs.declared.plan.Action.{Action}
 use Rattle.mc_shelf.specs.Plans.{NeedsPages}
 use Rattle.mc_shelf.proofs.TakesLemmas.{is_spent}
 use Rattle.mc_shelf.proofs.RefusalLemmas.{can_wants, needs_can, writes_some}
@@ -14,7 +14,7 @@ returns-in-Planned-clause-spent c = λ e.
     let fault : c.in-Err.fault ≡ NumbersSpent = cc in
     let told = c.in-Err.ensures.spent.0 (ap (λ (f : StepFault). Err f) fault) in
     let planned = subst (λ (l : Looked). IsLooked l c.args.shelf.now ask) c.in-Planned.is c.requires.looked in
-    let some = writes_some (next_of c.args.shelf.now.content ask.step.now ask.moment) (ap (λ (next : Next). writes next) (sym planned.is_plan.next) ∙ told.0) in
+    let some = writes_some (next_of c.args.shelf.now.content ask.step.now ask.moment) (ap (λ (next : Action). writes next) (sym planned.is_plan.next) ∙ told.0) in
     is_spent ask.step.now ask.moment c.args.shelf.now.content c.args.desk.now c.requires.on_key some.0 some.1 (sym some.2) told.1
 
 pub returns-in-Planned-clause-refused : goal.returns-in-Planned-clause-refused
@@ -24,7 +24,7 @@ returns-in-Planned-clause-refused c = λ e.
     let fault : c.in-Err.fault ≡ NoMemory = cc in
     let planned = subst (λ (l : Looked). IsLooked l c.args.shelf.now ask) c.in-Planned.is c.requires.looked in
     let needs : NeedsPages (next_of shelf ask.step.now ask.moment) shelf (key_of ask.step.now) ask.moment c.args.desk.now =
-    subst (λ (t : Next × ℕ). NeedsPages t.0 shelf (key_of ask.step.now) t.1 c.args.desk.now) (λ i. (planned.is_plan.next i, planned.is_plan.moment i))
+    subst (λ (t : Action × ℕ). NeedsPages t.0 shelf (key_of ask.step.now) t.1 c.args.desk.now) (λ i. (planned.is_plan.next i, planned.is_plan.moment i))
     (c.in-Err.ensures.refused (ap (λ (f : StepFault). Err f) fault)) in
     can_wants ask.step.now ask.moment shelf c.args.desk.now c.requires.on_key c.next_unique-number.ensures.slab (next_of shelf ask.step.now ask.moment) refl
     (needs_can (next_of shelf ask.step.now ask.moment) shelf (key_of ask.step.now) ask.moment c.args.desk.now needs)

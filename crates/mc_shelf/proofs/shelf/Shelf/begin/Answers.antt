@@ -3,17 +3,17 @@ use Rattle.mc_shelf.proofs.Common.{DeskState, Entry, get, key_of, KeyStep, Shelf
 use Rattle.mc_shelf.specs.Plans.{GivesBack, IsDropped, IsOut, IsPut}
 use Rattle.mc_shelf.proofs.ShelfLemmas.{others_same}
 use Rattle.mc_shelf.proofs.TakesLemmas.{discarded_is, expired_is, is_out, takes_answer, takes_discard, takes_expire}
-use Rattle.mc_shelf.specs.declared.plan.Next.{Next}
+use Rattle.mc_shelf.specs.declared.plan.Action.{Action}
 use Rattle.mc_shelf.specs.declared.plan.Plan.{Plan}
 use Rattle.mc_shelf.specs.declared.begun.Begun.TheVariants.{Done}
 use Rattle.mc_shelf.specs.Plans.{StepTaken, told_next, written_next}
 use Rattle.mc_shelf.proofs.shelf.Shelf.begin.Goals as goal
 
 -- of what comes next, that is what was taken
-taken_as : (plan : Plan) (next one : Next) → next ≡ one → (step : KeyStep) (old : ShelfContent) (desk : DeskState) (new : ShelfContent) (desk' : DeskState)
+taken_as : (plan : Plan) (next one : Action) → next ≡ one → (step : KeyStep) (old : ShelfContent) (desk : DeskState) (new : ShelfContent) (desk' : DeskState)
     → StepTaken step plan.moment plan.hash old desk (told_next one Done) (written_next plan one None step new) desk'
     → StepTaken step plan.moment plan.hash old desk (told_next next Done) (written_next plan next None step new) desk'
-taken_as plan next one is step old desk new desk' = subst (λ (n : Next). StepTaken step plan.moment plan.hash old desk (told_next n Done) (written_next plan n None step new) desk') (sym is)
+taken_as plan next one is step old desk new desk' = subst (λ (n : Action). StepTaken step plan.moment plan.hash old desk (told_next n Done) (written_next plan n None step new) desk') (sym is)
 
 pub discard-requires-clause-out : goal.discard-requires-clause-out
 discard-requires-clause-out c =

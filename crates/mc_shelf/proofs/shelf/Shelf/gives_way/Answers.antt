@@ -1,6 +1,6 @@
 use Rattle.std.proofs.Common.{sym, ap, ◌∙◌}
 use Rattle.std.specs.FinMap.{get}
-use Rattle.mc_shelf.specs.declared.plan.Next.{Next}
+use Rattle.mc_shelf.specs.declared.plan.Action.{Action}
 use Rattle.mc_shelf.specs.Plans.{gives_way_to}
 use Rattle.mc_shelf.proofs.NeedLemmas.{small_stays}
 use Rattle.mc_shelf.proofs.TakesLemmas.{drafts}
@@ -10,7 +10,7 @@ pub returns-then-charge-le-SMALL : goal.returns-then-charge-le-SMALL
 returns-then-charge-le-SMALL c =
     let plan = c.args.plan.now in
     let shelf = c.args.self.now.content in
-    sym (ap (λ (n : Next). gives_way_to n shelf plan.key plan.moment) c.in-Write.is ∙ small_stays shelf.cut plan.moment plan.key (get shelf.items plan.key) c.in-Write.charge c.if-charge-le-SMALL.true)
+    sym (ap (λ (n : Action). gives_way_to n shelf plan.key plan.moment) c.in-Write.is ∙ small_stays shelf.cut plan.moment plan.key (get shelf.items plan.key) c.in-Write.charge c.if-charge-le-SMALL.true)
 
 pub need_for-need-requires : goal.need_for-need-requires
 need_for-need-requires c =

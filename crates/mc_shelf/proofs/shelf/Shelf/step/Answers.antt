@@ -1,7 +1,7 @@
 use Rattle.std.proofs.Common.{◌≡◌, ℕ, List, Err, Result, rules, sym, subst, ◌∙◌}
 use Rattle.mc_shelf.proofs.Common.{key_of, Reply, ShelfContent, StepFault}
 use Rattle.mc_protocol.specs.declared.step.StepFault.TheVariants.{NoMemory, NumbersSpent}
-use Rattle.mc_shelf.specs.declared.plan.Next.{Next}
+use Rattle.mc_shelf.specs.declared.plan.Action.{Action}
 use Rattle.mc_shelf.specs.Plans.{CanWrite, IsSpent, PutsEntry, StepTaken, NeedsPages, next_of}
 use Rattle.mc_shelf.proofs.TakesLemmas.{is_spent}
 use Rattle.mc_shelf.proofs.RefusalLemmas.{can_wants, needs_can, spent_told, taken_not_spent, wants_not_spent, writes_some}
@@ -66,7 +66,7 @@ pub returns-clause-lags : goal.returns-clause-lags
 returns-clause-lags c =
     let old = c.args.self.now.content in
     let plan = c.in_ok-plan.ensures.plan in
-    let Words = Next × (List ℕ × ℕ) in
+    let Words = Action × (List ℕ × ℕ) in
     let same : (c.in_ok-plan.plan.next, (c.in_ok-plan.plan.key, c.in_ok-plan.plan.moment)) ≡ (next_of old c.args.step.now c.args.now, (key_of c.args.step.now, c.args.now)) =
     λ i. (plan.next i, (plan.key i, plan.moment i)) in
     ok_any c.apply.result (λ can puts. catches_then (counts_of c.args.self.now) (counts_of c.make_room.new.self) (counts_of c.apply.new.self)

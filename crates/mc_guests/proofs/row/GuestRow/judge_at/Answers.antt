@@ -1,0 +1,30 @@
+use Rattle.std.specs.Prelude.{slice_set}
+use Rattle.std.proofs.Common.{◌<◌, List, length, refl, sym, ap, ◌∙◌, subst}
+use Rattle.std.proofs.lemmas.List.{length-set}
+use Rattle.std.proofs.lemmas.Option.{slice_get_read}
+use Rattle.mc_guests.specs.Books.{RowState}
+use Rattle.mc_guests.specs.Guests.{RowGuest}
+use Rattle.mc_guests.specs.Judging.{JudgesAt, judged}
+use Rattle.mc_guests.proofs.JudgeLemmas.{set_changed}
+use Rattle.mc_guests.proofs.row.GuestRow.judge_at.Goals as goal
+
+pub invariant_of-self : goal.invariant_of-self
+invariant_of-self g c = c.self.invariant ∙ sym (length-set c.self.inside.guests.items c.args.at c.judge.new.self)
+
+pub returns : goal.returns
+returns g c =
+    let items = c.self.inside.guests.items in
+    let within : c.args.at < length items = subst (λ (r : RowState). c.args.at < length r.guests) (sym c.self.view_is) c.requires in
+    let stands = slice_get_read items _ c.args.at c.index_mut.result.now refl within c.index_mut.ensures.value in
+    subst (λ (r : RowState). JudgesAt c.args.ticks c.args.at c.judge.result r (record {
+      guests = slice_set items c.args.at c.judge.new.self;
+      numbers = c.self.inside.numbers;
+    })) c.self.view_is (record {
+      guest = c.index_mut.result.now;
+      stands = stands;
+      number = c.at-number.result;
+      has_it = c.at-number.ensures;
+      says = c.judge.ensures.says;
+      row = ap (λ (l : List RowGuest). record { guests = l; numbers = c.self.inside.numbers })
+          (set_changed (judged c.args.ticks) c.args.at items c.index_mut.result.now c.judge.new.self stands c.judge.ensures.notes);
+    })

@@ -1,5 +1,0 @@
-use Rattle.mc_guests.specs.Judging.{FindsSlowest}
-use Rattle.mc_guests.proofs.row.Row.slowest.Given as goal
-
-abbrev pub invariant-loop-at : goal.invariant-loop-at
-invariant-loop-at g l = FindsSlowest l.ticks l.at l.found l.fn.self.guests

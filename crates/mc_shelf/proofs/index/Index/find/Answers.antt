@@ -1,9 +1,0 @@
-use Rattle.std.proofs.Common.{subst}
-use Rattle.mc_shelf.proofs.Common.{entries_of, hash_in, IsFoundIn, EntriesAreKeyed, key_in}
-use Rattle.mc_shelf.proofs.IndexLemmas.{key_found}
-use Rattle.mc_shelf.proofs.index.Index.find.Goals as goal
-
-pub returns : goal.returns
-returns c =
-    key_found c.args.self.now (subst (λ s. EntriesAreKeyed (entries_of s)) c.self.view_is c.self.invariant.0) c.args.hash c.args.key.now c.requires c.find.result
-    (subst (λ s. IsFoundIn hash_in key_in s c.args.hash c.args.key.now c.find.result) c.self.view_is c.find.ensures)

@@ -1,5 +1,0 @@
-use Rattle.mc_grow.specs.Indexes.{count_from}
-use Rattle.mc_shelf.proofs.index.Index.of_class_from.Given as goal
-
-abbrev pub decreases-loop-number : goal.decreases-loop-number
-decreases-loop-number l = count_from l.self l.at
