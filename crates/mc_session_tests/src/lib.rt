@@ -4,6 +4,8 @@
 //! `mc_parse`, the texts of `mc_reply`, the sessions of `mc_session`, and the rows of `mc_testing`
 //! over the plain store.
 //!
+//! What several of its tests share is a store of 64 pages (`src/stores.rt`).
+//!
 //! It is a crate of its own so that no library is proved a second time with its tests. Tests use
 //! only public calls. No program uses this crate.
 #![tactic(auto)]
@@ -26,3 +28,4 @@ mod rows_tests;
 mod session_tests;
 #[cfg(test)]
 mod spares_tests;
+mod stores;

@@ -1,5 +1,6 @@
 //! Sessions: whole runs over a reader and a writer, and single turns.
 
+use crate::stores::store_of_64_pages;
 use mc_bytes::Source;
 use mc_command::PlainStore;
 use mc_session::{ServeFault, Session, Turn, serve};
@@ -48,7 +49,7 @@ fn run_onto(
     writer: &mut Sip,
 ) -> Result<Result<(), ServeFault>, AllocError> {
     let mut reader = Drip::failing(input, reads, ErrorKind::Other);
-    let mut store = PlainStore::new(alloc, 64, PAGE)?;
+    let mut store = store_of_64_pages(alloc)?;
     let clock = Fixed(Moment::from_seconds(1000));
     Ok(serve(alloc, &mut reader, writer, GREATEST, &mut store, &clock))
 }
@@ -226,7 +227,7 @@ impl Source for Asking {
 
 /// Checks a session that is fed a command from a source and takes its turn.
 fn is_fed_from_a_source(rt: &impl Abort, alloc: Global) -> Result<(), AllocError> {
-    let mut store = PlainStore::new(alloc, 64, PAGE)?;
+    let mut store = store_of_64_pages(alloc)?;
     let mut session = Session::new(alloc, PAGE);
     if session.feed_from(&mut Asking, 2048).is_err() {
         assert!(rt; session.is_idle());
@@ -247,7 +248,7 @@ fn a_command_comes_from_a_source(rt: HostRuntime) -> Result<(), Fail> {
 
 /// Checks a block that is skipped in 128 pieces of 16384 bytes; no turn is due in any.
 fn passes_a_block_over(rt: &impl Abort, alloc: Global) -> Result<(), AllocError> {
-    let mut store = PlainStore::new(alloc, 64, PAGE)?;
+    let mut store = store_of_64_pages(alloc)?;
     let mut session = Session::new(alloc, PAGE);
     passes_pieces_over(rt, alloc, &mut session, &mut store)
 }
@@ -281,7 +282,7 @@ fn a_block_of_many_pieces_is_passed_over(rt: HostRuntime) -> Result<(), Fail> {
 }
 
 fn keys_take_turns(rt: &impl Abort, alloc: Global) -> Result<(), AllocError> {
-    let mut store = PlainStore::new(alloc, 64, PAGE)?;
+    let mut store = store_of_64_pages(alloc)?;
     let mut reading = Session::new(alloc, GREATEST);
     let mut writing = Session::new(alloc, GREATEST);
     reads_between_writes(rt, alloc, &mut store, &mut reading, &mut writing)?;
@@ -337,7 +338,7 @@ fn keys_of_a_get_take_a_turn_each(rt: HostRuntime) -> Result<(), Fail> {
 
 /// Checks that a get of a block of 9000 bytes needs no memory beyond its text.
 fn rests(rt: &impl Abort, alloc: Global) -> Result<(), AllocError> {
-    let mut store = PlainStore::new(alloc, 64, PAGE)?;
+    let mut store = store_of_64_pages(alloc)?;
     let mut session = Session::new(alloc, PAGE);
     stores_a_block(rt, alloc, &mut session, &mut store)?;
     rests_behind_a_hit(rt, alloc, &mut session, &mut store)
@@ -439,7 +440,7 @@ fn step_is_taken(
     text: &str,
     after: &str,
 ) -> Result<(), AllocError> {
-    let mut store = PlainStore::new(alloc, 64, PAGE)?;
+    let mut store = store_of_64_pages(alloc)?;
     step_is_taken_by(rt, alloc, &mut store, command, text, after)
 }
 
