@@ -5,7 +5,7 @@
 //! that memory is shared and offered: the block's chunk may take it over, and leaves its former
 //! memory in exchange. The next unit is read into that memory.
 
-ghost use Rattle.std.specs.Prelude.{◌≡◌, ◌≤◌, ◌++◌, [], length, take, drop, None, IfSome, OnOk, OnErr, IfOk};
+ghost use Rattle.std.specs.Prelude.{◌≡◌, ◌≤◌, ◌++◌, [], length, drop, None, IfSome, OnOk, OnErr, IfOk};
 ghost use Rattle.mc_parse.specs.Feeds.{arrived};
 
 use crate::ahead::Ahead;

@@ -181,6 +181,7 @@ impl Feed {
 
     /// Skips the first `len` unread bytes, and the next `passed` bytes as they arrive. It takes no
     /// memory.
+    #[inline(always)]
     pub fn done_passing(&mut self, len: usize, passed: u64)
         requires inside { len ≤ length self.old.bytes }
         // The skipped unit was found, so no byte is to be skipped before it.

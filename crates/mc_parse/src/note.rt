@@ -348,11 +348,11 @@ impl Note {
             MissesNone greatest (unit_of result) unread.now }
     {
         let (text, _) = unread.split_at(self.to);
-        match &self.said {
-            Err(fault) => Peek::Bad(*fault, self.end + 1),
-            Ok(noted) => match announced_block(noted) {
-                None => Peek::Whole(lend(noted, text, Bytes::of(&[])), self.end + 1),
-                Some(len) => block_peeked(noted, text, unread, self.end, len as usize, offer),
+        match self.said {
+            Err(fault) => Peek::Bad(fault, self.end + 1),
+            Ok(noted) => match announced_block(&noted) {
+                None => Peek::Whole(lend(&noted, text, Bytes::of(&[])), self.end + 1),
+                Some(len) => block_peeked(&noted, text, unread, self.end, len as usize, offer),
             },
         }
     }
@@ -368,10 +368,10 @@ impl Note {
         ensures none { (greatest taken : ℕ) (unread : List ℕ) → IsNoted greatest self.now unread →
             result ≡ None → StaysWhole greatest taken unread }
     {
-        let Ok(noted) = &self.said else {
+        let Ok(noted) = self.said else {
             return None;
         };
-        let (exptime, keys, with_unique) = retrieval_in(noted)?;
+        let (exptime, keys, with_unique) = retrieval_in(&noted)?;
         Some(Cursor::first(keys, self.to, self.end + 1, with_unique, exptime))
     }
 }
