@@ -49,7 +49,7 @@ pub enum Visit {
 #[derive(Drop)]
 pub struct Guest<L: Link + Drop> {
     session: SessionOf<LentOutput>,
-    tap: Tap<L>,
+    link: L,
     /// The most bytes of the next read.
     longest: usize,
     /// The bytes that the last read or write moved.
@@ -62,7 +62,7 @@ impl<L: Link + Drop> Model for Guest<L> {
 
     ghost Value = { GuestState };
 
-    ghost view = { λ g. record { session = g.session; link = L.shown g.tap.link; last = g.last } };
+    ghost view = { λ g. record { session = g.session; link = L.shown g.link; last = g.last } };
 }
 
 impl<L: Link + Drop> Guest<L> {
@@ -82,7 +82,7 @@ impl<L: Link + Drop> Guest<L> {
     {
         Guest {
             session: SessionOf::with_spares(alloc, greatest, spares),
-            tap: Tap { link },
+            link,
             longest: FIRST_PIECE,
             moved: 0,
             last: None,
@@ -122,7 +122,7 @@ impl<L: Link + Drop> Guest<L> {
         ensures unread { length self.now.session.unread.bytes ≤ result }
         ensures out { length self.now.session.out ≤ result }
     {
-        let link = self.tap.link.capacity();
+        let link = self.link.capacity();
         self.session.capacity().saturating_add(link)
     }
 
@@ -160,7 +160,7 @@ impl<L: Link + Drop> Guest<L> {
         };
         let is_long = out.len() >= LONG;
         if self.session.has_nothing_unread() || (is_long && self.session.is_idle()) {
-            self.tap.link.send_soon();
+            self.link.send_soon();
         }
     }
 
@@ -193,7 +193,7 @@ impl<L: Link + Drop> Guest<L> {
 
     /// Returns the bytes reserved for output that its link still has, beyond a first piece.
     pub(crate) fn unsent_bytes(&self) -> usize {
-        self.tap.link.capacity().saturating_sub(FIRST_PIECE)
+        self.link.capacity().saturating_sub(FIRST_PIECE)
     }
 
     /// Returns whether it has ended.
@@ -226,7 +226,7 @@ impl<L: Link + Drop> Guest<L> {
         if self.ending().is_some() {
             return;
         }
-        if let Err(LinkFault) = self.tap.link.pause() {
+        if let Err(LinkFault) = self.link.pause() {
             self.session.close();
             self.last = Some(Visit::Broken);
         }
@@ -268,7 +268,7 @@ impl<L: Link + Drop> Guest<L> {
     pub(crate) fn refuse(&mut self)
         ensures { self.new ≡ self.old }
     {
-        self.tap.link.refused();
+        self.link.refused();
     }
 
     /// Returns whether its output is the answer to a request whose object is too large.
@@ -299,7 +299,7 @@ impl<L: Link + Drop> Guest<L> {
         ensures last { self.new.last ≡ self.old.last }
         ensures writes { Writes result self.old self.new }
     {
-        match self.tap.link.try_write(self.session.front()) {
+        match self.link.try_write(self.session.front()) {
             Ok(Took::Bytes(taken)) => {
                 if taken == 0 {
                     return Visit::Later;
@@ -341,7 +341,10 @@ impl<L: Link + Drop> Guest<L> {
         ensures last { self.new.last ≡ self.old.last }
         ensures reads { Reads result self.old self.new }
     {
-        match self.session.feed_from(&mut self.tap, self.longest) {
+        let mut tap = Tap {
+            link: &mut self.link,
+        };
+        match self.session.feed_from(&mut tap, self.longest) {
             Ok(Tapped::Bytes(count)) => {
                 if count == 0 {
                     return Visit::Later;

@@ -45,6 +45,6 @@ pub(crate) fn round_within<L: Link + Drop, S: Reports>(
     ensures counts { RecountsAll guests.old guests.new budget.old budget.new }
 {
     for guest in guests.iter_mut() {
-        guest.visit(alloc, store, now, budget);
+        guest.inner.visit(alloc, store, now, budget);
     }
 }

@@ -99,7 +99,7 @@ impl<L: Link + Drop> GuestRow<L> {
         let Some(mut guest) = self.guests.pop() else {
             return;
         };
-        guest.leave(budget);
+        guest.inner.leave(budget);
         self.numbers.pop();
     }
 
@@ -108,7 +108,7 @@ impl<L: Link + Drop> GuestRow<L> {
         requires { at < length self.now.guests }
         ensures { StandsAt at self.now result.now }
     {
-        self.guests[at].guest()
+        &self.guests[at].inner
     }
 
     /// Notes a guest's place in the queue of waiting guests.
@@ -116,7 +116,7 @@ impl<L: Link + Drop> GuestRow<L> {
         requires { at < length self.old.guests }
         ensures { self.new ≡ with_guest (in_line line) at self.old }
     {
-        self.guests[at].set_line(line);
+        self.guests[at].inner.set_line(line);
     }
 
     /// Returns the number of a guest's link.
@@ -144,7 +144,7 @@ impl<L: Link + Drop> GuestRow<L> {
             self.next = 0;
         }
         if let Some(guest) = self.guests.get_mut(self.next) {
-            guest.rest_if_quiet(budget);
+            guest.inner.rest_if_quiet(budget);
         }
         self.next = self.next.wrapping_add(1);
     }
@@ -165,7 +165,7 @@ impl<L: Link + Drop> GuestRow<L> {
         ensures { JudgesAt ticks at result self.old self.new }
     {
         let number = self.numbers.at(at);
-        self.guests[at].judge(number, ticks)
+        self.guests[at].inner.judge(number, ticks)
     }
 
     /// Returns the place and the rate of the slowest guest that holds much, if one is slow.
@@ -288,7 +288,7 @@ fn push_behind<L: Link + Drop>(
     match guests.push(seat) {
         Ok(()) => true,
         Err(AllocFailed { mut value }) => {
-            value.refuse();
+            value.inner.refuse();
             false
         }
     }

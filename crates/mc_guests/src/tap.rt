@@ -23,21 +23,22 @@ pub enum Tapped {
     NoRoom,
 }
 
-/// A link as a source: it writes what it gives where its session keeps it.
+/// A link that is borrowed as a source: it writes what it gives where its session keeps it.
 ///
 /// The link is lent room for 1 to `LONGEST_PIECE` bytes.
 #[derive(Drop)]
-pub struct Tap<L: Link + Drop> {
-    pub link: L,
+pub struct Tap<'a, L: Link> {
+    pub link: &'a mut L,
 }
 
-impl<L: Link + Drop> Source for Tap<L> {
+impl<'a, L: Link> Source for Tap<'a, L> {
+    ghost use Rattle.std.specs.Prelude.{◌≡◌};
     ghost use Rattle.mc_guests.specs.Links.{GivesPiece};
 
     type Answer = Tapped;
 
-    ghost gives = { λ old piece answer new.
-        GivesPiece (L.shown old.link) piece answer (L.shown new.link) };
+    ghost gives = { λ old piece answer new. (new.link.ghost_name ≡ old.link.ghost_name)
+        × GivesPiece (L.shown old.link.now) piece answer (L.shown new.link.now) };
 
     fn read(&mut self, room: &mut [u8]) -> (usize, Tapped) {
         if !is_room(room.len()) {

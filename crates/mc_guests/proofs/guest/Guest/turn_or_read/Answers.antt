@@ -7,7 +7,7 @@ pub returns-in-Ok-Idle-clause-does : goal.returns-in-Ok-Idle-clause-does
 returns-in-Ok-Idle-clause-does g c =
     let idle = c.in-Ok-Idle.ensures.idle (ap (λ (t : Turn). Ok t) c.in-Ok-Idle.field-0-is) in
     reads_does g.S.Steps c.args.now c.read_piece.result
-    (g.L.Link.shown c.self.inside.tap.link) c.self.inside.last c.turn.new.self c.self.inside.session c.args.self.now c.read_piece.new.self c.args.store.now
+    (g.L.Link.shown c.self.inside.link) c.self.inside.last c.turn.new.self c.self.inside.session c.args.self.now c.read_piece.new.self c.args.store.now
     c.turn.new.store idle.2 c.self.view_is idle.3 c.read_piece.ensures.reads
 
 pub returns-in-Err-clause-does : goal.returns-in-Err-clause-does

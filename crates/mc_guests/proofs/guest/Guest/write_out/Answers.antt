@@ -10,7 +10,7 @@ pub returns-else-taken-eq0-clause-writes : goal.returns-else-taken-eq0-clause-wr
 returns-else-taken-eq0-clause-writes g c =
     let n = c.in-Ok-Bytes.taken in
     let front = c.front.result.now in
-    let t = subst (λ f. IsWrite (g.L.Link.shown c.self.inside.tap.link) front (Ok f) (g.L.Link.shown c.try_write.new.self)) c.in-Ok-Bytes.field-0-is c.in-Ok-Bytes.ensures.takes in
+    let t = subst (λ f. IsWrite (g.L.Link.shown c.self.inside.link) front (Ok f) (g.L.Link.shown c.try_write.new.self)) c.in-Ok-Bytes.field-0-is c.in-Ok-Bytes.ensures.takes in
     let some : 0 < n = omega arith in
     writes_front _ _ n front (subst (λ (s : GuestState). IsFront s.session.out front) c.self.view_is c.front.ensures) c.requires some t.0
     (c.sent.ensures ∙ ap (λ (s : GuestState). sent s.session n) c.self.view_is)

@@ -13,6 +13,8 @@ pub returns : goal.returns
 returns g c =
     let items = c.self.inside.guests.items in
     let within : c.args.at < length items = subst (λ (r : RowState). c.args.at < length r.guests) (sym c.self.view_is) c.requires in
+    let same = ◌∙◌ {b = c.behind-self.inside.inner.value} c.deref_mut.ensures.value c.behind-self.view_is in
     ap (λ (l : List RowGuest). record { guests = l; numbers = c.self.inside.numbers })
-    (set_changed (in_line c.args.line) c.args.at items _ c.set_line.new.self (slice_get_read items _ c.args.at _ refl within c.index_mut.ensures.value) c.set_line.ensures)
+    (set_changed (in_line c.args.line) c.args.at items _ c.set_line.new.self (slice_get_read items _ c.args.at _ refl within c.index_mut.ensures.value)
+    (◌∙◌ {b = in_line c.args.line c.deref_mut.result.now} c.set_line.ensures (ap (in_line c.args.line) same)))
     ∙ ap (λ (r : RowState). with_guest (in_line c.args.line) c.args.at r) c.self.view_is
