@@ -155,6 +155,19 @@ fn take_turns(
     Ok(())
 }
 
+/// Checks the output of a session.
+fn tells(
+    rt: &impl Abort,
+    alloc: Global,
+    session: &mut Session,
+    store: &mut Lending,
+    (input, output): (&str, &str),
+) -> Result<(), TurnFault> {
+    take_turns(rt, alloc, session, store, input)?;
+    assert_eq!(rt; session.out(), output.as_bytes(), "at {input}");
+    Ok(())
+}
+
 /// Checks the output of a session of its own.
 fn is_told(
     rt: &impl Abort,
@@ -164,9 +177,7 @@ fn is_told(
     output: &str,
 ) -> Result<(), TurnFault> {
     let mut session = Session::new(alloc, GREATEST);
-    take_turns(rt, alloc, &mut session, store, input)?;
-    assert_eq!(rt; session.out(), output.as_bytes(), "at {input}");
-    Ok(())
+    tells(rt, alloc, &mut session, store, (input, output))
 }
 
 fn session_is_told(

@@ -252,31 +252,58 @@ fn takes_hit(
 }
 
 /// Checks that the two parts of a hit are lent, and its text is written round them.
-fn a_session_lends(rt: &impl Abort, alloc: Global) -> Result<(), TurnFault> {
-    let (mut session, mut store) = (SessionOf::new(alloc, 100), Sharing::new(alloc)?);
-    takes_hit(rt, alloc, &mut session, &mut store)?;
-    writes_pieces(rt, &mut session, HIT, &[15, 4, 4, 7]);
+fn lends_parts(
+    rt: &impl Abort,
+    alloc: Global,
+    session: &mut SessionOf<LentOutput>,
+    store: &mut Sharing,
+) -> Result<(), TurnFault> {
+    takes_hit(rt, alloc, session, store)?;
+    writes_pieces(rt, session, HIT, &[15, 4, 4, 7]);
     Ok(())
 }
 
 /// Checks that a hit is written, whether or not there is memory to lend its parts.
-fn a_session_writes(rt: &impl Abort, alloc: Global) -> Result<(), TurnFault> {
-    let (mut session, mut store) = (SessionOf::new(alloc, 100), Sharing::new(alloc)?);
-    takes_hit(rt, alloc, &mut session, &mut store)?;
-    writes_text(rt, &mut session, HIT);
+fn writes_parts(
+    rt: &impl Abort,
+    alloc: Global,
+    session: &mut SessionOf<LentOutput>,
+    store: &mut Sharing,
+) -> Result<(), TurnFault> {
+    takes_hit(rt, alloc, session, store)?;
+    writes_text(rt, session, HIT);
     Ok(())
+}
+
+/// Checks a new session, which lends the parts of a hit.
+fn a_session_lends(rt: &impl Abort, alloc: Global, store: &mut Sharing) -> Result<(), TurnFault> {
+    let mut session = SessionOf::new(alloc, 100);
+    lends_parts(rt, alloc, &mut session, store)
+}
+
+/// Checks a new session, which writes a hit.
+fn a_session_writes(rt: &impl Abort, alloc: Global, store: &mut Sharing) -> Result<(), TurnFault> {
+    let mut session = SessionOf::new(alloc, 100);
+    writes_parts(rt, alloc, &mut session, store)
+}
+
+/// Checks a new store, whose hit is written.
+fn a_store_is_read(rt: &impl Abort, alloc: Global) -> Result<(), TurnFault> {
+    let mut store = Sharing::new(alloc)?;
+    a_session_writes(rt, alloc, &mut store)
 }
 
 #[test]
 fn a_hit_in_shared_memory_is_lent(rt: HostRuntime) -> Result<(), Fail> {
-    a_session_lends(&rt, rt.alloc())?;
+    let mut store = Sharing::new(rt.alloc())?;
+    a_session_lends(&rt, rt.alloc(), &mut store)?;
     Ok(())
 }
 
 #[test]
 fn a_hit_in_shared_memory_is_written(rt: HostRuntime) -> Result<(), Fail> {
-    if a_session_writes(&rt, rt.alloc()).is_err() {
-        a_session_writes(&rt, rt.alloc())?;
+    if a_store_is_read(&rt, rt.alloc()).is_err() {
+        a_store_is_read(&rt, rt.alloc())?;
     }
     Ok(())
 }

@@ -225,17 +225,32 @@ impl Source for Asking {
     }
 }
 
-/// Checks a session that is fed a command from a source and takes its turn.
-fn is_fed_from_a_source(rt: &impl Abort, alloc: Global) -> Result<(), AllocError> {
-    let mut store = store_of_64_pages(alloc)?;
+/// Takes the turn of a session that was fed `version`.
+fn tells_its_version(
+    rt: &impl Abort,
+    alloc: Global,
+    session: &mut Session,
+    store: &mut PlainStore,
+) -> Result<(), AllocError> {
+    turns(rt, alloc, session, store, "", 1)?;
+    assert_eq!(rt; session.out(), b"VERSION 1.6.0\r\n".as_slice());
+    Ok(())
+}
+
+/// Checks that a new session is fed a command from a source and takes its turn.
+fn is_fed(rt: &impl Abort, alloc: Global, store: &mut PlainStore) -> Result<(), AllocError> {
     let mut session = Session::new(alloc, PAGE);
     if session.feed_from(&mut Asking, 2048).is_err() {
         assert!(rt; session.is_idle());
         session.feed_from(&mut Asking, 2048)?;
     }
-    turns(rt, alloc, &mut session, &mut store, "", 1)?;
-    assert_eq!(rt; session.out(), b"VERSION 1.6.0\r\n".as_slice());
-    Ok(())
+    tells_its_version(rt, alloc, &mut session, store)
+}
+
+/// Checks a new session over a new store.
+fn is_fed_from_a_source(rt: &impl Abort, alloc: Global) -> Result<(), AllocError> {
+    let mut store = store_of_64_pages(alloc)?;
+    is_fed(rt, alloc, &mut store)
 }
 
 #[test]
@@ -283,10 +298,40 @@ fn a_block_of_many_pieces_is_passed_over(rt: HostRuntime) -> Result<(), Fail> {
 
 fn keys_take_turns(rt: &impl Abort, alloc: Global) -> Result<(), AllocError> {
     let mut store = store_of_64_pages(alloc)?;
+    two_take_turns(rt, alloc, &mut store)
+}
+
+/// Two new sessions take turns at a store.
+fn two_take_turns(
+    rt: &impl Abort,
+    alloc: Global,
+    store: &mut PlainStore,
+) -> Result<(), AllocError> {
     let mut reading = Session::new(alloc, GREATEST);
+    another_takes_turns(rt, alloc, store, &mut reading)
+}
+
+/// A new session takes turns with one that reads.
+fn another_takes_turns(
+    rt: &impl Abort,
+    alloc: Global,
+    store: &mut PlainStore,
+    reading: &mut Session,
+) -> Result<(), AllocError> {
     let mut writing = Session::new(alloc, GREATEST);
-    reads_between_writes(rt, alloc, &mut store, &mut reading, &mut writing)?;
-    is_closed_behind_its_output(rt, alloc, &mut store, &mut writing);
+    reads_and_closes(rt, alloc, store, reading, &mut writing)
+}
+
+/// One session reads while another writes, and the other closes behind its output.
+fn reads_and_closes(
+    rt: &impl Abort,
+    alloc: Global,
+    store: &mut PlainStore,
+    reading: &mut Session,
+    writing: &mut Session,
+) -> Result<(), AllocError> {
+    reads_between_writes(rt, alloc, store, reading, writing)?;
+    is_closed_behind_its_output(rt, alloc, store, writing);
     Ok(())
 }
 
@@ -339,9 +384,24 @@ fn keys_of_a_get_take_a_turn_each(rt: HostRuntime) -> Result<(), Fail> {
 /// Checks that a get of a block of 9000 bytes needs no memory beyond its text.
 fn rests(rt: &impl Abort, alloc: Global) -> Result<(), AllocError> {
     let mut store = store_of_64_pages(alloc)?;
+    rests_over(rt, alloc, &mut store)
+}
+
+/// Checks a new session over a store.
+fn rests_over(rt: &impl Abort, alloc: Global, store: &mut PlainStore) -> Result<(), AllocError> {
     let mut session = Session::new(alloc, PAGE);
-    stores_a_block(rt, alloc, &mut session, &mut store)?;
-    rests_behind_a_hit(rt, alloc, &mut session, &mut store)
+    stores_and_rests(rt, alloc, &mut session, store)
+}
+
+/// Stores the block, and rests behind its get.
+fn stores_and_rests(
+    rt: &impl Abort,
+    alloc: Global,
+    session: &mut Session,
+    store: &mut PlainStore,
+) -> Result<(), AllocError> {
+    stores_a_block(rt, alloc, session, store)?;
+    rests_behind_a_hit(rt, alloc, session, store)
 }
 
 /// A session that was fed nothing stores a block of 9000 bytes.
@@ -415,6 +475,20 @@ static STEPS: [(&str, &str, &str); 9] = [
     ("foo\r\n", "ERROR\r\n", BEFORE),
 ];
 
+/// Checks the output of a session for one command.
+fn answers(
+    rt: &impl Abort,
+    alloc: Global,
+    session: &mut Session,
+    store: &mut PlainStore,
+    command: &str,
+    text: &str,
+) -> Result<(), AllocError> {
+    turns(rt, alloc, session, store, command, 1)?;
+    assert_eq!(rt; session.out(), text.as_bytes(), "at {command}");
+    Ok(())
+}
+
 /// Checks the output of a session of its own.
 fn asks(
     rt: &impl Abort,
@@ -424,9 +498,7 @@ fn asks(
     text: &str,
 ) -> Result<(), AllocError> {
     let mut session = Session::new(alloc, GREATEST);
-    turns(rt, alloc, &mut session, store, command, 1)?;
-    assert_eq!(rt; session.out(), text.as_bytes(), "at {command}");
-    Ok(())
+    answers(rt, alloc, &mut session, store, command, text)
 }
 
 /// Takes a step after another turn.
@@ -468,8 +540,20 @@ fn is_decided_behind_a_turn(
     text: &str,
 ) -> Result<bool, AllocError> {
     let mut session = Session::new(alloc, GREATEST);
-    is_fed_behind_a_turn(rt, alloc, &mut session, store, command)?;
-    Ok(is_decided(rt, alloc, &mut session, store, command, text))
+    decides_behind_a_turn(rt, alloc, &mut session, store, command, text)
+}
+
+/// Takes the step behind another turn of a session, and returns whether it is decided.
+fn decides_behind_a_turn(
+    rt: &impl Abort,
+    alloc: Global,
+    session: &mut Session,
+    store: &mut PlainStore,
+    command: &str,
+    text: &str,
+) -> Result<bool, AllocError> {
+    is_fed_behind_a_turn(rt, alloc, session, store, command)?;
+    Ok(is_decided(rt, alloc, session, store, command, text))
 }
 
 /// Takes the turn that is due, and returns whether its step is decided.
