@@ -1,5 +1,5 @@
 -- The texts of replies.
-use Rattle.std.specs.Prelude.{ℕ, ◌+◌, ◌<◌, ◌==◌, Bool, true, false, List, [], ◌++◌, length, vec_capacity, codes, decimal, if◌then◌else◌, Option, Some, None, slice_get}
+use Rattle.std.specs.Prelude.{ℕ, ◌+◌, ◌<◌, ◌==◌, Bool, true, false, List, [], ◌++◌, length, min, vec_capacity, codes, decimal, if◌then◌else◌, Option, Some, None, slice_get}
 use Rattle.std.specs.List.{concat}
 use Rattle.std.specs.declared.vec.Vec.{Vec}
 use Rattle.std.specs.declared.alloc.Global.{Global}
@@ -18,6 +18,10 @@ use Rattle.mc_reply.specs.declared.text.Text.TheVariants.{First, Hit as FirstHit
 -- a vector has no room for these bytes behind those that it holds
 abbrev pub HasNoRoom : Vec ℕ Global → List ℕ → Type 0
 HasNoRoom vector bytes = vec_capacity vector < length vector.items + length bytes
+
+-- the number of bytes of parts, as far as 64 bits count them
+abbrev pub counted : (parts : List (List ℕ)) → ℕ
+counted parts = min (length (concat parts)) 18446744073709551615
 
 -- the text of a reply that isn't a retrieval's
 abbrev pub said : Reply → List ℕ

@@ -1,9 +1,9 @@
 //! The texts of retrievals.
 
-ghost use Rattle.std.specs.Prelude.{◌≡◌, ◌++◌, ◌<◌, ◌≤◌, ◌+◌, take, length, min, OnOk, OnErr};
+ghost use Rattle.std.specs.Prelude.{◌≡◌, ◌++◌, ◌<◌, ◌≤◌, ◌+◌, take, length, OnOk, OnErr};
 ghost use Rattle.std.specs.Prelude.{vec_capacity};
 ghost use Rattle.std.specs.List.{concat};
-ghost use Rattle.mc_reply.specs.Texts.{retrieval_text, hit_reply, hit_parts, end_text, HasNoRoom};
+ghost use Rattle.mc_reply.specs.Texts.{counted, retrieval_text, hit_reply, hit_parts, end_text, HasNoRoom};
 
 use crate::numbers::Numbers;
 use mc_protocol::{Bytes, Keys, Reply};
@@ -101,7 +101,7 @@ fn end_of(count: usize, at: usize) -> &'static [u8]
 
 /// Returns the number of bytes of parts, at most 2^64 - 1.
 pub fn length_of(parts: &[Bytes<'_>]) -> usize
-    ensures { result ≡ min (length (concat parts.now)) 18446744073709551615 }
+    ensures { result ≡ counted parts.now }
 {
     let mut counted = 0_usize;
     for part in parts {
@@ -122,7 +122,7 @@ fn append_hit(
     end: &[u8],
     out: &mut Vec<u8>,
 ) -> Result<(), AllocError>
-    requires { block_len ≡ min (length (concat parts.now)) 18446744073709551615 }
+    requires { block_len ≡ counted parts.now }
     ensures ok { OnOk result (out.new.items ≡ out.old.items
         ++ hit_parts key.now numbers.now (concat parts.now) end.now) }
     ensures counted { OnOk result (block_len ≡ length (concat parts.now)) }
