@@ -368,10 +368,10 @@ impl Note {
         ensures none { (greatest taken : ℕ) (unread : List ℕ) → IsNoted greatest self.now unread →
             result ≡ None → StaysWhole greatest taken unread }
     {
-        let Ok(noted) = self.said else {
+        let Ok(noted) = &self.said else {
             return None;
         };
-        let (exptime, keys, with_unique) = retrieval_in(&noted)?;
+        let (exptime, keys, with_unique) = retrieval_in(noted)?;
         Some(Cursor::first(keys, self.to, self.end + 1, with_unique, exptime))
     }
 }
