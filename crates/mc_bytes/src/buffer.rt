@@ -157,15 +157,15 @@ impl Buffer {
         }
     }
 
-    /// Reserves memory for exactly `more` bytes, if there is some, or takes a spare with room for
-    /// them and at most `most` bytes.
-    pub fn reserve(&mut self, more: usize, most: usize)
+    /// Reserves memory for exactly `more` bytes, if there is some. If spares may be taken, it takes
+    /// one with room for them and at most `most` bytes.
+    pub fn reserve(&mut self, more: usize, most: usize, may_take: bool)
         ensures same { self.new.bytes ≡ self.old.bytes }
         ensures grown { self.new.reserved
             ≤ max self.old.reserved (max (length self.old.bytes + more) most) }
     {
         let wanted = self.filled.saturating_add(more);
-        if wanted <= self.all.capacity() || !self.take_spare(wanted, most) {
+        if !may_take || wanted <= self.all.capacity() || !self.take_spare(wanted, most) {
             let room = self.all.len() - self.filled;
             let _ = self.all.reserve_exact(more.saturating_sub(room));
         }

@@ -7,7 +7,7 @@
 //! not by a closure: a closure that captures a lent `Command` has the unit type as its
 //! postcondition.
 
-ghost use Rattle.std.specs.Prelude.{◌≤◌};
+ghost use Rattle.std.specs.Prelude.{◌≤◌, ◌+◌};
 ghost use Rattle.mc_bytes.specs.Queues.{begun};
 
 use crate::append::Append;
@@ -154,10 +154,10 @@ impl<const KEPT: usize> Queue<KEPT> {
     /// Appends bytes of a text that wants `whole` bytes of memory, whose earlier ones are in the
     /// queue.
     ///
-    /// If `whole` is above `KEPT` and a sixteenth of it is there, room for all of it is reserved at
-    /// once, and nothing is moved from then on. So a text that is announced and never comes reserves
-    /// at most 17 times the bytes that came, and 16399 bytes. If that reservation is refused, the
-    /// queue grows as bytes come. An error leaves the bytes unchanged.
+    /// If `whole` is above `KEPT`, room for a sixteenth of it and 16384 bytes is reserved first. Once
+    /// a sixteenth is there, room for all of it is, and nothing is moved from then on. A text that is
+    /// announced and never comes reserves at most 17 times the bytes that came, and 16399 bytes. If a
+    /// reservation is refused, the queue grows as bytes come. An error leaves the bytes unchanged.
     pub fn push_part(&mut self, bytes: &[u8], whole: usize) -> Result<(), AllocError>
         ensures ok { OnOk result (self.new.bytes ≡ self.old.bytes ++ bytes.now) }
         ensures err { OnErr result (self.new.bytes ≡ self.old.bytes) }
@@ -307,8 +307,10 @@ impl<const KEPT: usize> Queue<KEPT> {
         }
     }
 
-    /// Reserves exactly `whole` bytes if a sixteenth of them is there, or takes a spare that has at
-    /// most an eighth more.
+    /// Reserves room for a text of `whole` bytes, if that is more than `KEPT`.
+    ///
+    /// Before a sixteenth of it is there the room is a sixteenth and a piece. From then on it is the
+    /// whole text's, or a spare that has at most an eighth more.
     fn make_room(&mut self, whole: usize)
         requires { IsHalfFull self.old }
         ensures same { self.new.bytes ≡ self.old.bytes }
@@ -317,12 +319,33 @@ impl<const KEPT: usize> Queue<KEPT> {
         ensures grown { self.new.reserved ≤ max self.old.reserved (begun (length self.old.bytes)) }
     {
         let there = self.len();
-        if KEPT < whole && whole / SHARE <= there && there < whole {
+        let wanted = if KEPT < whole {
+            wanted_bytes(whole, there)
+        } else {
+            0
+        };
+        if there < wanted {
             let most = whole.saturating_add(whole / 8);
-            self.buffer.reserve(whole - there, most.min(begun(there)));
+            self.buffer
+                .reserve(wanted - there, most.min(begun(there)), wanted == whole);
         }
         self.buffer.give_back(KEPT, self.alloc);
     }
+}
+
+/// Returns the memory in bytes to reserve for a text of `whole` bytes, of which these are there.
+///
+/// It is all of them once a sixteenth is there, and before that a sixteenth and a piece, so that
+/// memory grows in two steps.
+fn wanted_bytes(whole: usize, there: usize) -> usize
+    ensures { there + result ≤ begun there }
+{
+    if whole / SHARE <= there {
+        return whole;
+    }
+    let first = (whole / SHARE).saturating_add(BEYOND);
+    let most = begun(there).saturating_sub(there);
+    if first <= most { first } else { 0 }
 }
 
 /// Returns the memory in bytes for a text, a sixteenth of which is there.
