@@ -35,11 +35,12 @@ fn first_unlike_in<R: Wait>(
     first_unlike(&mut trial, alloc, rows)
 }
 
-/// Two items of a page each fill the store, and after a flush two others do.
-#[test]
-fn a_flush_frees_all_chunks(rt: HostRuntime) -> Result<(), Fail> {
-    let page = filled_block(rt.alloc(), ONE)?;
-    let page = page.as_slice();
+/// Fills the store with two items of a page each, and with two others after a flush.
+fn first_unlike_flush<R: Wait>(
+    rt: &R,
+    alloc: Global,
+    page: &[u8],
+) -> Result<Option<(u64, &'static str)>, StepFault> {
     let rows: [Row<'_>; 9] = [
         set(1000, b"b", 0, page, "stored"),
         set(1000, b"c", 0, page, "stored"),
@@ -51,15 +52,23 @@ fn a_flush_frees_all_chunks(rt: HostRuntime) -> Result<(), Fail> {
         set(1000, b"e", 0, page, "stored"),
         set(1000, b"f", 0, page, "no chunk"),
     ];
-    assert_eq!(rt; first_unlike_in(&rt, rt.alloc(), &rows)?, None);
+    first_unlike_in(rt, alloc, &rows)
+}
+
+#[test]
+fn a_flush_frees_all_chunks(rt: HostRuntime) -> Result<(), Fail> {
+    let page = filled_block(rt.alloc(), ONE)?;
+    let unlike = first_unlike_flush(&rt, rt.alloc(), page.as_slice())?;
+    assert_eq!(rt; unlike, None);
     Ok(())
 }
 
-/// The same holds after flush upon flush.
-#[test]
-fn each_flush_frees_all_chunks(rt: HostRuntime) -> Result<(), Fail> {
-    let page = filled_block(rt.alloc(), ONE)?;
-    let page = page.as_slice();
+/// Fills the store after flush upon flush.
+fn first_unlike_flushes<R: Wait>(
+    rt: &R,
+    alloc: Global,
+    page: &[u8],
+) -> Result<Option<(u64, &'static str)>, StepFault> {
     let rows: [Row<'_>; 9] = [
         set(1000, b"b", 0, page, "stored"),
         FLUSH,
@@ -71,6 +80,13 @@ fn each_flush_frees_all_chunks(rt: HostRuntime) -> Result<(), Fail> {
         set(1000, b"f", 0, page, "no chunk"),
         MISS,
     ];
-    assert_eq!(rt; first_unlike_in(&rt, rt.alloc(), &rows)?, None);
+    first_unlike_in(rt, alloc, &rows)
+}
+
+#[test]
+fn each_flush_frees_all_chunks(rt: HostRuntime) -> Result<(), Fail> {
+    let page = filled_block(rt.alloc(), ONE)?;
+    let unlike = first_unlike_flushes(&rt, rt.alloc(), page.as_slice())?;
+    assert_eq!(rt; unlike, None);
     Ok(())
 }

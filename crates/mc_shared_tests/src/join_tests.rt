@@ -61,16 +61,23 @@ fn first_unlike_join<R: Wait>(
     first_unlike(trial, alloc, &rows)
 }
 
+/// Returns the first unexpected answer of a new store with its second.
+fn first_unlike_join_in<R: Wait>(
+    rt: &R,
+    alloc: Global,
+    all: &[u8],
+) -> Result<Option<(u64, &'static str)>, StepFault> {
+    let mut trial = Trial::open_so(rt, alloc, LARGE)?;
+    first_unlike_join(&mut trial, alloc, all)
+}
+
 /// An item grows from two pages to three, is copied for a prepend, and stays for an append.
 ///
 /// One of four pages is refused, as three are free.
 #[test]
 fn joins_of_pages_are_answered(rt: HostRuntime) -> Result<(), Fail> {
     let all = bounded(rt.alloc(), 2_400_002)?;
-    let mut trial = Trial::open_so(&rt, rt.alloc(), LARGE)?;
-    assert_eq!(rt;
-        first_unlike_join(&mut trial, rt.alloc(), all.as_slice())?,
-        None
-    );
+    let unlike = first_unlike_join_in(&rt, rt.alloc(), all.as_slice())?;
+    assert_eq!(rt; unlike, None);
     Ok(())
 }

@@ -38,17 +38,28 @@ pub(crate) const LARGE: Settings = Settings {
     shelves: 1,
 };
 
-/// Returns a store with these settings, and with `a` and `k`, set at 1000 to `x` and `y`.
-fn filled_store(alloc: Global, settings: Settings) -> Result<Store<Fnv>, StepFault> {
-    let mut store = match Store::new(alloc, settings, Fnv) {
-        Err(_) => Store::new(alloc, settings, Fnv)?,
-        Ok(store) => store,
-    };
+/// Sets `a` and `k` at 1000 to `x` and `y`.
+fn fill(alloc: Global, store: &mut Store<Fnv>) -> Result<(), StepFault> {
     let now = Moment::from_seconds_at_most(1000);
     let set_a = step_of(b"a", Ask::Store(Verb::Set, 0, b"x"));
-    let _ = ask_step(&mut store, alloc, &set_a, now)?;
+    let _ = ask_step(store, alloc, &set_a, now)?;
     let set_k = step_of(b"k", Ask::Store(Verb::Set, 0, b"y"));
-    let _ = ask_step(&mut store, alloc, &set_k, now)?;
+    let _ = ask_step(store, alloc, &set_k, now)?;
+    Ok(())
+}
+
+/// Returns an empty store with these settings.
+fn unfilled_store(alloc: Global, settings: Settings) -> Result<Store<Fnv>, AllocError> {
+    match Store::new(alloc, settings, Fnv) {
+        Err(_) => Store::new(alloc, settings, Fnv),
+        made => made,
+    }
+}
+
+/// Returns a store with these settings, and with `a` and `k`, set at 1000 to `x` and `y`.
+fn filled_store(alloc: Global, settings: Settings) -> Result<Store<Fnv>, StepFault> {
+    let mut store = unfilled_store(alloc, settings)?;
+    fill(alloc, &mut store)?;
     Ok(store)
 }
 

@@ -278,6 +278,9 @@ fn parts_of<R: Wait>(heard: &mut Heard<'_, R>, alloc: Global) -> Option<(usize, 
     }
 }
 
+/// The first unexpected reply with its second, and the parts of a large item.
+type SeenLarge = (Option<(u64, &'static str)>, Option<(usize, usize)>);
+
 /// Sets `a` to a block, and reads it.
 ///
 /// Returns the first unexpected reply with its second, and the parts of the item.
@@ -285,7 +288,7 @@ fn seen_of_large<R: Wait>(
     heard: &mut Heard<'_, R>,
     alloc: Global,
     block: &[u8],
-) -> Result<(Option<(u64, &'static str)>, Option<(usize, usize)>), StepFault> {
+) -> Result<SeenLarge, StepFault> {
     let rows: &[Row<'_>] = &[
         set(1000, b"a", 0, block, "stored"),
         (1000, b"a", Ask::Get, Want::Hit(3, block)),
@@ -295,17 +298,22 @@ fn seen_of_large<R: Wait>(
     Ok((unlike, parts_of(heard, alloc)))
 }
 
+/// Returns them for a new store.
+fn seen_in_new_store<R: Wait>(rt: &R, alloc: Global, block: &[u8]) -> Result<SeenLarge, StepFault> {
+    let (shared, caller) = shared_store(alloc, LARGE)?;
+    let mut heard = Heard {
+        asking: Asking::new(rt, &shared, caller, &NoGate),
+    };
+    seen_of_large(&mut heard, alloc, block)
+}
+
 /// A block in three pages is delivered whole and needs no memory.
 ///
 /// It succeeds whatever allocation is refused.
 #[test]
 fn an_item_of_several_pages_is_told_where_it_lies(rt: HostRuntime) -> Result<(), Fail> {
     let block = large_block(rt.alloc())?;
-    let (shared, caller) = shared_store(rt.alloc(), LARGE)?;
-    let mut heard = Heard {
-        asking: Asking::new(&rt, &shared, caller, &NoGate),
-    };
-    let seen = seen_of_large(&mut heard, rt.alloc(), block.as_slice())?;
+    let seen = seen_in_new_store(&rt, rt.alloc(), block.as_slice())?;
     assert_eq!(rt; seen, (None, Some((3, 2_500_000))));
     Ok(())
 }
