@@ -4,13 +4,13 @@ ghost use Rattle.std.specs.Prelude.{◌≡◌, ◌≤◌, length, IfOk, OnErr};
 ghost use Rattle.mc_protocol.specs.Commands.{key_of};
 ghost use Rattle.mc_protocol.specs.Laws.{IsOnKey};
 ghost use Rattle.mc_shelf.specs.States.{CanStandAt};
-ghost use Rattle.mc_shelf.specs.Plans.{CanLook, StepTaken};
+ghost use Rattle.mc_shelf.specs.Plans.{CanLook, StepTaken, IsPlan, HasRoom};
 
 use crate::seen::account_at;
 use crate::stores::set_up;
 use mc_hop::{Fnv, KeyHash};
 use mc_protocol::{KeyStep, Reply, StepFault, Steps};
-use mc_shelf::{Begun, Brought, Desk, Settings, Shelf, Store, StoreParts};
+use mc_shelf::{Begun, Brought, Desk, Plan, Settings, Shelf, Store, StoreParts};
 use mc_testing::{Row, ask_step, is_wanted, step_of};
 use mc_time::Moment;
 use std::alloc::{AllocError, Global};
@@ -30,9 +30,39 @@ fn is_left(begun: &Begun) -> bool {
     }
 }
 
+/// Takes a step that was planned. Returns whether something was left to its second part.
+///
+/// A join gets pages in exchange for those of its item.
+fn take_planned(
+    alloc: Global,
+    shelf: &mut Shelf,
+    desk: &mut Desk,
+    plan: &mut Plan<'_>,
+    step: &KeyStep<'_>,
+    left: &mut bool,
+) -> Result<Reply, StepFault>
+    requires plan { IsPlan plan.old shelf.old.content step.now plan.old.moment }
+    requires room { HasRoom plan.old shelf.old step.now }
+    requires key { length (key_of step.now) ≤ 250 }
+    requires stands { CanStandAt (key_of step.now) shelf.old.content desk.old }
+    ensures took { IfOk result (λ reply. StepTaken step.now plan.old.moment plan.old.hash
+        shelf.old.content desk.old reply shelf.new.content desk.new) }
+    ensures err { OnErr result
+        ((shelf.new.content ≡ shelf.old.content) × (desk.new ≡ desk.old)) }
+{
+    let exchange = shelf.exchange(alloc, plan)?;
+    let brought = Brought {
+        pages: None,
+        exchange,
+    };
+    let begun = shelf.begin(alloc, plan, step, desk, brought)?;
+    *left = is_left(&begun);
+    Ok(shelf.finish(plan, begun, step))
+}
+
 /// Takes a step on a shelf's key in two parts. Returns whether something was left to the second.
 ///
-/// Nothing comes between them. A join gets pages in exchange for those of its item.
+/// Nothing comes between them.
 fn step_in_parts(
     alloc: Global,
     shelf: &mut Shelf,
@@ -50,14 +80,7 @@ fn step_in_parts(
 {
     let HashedStep { step, hash } = *hashed;
     let mut plan = shelf.look(alloc, step, hash, now)?;
-    let exchange = shelf.exchange(alloc, &plan)?;
-    let brought = Brought {
-        pages: None,
-        exchange,
-    };
-    let begun = shelf.begin(alloc, &plan, step, desk, brought)?;
-    *left = is_left(&begun);
-    Ok(shelf.finish(&mut plan, begun, step))
+    take_planned(alloc, shelf, desk, &mut plan, step, left)
 }
 
 /// Takes a step at its key's shelf in two parts. Returns whether something was left to the second.
