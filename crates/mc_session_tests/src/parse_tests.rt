@@ -288,12 +288,22 @@ fn a_queue_that_rests_keeps_a_first_piece(rt: HostRuntime) -> Result<(), AllocEr
     keeps_a_first_piece(&rt, &mut Queue::new(rt.alloc()))
 }
 
-fn makes_room_at_once(rt: &impl Abort, queue: &mut Queue<64>) -> Result<(), AllocError> {
-    queue.push_part(&[b'x'; 99], 1600)?;
-    queue.push_part(b"x", 1600)?;
-    assert!(rt; queue.capacity() < 1600);
-    queue.push_part(b"x", 1600)?;
-    assert!(rt; queue.capacity() >= 1600 && queue.len() == 101);
+/// The bytes of a text that comes in parts, and a part of them that is just below a sixteenth.
+const WHOLE: usize = 320_000;
+
+const BELOW: usize = 19_999;
+
+/// Checks the memory of a queue to which this part of the text is pushed first.
+fn makes_room_at_once(
+    rt: &impl Abort,
+    queue: &mut Queue<64>,
+    part: &[u8],
+) -> Result<(), AllocError> {
+    queue.push_part(part, WHOLE)?;
+    queue.push_part(b"x", WHOLE)?;
+    assert!(rt; queue.capacity() >= WHOLE / 16 + 16_384 && queue.capacity() < WHOLE);
+    queue.push_part(b"x", WHOLE)?;
+    assert!(rt; queue.capacity() >= WHOLE && queue.len() == BELOW + 2);
     queue.clear();
     assert!(rt; queue.capacity() <= 64);
     Ok(())
@@ -301,7 +311,7 @@ fn makes_room_at_once(rt: &impl Abort, queue: &mut Queue<64>) -> Result<(), Allo
 
 #[test]
 fn room_is_made_at_once_for_a_text_that_has_begun(rt: HostRuntime) -> Result<(), AllocError> {
-    makes_room_at_once(&rt, &mut Queue::new(rt.alloc()))
+    makes_room_at_once(&rt, &mut Queue::new(rt.alloc()), &[b'x'; BELOW])
 }
 
 /// Pushes a part of 400 bytes, and once more if memory is refused. The queue is unchanged then.
