@@ -1,7 +1,7 @@
 //! The texts of a hit around its block, for an output that takes the block itself elsewhere.
 
 ghost use Rattle.std.specs.Prelude.{◌≡◌, ◌++◌, ◌<◌, ◌↔◌, length, codes, slice_get, IsTrue, OnOk, OnErr};
-ghost use Rattle.mc_reply.specs.Texts.{IsRetrieval, asked_line, numbers_text, end_text};
+ghost use Rattle.mc_reply.specs.Texts.{IsRetrieval, asked_line, end_text};
 
 use crate::numbers::Numbers;
 use mc_bytes::Append;
@@ -92,22 +92,14 @@ fn write_front(
     let Some(key) = keys.get(0) else {
         unreachable!()
     };
-    let numbers = line_end(with_unique, front);
+    let HitFront {
+        flags,
+        unique,
+        block_len,
+        ..
+    } = *front;
+    let numbers = Numbers::of_hit(flags, block_len, unique, with_unique);
     append_line(key, numbers.as_slice(), out)
-}
-
-/// Returns the end of a hit's first line: its numbers, which are behind the key.
-fn line_end(with_unique: bool, front: &HitFront<'_>) -> Numbers
-    ensures { result ≡ numbers_text
-        with_unique front.now.flags front.now.unique front.now.block_len }
-{
-    let mut numbers = Numbers::new();
-    if with_unique {
-        numbers.put_word(front.unique);
-    }
-    numbers.put_word(front.block_len as u64);
-    numbers.put_word(front.flags as u64);
-    numbers
 }
 
 /// Appends the first line of a hit, whose numbers are behind the key. An error leaves the old text.

@@ -26,6 +26,7 @@ impl Model for Numbers {
 
 impl Numbers {
     ghost use Rattle.std.specs.Prelude.{◌≡◌, ◌≤◌, ◌+◌, ◌++◌, length, codes, decimal};
+    ghost use Rattle.mc_reply.specs.Texts.{numbers_text};
 
     /// Returns a line end without numbers.
     pub fn new() -> Numbers
@@ -38,6 +39,21 @@ impl Numbers {
             bytes,
             start: LONGEST - 2,
         }
+    }
+
+    /// Returns the end of a hit's first line: its flags, the length of its block and, if it is asked
+    /// for, its unique number.
+    #[inline]
+    pub fn of_hit(flags: u32, block_len: usize, unique: u64, with_unique: bool) -> Numbers
+        ensures { result ≡ numbers_text with_unique flags unique block_len }
+    {
+        let mut numbers = Numbers::new();
+        if with_unique {
+            numbers.put_word(unique);
+        }
+        numbers.put_word(block_len as u64);
+        numbers.put_word(flags as u64);
+        numbers
     }
 
     /// Puts the digits of a number before the text.

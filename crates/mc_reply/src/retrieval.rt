@@ -76,13 +76,8 @@ pub(crate) fn write_found(
     let Some(key) = keys.get(at) else {
         unreachable!()
     };
-    let mut numbers = Numbers::new();
-    if with_unique {
-        numbers.put_word(unique);
-    }
     let block_len = length_of(parts);
-    numbers.put_word(block_len as u64);
-    numbers.put_word(flags as u64);
+    let numbers = Numbers::of_hit(flags, block_len, unique, with_unique);
     let before = out.len();
     let result = append_hit(key, numbers.as_slice(), parts, block_len, end, out);
     if result.is_err() {
