@@ -2,14 +2,15 @@
 use Rattle.std.specs.Prelude.{◌≡◌, ◌⊎◌, ℕ, ◌+◌, ◌^◌, ◌<◌, ◌≤◌, List, [], ◌++◌, length, take, Option}
 use Rattle.std.specs.Io.KnownBytes.{Appends, Consumes, IsAtEnd}
 use Rattle.mc_session.specs.declared.endpoint.Endpoint.{Ghosts as Relations}
+use Rattle.mc_session.specs.declared.rounds.TheConstants.{LONGEST_PIECE, WRITE_AT}
 
 -- the most bytes that are read at once
 abbrev pub longest_piece : ℕ
-longest_piece = 16384
+longest_piece = LONGEST_PIECE
 
 -- a turn is taken only with less output than this, in bytes
 abbrev pub most_waiting : ℕ
-most_waiting = 65536
+most_waiting = WRITE_AT
 
 -- an endpoint, its store, what is left to be read, and what was written
 pub record Scene (E S : Type 0) : Type 0 where
@@ -46,7 +47,7 @@ module _ {E S : Type 0} (relations : Relations E S) where
 module _ {E S : Type 0} (relations : Relations E S) (may_give : ℕ → Type 0) where
   -- What was done with an endpoint: the number of turns given, what was read and what was written.
   -- Each turn was given at a moment that the clock may give, with less than 64 KiB of output.
-  -- Pieces of at most 16384 bytes came only while no turn was due and no output was left.
+  -- Pieces of at most `longest_piece` bytes came only while no turn was due and no output was left.
   pub data Exchange (first : E) (before : S) : (turns : ℕ) → (read written : List ℕ) → E → S
       → Type 0 where
     begins : Exchange first before 0 [] [] first before

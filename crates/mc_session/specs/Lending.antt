@@ -8,6 +8,10 @@ abbrev pub behind_bytes : {Z : Type 0} → Option (Box Behind Z) → List ℕ
 behind_bytes None = []
 behind_bytes (Some behind) = behind.value.parts ++ behind.value.tail.bytes
 
+-- texts, the parts that are lent behind them, and the texts behind these
+abbrev pub all_bytes : (head : List ℕ) → Behind → List ℕ
+all_bytes head behind = head ++ (behind.parts ++ behind.tail.bytes)
+
 -- there are bytes that are lent, and few texts in front of them, or no parts
 abbrev pub IsArranged : {Z : Type 0} → (head : List ℕ) → Option (Box Behind Z) → Type 0
 IsArranged head None = Unit {0}

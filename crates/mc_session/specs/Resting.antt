@@ -2,6 +2,7 @@
 use Rattle.std.specs.Prelude.{ℕ, ◌+◌}
 use Rattle.mc_bytes.specs.Queues.{first_piece}
 use Rattle.mc_parse.specs.Feeds.{kept_in_feed}
+use Rattle.mc_session.specs.Outputs.{kept_output}
 
 -- the most memory in bytes that an idle session keeps, without unread bytes and output
 abbrev pub resting : ℕ
@@ -9,4 +10,4 @@ resting = first_piece + first_piece
 
 -- the most memory in bytes that a session keeps without unread bytes and output
 abbrev pub kept_empty : ℕ
-kept_empty = kept_in_feed + 131072
+kept_empty = kept_in_feed + kept_output

@@ -27,7 +27,7 @@ module _ {S : Type 0} (relations : Relations S) (may_give : ℕ → Type 0) wher
 
   -- What was done with a session since it was opened: the number of calls of its turn, what was
   -- read and written, and the turns that were taken. Each call was made with less than 64 KiB of
-  -- output, and pieces of at most 16384 bytes came only while no turn was due.
+  -- output, and pieces of at most `longest_piece` bytes came only while no turn was due.
   pub data Course (greatest : ℕ) (before : S) : (calls : ℕ) → (read written : List ℕ)
       → List (ProtocolUnit × ℕ) → SessionState → S → Type 0 where
     begins : Course greatest before 0 [] [] [] (opened greatest) before

@@ -3,12 +3,13 @@
 ghost use Rattle.std.specs.Prelude.{◌≡◌, ◌++◌, OnOk, OnErr};
 ghost use Rattle.mc_session.specs.Outputs.{IsBegun};
 
-use mc_bytes::{Append, Lents, Queue};
+use crate::output::Texts;
+use mc_bytes::{Append, Lents};
 use std::alloc::AllocError;
 
 /// Appends a text, a copy of parts, and a text: all, or nothing after an error.
 pub fn append_copy<T: Append, U: Append>(
-    queue: &mut Queue<131072>,
+    queue: &mut Texts,
     front: &T,
     parts: Lents,
     back: &U,
@@ -30,7 +31,7 @@ pub fn append_copy<T: Append, U: Append>(
 
 /// Appends a text, a copy of parts, and a text. After an error a part of them may be appended.
 fn append_all<T: Append, U: Append>(
-    queue: &mut Queue<131072>,
+    queue: &mut Texts,
     front: &T,
     parts: &mut Lents,
     back: &U,
@@ -47,7 +48,7 @@ fn append_all<T: Append, U: Append>(
 }
 
 /// Appends a copy of parts, which are consumed. After an error some may be appended.
-fn copy_parts(queue: &mut Queue<131072>, parts: &mut Lents) -> Result<(), AllocError>
+fn copy_parts(queue: &mut Texts, parts: &mut Lents) -> Result<(), AllocError>
     ensures ok { OnOk result (queue.new.bytes ≡ queue.old.bytes ++ parts.old) }
     ensures begins { IsBegun queue.old.bytes queue.new.bytes }
 {

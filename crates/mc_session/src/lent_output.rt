@@ -2,10 +2,10 @@
 
 ghost use Rattle.std.specs.Prelude.{◌≡◌, ◌<◌, ◌≤◌, ◌^◌, ◌↔◌, [], ◌++◌, length, drop, IsTrue, IsFalse, OnOk, OnErr, IfOk};
 ghost use Rattle.mc_bytes.specs.Parts.{IsFront};
-ghost use Rattle.mc_session.specs.Lending.{behind_bytes, IsArranged};
+ghost use Rattle.mc_session.specs.Lending.{behind_bytes, all_bytes, IsArranged};
 
 use crate::copying::append_copy;
-use crate::output::Outgoing;
+use crate::output::{Outgoing, Texts};
 use mc_bytes::{Append, Lents, Queue, Spares};
 use std::alloc::{AllocError, Global};
 use std::marker::Model;
@@ -18,11 +18,11 @@ const LONGEST: usize = 1 << 62;
 #[derive(Drop)]
 pub struct Behind {
     parts: Lents,
-    tail: Queue<131072>,
+    tail: Texts,
 }
 
-/// Texts, parts that are lent, and texts behind them. An empty output keeps at most 131072 bytes of
-/// memory.
+/// Texts, parts that are lent, and texts behind them. An empty output keeps at most `KEPT_OUTPUT`
+/// bytes of memory.
 ///
 /// A part is counted and not copied, and it is given back once it is written. Without parts the
 /// output is a queue. Contracts see the bytes.
@@ -30,7 +30,7 @@ pub struct Behind {
 pub struct LentOutput {
     alloc: Global,
     spares: Option<Spares>,
-    head: Queue<131072>,
+    head: Texts,
     /// What comes behind the head, if parts are lent.
     behind: Option<Box<Behind>>,
 }
@@ -175,9 +175,9 @@ fn behind_of<U: Append>(
 
 /// Lends the first bytes of texts and of what comes behind them.
 #[inline(never)]
-fn front_of<'a>(head: &'a Queue<131072>, behind: &'a Behind) -> &'a [u8]
+fn front_of<'a>(head: &'a Texts, behind: &'a Behind) -> &'a [u8]
     requires { 0 < length behind.now.parts }
-    ensures { IsFront (head.now.bytes ++ (behind.now.parts ++ behind.now.tail.bytes)) result.now }
+    ensures { IsFront (all_bytes head.now.bytes behind.now) result.now }
 {
     if head.is_empty() {
         behind.parts.front()
@@ -188,9 +188,9 @@ fn front_of<'a>(head: &'a Queue<131072>, behind: &'a Behind) -> &'a [u8]
 
 /// Returns the number of bytes of texts and of what comes behind them.
 #[inline(never)]
-fn len_of(head: &Queue<131072>, behind: &Behind) -> usize
+fn len_of(head: &Texts, behind: &Behind) -> usize
     requires { length head.now.bytes ≤ 2 ^ 62 }
-    ensures { result ≡ length (head.now.bytes ++ (behind.now.parts ++ behind.now.tail.bytes)) }
+    ensures { result ≡ length (all_bytes head.now.bytes behind.now) }
 {
     let tail = behind.tail.as_slice().len();
     head.len() + (behind.parts.len() + tail)
@@ -198,9 +198,9 @@ fn len_of(head: &Queue<131072>, behind: &Behind) -> usize
 
 /// Returns whether a text is that of texts and of what comes behind them.
 #[inline(never)]
-fn are_all(head: &Queue<131072>, behind: &Behind, text: &[u8]) -> bool
+fn are_all(head: &Texts, behind: &Behind, text: &[u8]) -> bool
     ensures { IsTrue result ↔
-        (head.now.bytes ++ (behind.now.parts ++ behind.now.tail.bytes) ≡ text.now) }
+        (all_bytes head.now.bytes behind.now ≡ text.now) }
 {
     let (first, rest) = text.split_at(text.len().min(head.len()));
     let (middle, last) = rest.split_at(rest.len().min(behind.parts.len()));
@@ -218,9 +218,9 @@ fn is_same(one: &[u8], other: &[u8]) -> bool
 
 /// Returns how many bytes are counted if the texts count this many: a part that is lent counts by
 /// the memory that it keeps.
-fn count_of(head: &Queue<131072>, behind: &Behind, texts: usize) -> usize
+fn count_of(head: &Texts, behind: &Behind, texts: usize) -> usize
     requires { length head.now.bytes ≤ 2 ^ 62 }
-    ensures { length (head.now.bytes ++ (behind.now.parts ++ behind.now.tail.bytes)) ≤ result }
+    ensures { length (all_bytes head.now.bytes behind.now) ≤ result }
 {
     texts
         .saturating_add(behind.parts.kept_bytes())
@@ -229,9 +229,9 @@ fn count_of(head: &Queue<131072>, behind: &Behind, texts: usize) -> usize
 
 /// Returns how many bytes of texts and of what comes behind them are in memory.
 #[inline(never)]
-fn filled_bytes_of(head: &Queue<131072>, behind: &Behind) -> usize
+fn filled_bytes_of(head: &Texts, behind: &Behind) -> usize
     requires { length head.now.bytes ≤ 2 ^ 62 }
-    ensures { length (head.now.bytes ++ (behind.now.parts ++ behind.now.tail.bytes)) ≤ result }
+    ensures { length (all_bytes head.now.bytes behind.now) ≤ result }
 {
     let texts = head
         .filled_bytes()
@@ -241,9 +241,9 @@ fn filled_bytes_of(head: &Queue<131072>, behind: &Behind) -> usize
 
 /// Returns the number of bytes reserved for texts and for what comes behind them.
 #[inline(never)]
-fn capacity_of(head: &Queue<131072>, behind: &Behind) -> usize
+fn capacity_of(head: &Texts, behind: &Behind) -> usize
     requires { length head.now.bytes ≤ 2 ^ 62 }
-    ensures { length (head.now.bytes ++ (behind.now.parts ++ behind.now.tail.bytes)) ≤ result }
+    ensures { length (all_bytes head.now.bytes behind.now) ≤ result }
 {
     let texts = head.capacity().saturating_add(behind.tail.capacity());
     count_of(head, behind, texts)
@@ -263,7 +263,7 @@ fn append_behind<T: Append>(behind: &mut Behind, text: &T, largest: usize) -> Re
 /// Appends a text in front of parts that are lent. An error leaves the bytes unchanged.
 ///
 /// The error is a refused allocation, or more than 2^62 bytes.
-fn append_within<T: Append>(head: &mut Queue<131072>, text: &T) -> Result<(), AllocError>
+fn append_within<T: Append>(head: &mut Texts, text: &T) -> Result<(), AllocError>
     requires { T.can_append text.now }
     ensures ok { OnOk result (head.new.bytes ≡ head.old.bytes ++ T.bytes text.now) }
     ensures few { OnOk result (length head.new.bytes ≤ 2 ^ 62) }
@@ -280,7 +280,7 @@ fn append_within<T: Append>(head: &mut Queue<131072>, text: &T) -> Result<(), Al
 
 /// Drops the first `n` bytes of an output, and gives the parts back that are written.
 #[inline(never)]
-fn consume_front(head: &mut Queue<131072>, behind: &mut Option<Box<Behind>>, n: usize)
+fn consume_front(head: &mut Texts, behind: &mut Option<Box<Behind>>, n: usize)
     requires arranged { IsArranged head.old.bytes behind.old }
     requires within { n ≤ length (head.old.bytes ++ behind_bytes behind.old) }
     ensures arranged { IsArranged head.new.bytes behind.new }
@@ -301,13 +301,13 @@ fn consume_front(head: &mut Queue<131072>, behind: &mut Option<Box<Behind>>, n: 
 ///
 /// Returns whether all parts are written. The texts behind them are then the first.
 #[inline(never)]
-fn consume_lent(head: &mut Queue<131072>, behind: &mut Behind, n: usize) -> bool
+fn consume_lent(head: &mut Texts, behind: &mut Behind, n: usize) -> bool
     requires some { 0 < length behind.old.parts }
-    requires within { n ≤ length (head.old.bytes ++ (behind.old.parts ++ behind.old.tail.bytes)) }
+    requires within { n ≤ length (all_bytes head.old.bytes behind.old) }
     ensures spent { IsTrue result → head.new.bytes
-        ≡ drop n (head.old.bytes ++ (behind.old.parts ++ behind.old.tail.bytes)) }
-    ensures left { IsFalse result → head.new.bytes ++ (behind.new.parts ++ behind.new.tail.bytes)
-        ≡ drop n (head.old.bytes ++ (behind.old.parts ++ behind.old.tail.bytes)) }
+        ≡ drop n (all_bytes head.old.bytes behind.old) }
+    ensures left { IsFalse result → all_bytes head.new.bytes behind.new
+        ≡ drop n (all_bytes head.old.bytes behind.old) }
     ensures some { IsFalse result → 0 < length behind.new.parts }
     ensures few { IsFalse result → length head.new.bytes ≤ length head.old.bytes }
 {
@@ -320,11 +320,11 @@ fn consume_lent(head: &mut Queue<131072>, behind: &mut Behind, n: usize) -> bool
 }
 
 /// Drops the first `n` bytes of texts, of parts and of the texts behind them.
-fn consume_each(head: &mut Queue<131072>, behind: &mut Behind, n: usize)
+fn consume_each(head: &mut Texts, behind: &mut Behind, n: usize)
     requires some { 0 < length behind.old.parts }
-    requires within { n ≤ length (head.old.bytes ++ (behind.old.parts ++ behind.old.tail.bytes)) }
-    ensures bytes { head.new.bytes ++ (behind.new.parts ++ behind.new.tail.bytes)
-        ≡ drop n (head.old.bytes ++ (behind.old.parts ++ behind.old.tail.bytes)) }
+    requires within { n ≤ length (all_bytes head.old.bytes behind.old) }
+    ensures bytes { all_bytes head.new.bytes behind.new
+        ≡ drop n (all_bytes head.old.bytes behind.old) }
     ensures spent { behind.new.parts ≡ [] → head.new.bytes ≡ [] }
     ensures few { length head.new.bytes ≤ length head.old.bytes }
 {

@@ -44,6 +44,6 @@ pub use laws::{
 };
 pub use lent_output::LentOutput;
 pub use output::{Outgoing, Output};
-pub use rounds::{TurnContext, WRITE_AT, piece_buffer, serve_endpoint, write_out};
+pub use rounds::{LONGEST_PIECE, TurnContext, WRITE_AT, piece_buffer, serve_endpoint, write_out};
 pub use serving::{ServeFault, serve};
 pub use session::{Session, SessionOf, Turn, TurnFault};

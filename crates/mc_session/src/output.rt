@@ -5,14 +5,24 @@ use mc_bytes::{Append, Lents, Queue, Spares};
 use std::alloc::{AllocError, Global};
 use std::marker::Model;
 
+/// The most bytes of memory that an empty output keeps.
+///
+/// An output that is written once it has 65536 bytes seldom takes more, so its memory is seldom
+/// reserved again.
+pub const KEPT_OUTPUT: usize = 131072;
+
+/// Texts that aren't written yet.
+pub type Texts = Queue<KEPT_OUTPUT>;
+
 /// The output of a session: texts are appended at its end, and what is written is dropped at its
 /// front.
 ///
-/// Its bytes may lie in several parts of memory, of which it lends the first.
+/// Its bytes may lie in several parts of memory. It lends the first part.
 pub trait Outgoing {
     ghost use Rattle.std.specs.Prelude.{◌≡◌, ◌≤◌, ◌++◌, ◌↔◌, ℕ, List, [], drop, length, IsTrue, OnOk, OnErr};
     ghost use Rattle.mc_bytes.specs.Queues.{first_piece};
     ghost use Rattle.mc_bytes.specs.Parts.{IsFront};
+    ghost use Rattle.mc_session.specs.Outputs.{kept_output};
 
     /// The bytes that aren't written yet.
     ghost bytes: { Self → List ℕ };
@@ -77,7 +87,7 @@ pub trait Outgoing {
     /// Returns the number of reserved bytes.
     fn capacity(&self) -> usize
         ensures filled { length (bytes self.now) ≤ result }
-        ensures empty { bytes self.now ≡ [] → result ≤ 131072 };
+        ensures empty { bytes self.now ≡ [] → result ≤ kept_output };
 
     /// Frees memory beyond that of a first piece, if there are no bytes.
     ///
@@ -87,13 +97,12 @@ pub trait Outgoing {
         ensures empty { bytes self.new ≡ [] → result ≤ first_piece };
 }
 
-/// The texts that aren't written yet. An empty output keeps at most 131072 bytes of memory.
+/// The texts that aren't written yet. An empty output keeps at most `KEPT_OUTPUT` bytes of memory.
 ///
-/// An output that is written once it has 65536 bytes seldom takes more, so its memory is seldom
-/// reserved again. Contracts see the bytes.
+/// Contracts see the bytes.
 #[derive(Drop)]
 pub struct Output {
-    queue: Queue<131072>,
+    texts: Texts,
 }
 
 impl Model for Output {
@@ -101,7 +110,7 @@ impl Model for Output {
 
     ghost Value = { List ℕ };
 
-    ghost view = { λ o. o.queue.bytes };
+    ghost view = { λ o. o.texts.bytes };
 }
 
 impl Output {
@@ -112,7 +121,7 @@ impl Output {
     pub fn as_slice(&self) -> &[u8]
         ensures { result.now ≡ self.now }
     {
-        self.queue.as_slice()
+        self.texts.as_slice()
     }
 }
 
@@ -121,32 +130,32 @@ impl Outgoing for Output {
 
     fn new(alloc: Global, spares: Option<Spares>) -> Output {
         Output {
-            queue: Queue::with_spares(alloc, spares),
+            texts: Queue::with_spares(alloc, spares),
         }
     }
 
     #[inline]
     fn front(&self) -> &[u8] {
-        self.queue.as_slice()
+        self.texts.as_slice()
     }
 
     #[inline]
     fn len(&self) -> usize {
-        self.queue.len()
+        self.texts.len()
     }
 
     fn is(&self, text: &[u8]) -> bool {
-        self.queue.as_slice() == text
+        self.texts.as_slice() == text
     }
 
     #[inline]
     fn append<T: Append>(&mut self, text: &T) -> Result<(), AllocError> {
-        self.queue.append(text)
+        self.texts.append(text)
     }
 
     #[inline]
     fn append_sized<T: Append>(&mut self, text: &T, largest: usize) -> Result<(), AllocError> {
-        self.queue.append_sized(text, largest)
+        self.texts.append_sized(text, largest)
     }
 
     /// Appends a text, a copy of parts that are lent, and a text behind them.
@@ -156,24 +165,24 @@ impl Outgoing for Output {
         parts: Lents,
         back: &U,
     ) -> Result<(), AllocError> {
-        append_copy(&mut self.queue, front, parts, back)
+        append_copy(&mut self.texts, front, parts, back)
     }
 
     /// Drops the first `n` bytes, which were written. It moves nothing.
     #[inline]
     fn consume(&mut self, n: usize) {
-        self.queue.consume(n);
+        self.texts.consume(n);
     }
 
     fn filled_bytes(&self) -> usize {
-        self.queue.filled_bytes()
+        self.texts.filled_bytes()
     }
 
     fn capacity(&self) -> usize {
-        self.queue.capacity()
+        self.texts.capacity()
     }
 
     fn rest(&mut self) -> usize {
-        self.queue.rest()
+        self.texts.rest()
     }
 }

@@ -17,7 +17,7 @@ use std::io::{ErrorKind, Read, Write};
 const TURNS: u64 = 1 << 40;
 
 /// The most bytes read at once.
-const PIECE: usize = 16384;
+pub const LONGEST_PIECE: usize = 16384;
 
 /// Output of this many bytes is written before the next turn.
 pub const WRITE_AT: usize = 65536;
@@ -29,12 +29,12 @@ pub struct TurnContext<'a, C: Clock> {
     pub clock: &'a C,
 }
 
-/// Returns a buffer for pieces of 16384 bytes. The only error is `NoMemory`.
+/// Returns a buffer for pieces of `LONGEST_PIECE` bytes. The only error is `NoMemory`.
 pub fn piece_buffer(alloc: Global) -> Result<Vec<u8>, ServeFault>
     ensures ok { IfOk result (λ buffer. length buffer.items ≡ longest_piece) }
     ensures err { IfErr result (λ fault. fault ≡ ServeFault.NoMemory) }
 {
-    match vec![in alloc; 0; PIECE] {
+    match vec![in alloc; 0; LONGEST_PIECE] {
         Ok(buffer) => Ok(buffer),
         Err(_) => Err(ServeFault::NoMemory),
     }
@@ -174,7 +174,7 @@ pub fn write_out<W: Write, S, E: Endpoint<S>>(
 
 /// Reads the next piece and brings it to the endpoint. Returns whether the input is at its end.
 ///
-/// The piece has at most `PIECE` bytes, whatever room there is. An interrupted read brings nothing.
+/// The piece has at most `LONGEST_PIECE` bytes, whatever room there is. An interrupted read brings nothing.
 fn read_piece<R: Read, S, E: Endpoint<S>>(
     alloc: Global,
     reader: &mut R,
@@ -192,7 +192,7 @@ fn read_piece<R: Read, S, E: Endpoint<S>>(
         LosesPiece E.Endpoint endpoint.old store.old
         (R.remaining reader.old) (R.remaining reader.new) endpoint.new store.new }
 {
-    let (room, _) = piece.split_at_mut(piece.len().min(PIECE));
+    let (room, _) = piece.split_at_mut(piece.len().min(LONGEST_PIECE));
     match reader.read(room) {
         Ok(0) => Ok(true),
         Ok(len) => {

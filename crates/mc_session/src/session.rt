@@ -171,37 +171,11 @@ impl<O: Outgoing + Drop> SessionOf<O> {
         ensures decided { IfErr result (λ fault. IsTrue fault.decided →
             DecidesStep S.Steps now self.old store.old store.new) }
     {
-        if self.is_open && self.has_nothing_unread() {
-            return Ok(Turn::Idle);
-        }
-        self.take_turn(alloc, store, now)
-    }
-
-    /// Takes the next turn as `turn` does.
-    #[inline]
-    fn take_turn<S: Steps>(
-        &mut self,
-        alloc: Global,
-        store: &mut S,
-        now: Moment,
-    ) -> Result<Turn, TurnFault>
-        ensures did { result ≡ Ok Turn.Did →
-            TakesTurn S.Steps now self.old self.new store.old store.new }
-        ensures idle { result ≡ Ok Turn.Idle → FindsNoTurn self.old self.new store.old store.new }
-        ensures closed { result ≡ Ok Turn.Closed →
-            FindsClosed self.old self.new store.old store.new }
-        ensures err { OnErr result (self.new ≡ closed self.old) }
-        // Memory is refused only if a turn is due.
-        ensures due { OnErr result (TurnIsDue self.old) }
-        // If the step wasn't decided the store holds the same; if it was, the store took the turn's
-        // step, and only its text is missing.
-        ensures undecided { IfErr result (λ fault. IsFalse fault.decided →
-            S.same store.old store.new) }
-        ensures decided { IfErr result (λ fault. IsTrue fault.decided →
-            DecidesStep S.Steps now self.old store.old store.new) }
-    {
         if !self.is_open {
             return Ok(Turn::Closed);
+        }
+        if self.has_nothing_unread() {
+            return Ok(Turn::Idle);
         }
         match answer(
             alloc,

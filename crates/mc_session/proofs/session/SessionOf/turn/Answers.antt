@@ -4,7 +4,7 @@ use Rattle.mc_parse.specs.Peeks.{unit_of}
 use Rattle.mc_parse.proofs.UnitLemmas.{same_spelling}
 use Rattle.mc_session.proofs.StateLemmas.{seen}
 use Rattle.mc_session.proofs.TurnLemmas.{decides_next, takes_told, none_found, may_go_on, tells_next}
-use Rattle.mc_session.proofs.session.SessionOf.take_turn.Goals as goal
+use Rattle.mc_session.proofs.session.SessionOf.turn.Goals as goal
 
 pub go_on-requires : goal.go_on-requires
 go_on-requires g c =
