@@ -1,12 +1,11 @@
 -- What becomes of the books when one guest wakes, sleeps or goes.
-use Rattle.std.specs.Prelude.{slice_get}
-use Rattle.std.proofs.Common.{◌≡◌, ◌⊎◌, inl, inr, ℕ, ◌<◌, ◌≤◌, ◌+◌, ◌-◌, Bool, true, false, length, Option, Some, None, refl, sym, ap, ◌∙◌, subst, arith, IsTrue, IsFalse}
+use Rattle.std.proofs.Common.{◌≡◌, inl, inr, ℕ, ◌<◌, ◌≤◌, ◌+◌, ◌-◌, Bool, true, false, length, Option, Some, None, refl, sym, ap, ◌∙◌, subst, arith, IsTrue, IsFalse}
 use Rattle.std.proofs.lemmas.Bool.{cases_lt}
 use Rattle.std.proofs.lemmas.List.{length-take-le}
 use Rattle.std.proofs.lemmas.List.Edits.{length-swap}
 use Rattle.mc_guests.specs.Budgets.{AreSums}
 use Rattle.mc_guests.specs.Guests.{has_ended, is_to_sleep, is_stray}
-use Rattle.mc_guests.specs.Books.{RowState, BooksState, HasNumber, SleepsAt, Wakes, WakesOne, WakesNone, woken, put_behind, let_gone, LetsGo}
+use Rattle.mc_guests.specs.Books.{RowState, BooksState, HasNumber, SleepsAt, Wakes, woken, put_behind, LetsGo}
 use Rattle.mc_guests.specs.Books.{is_over, is_asleep, is_to_queue, LinesUp, IsFateOf, Settles, SettlesFrom, none, and_one, swapped, cut}
 use Rattle.mc_guests.proofs.BudgetLemmas.{counts_swapped}
 use Rattle.mc_guests.specs.declared.guests.Fate.{Fate}

@@ -10,7 +10,7 @@ use Rattle.std.proofs.lemmas.List.Sums.{sum_by-le, sum_by-set, sum_by_more_le, s
 use Rattle.std.proofs.lemmas.List.Sorted.{sum_by-IsPermutation, IsPermutation-swap}
 use Rattle.mc_guests.specs.Asks.{little, most}
 use Rattle.mc_guests.specs.Guests.{GuestState, RowGuest, newcomer}
-use Rattle.mc_guests.specs.Budgets.{plus, one_if, is_large, uncounted, rest_of, Recounts, RecountsAll, AreSums, CountsAll, held_by, waiting_of, large_of, fits, is_kept_for_one, LacksRoom, IsHeldBack}
+use Rattle.mc_guests.specs.Budgets.{plus, one_if, is_large, uncounted, rest_of, Recounts, RecountsAll, AreSums, CountsAll, held_by, waiting_of, large_of, fits, is_kept_for_one, IsHeldBack}
 use Rattle.mc_guests.specs.declared.budget.Budget.{Budget}
 
 pub at_most_one : (test : Bool) → one_if test ≤ 1

@@ -1,6 +1,6 @@
 -- What an opening of the door does, call by call.
 use Rattle.std.specs.Prelude.{◌&&◌, ◌==◌}
-use Rattle.std.proofs.Common.{◌≡◌, ◌↔◌, ◌<◌, ℕ, ◌+◌, Bool, true, false, length, Option, Some, refl, sym, ap, ◌∙◌, subst, IsTrue}
+use Rattle.std.proofs.Common.{◌≡◌, ◌↔◌, ◌<◌, ℕ, ◌+◌, Bool, true, false, length, Some, refl, sym, ap, ◌∙◌, subst, IsTrue}
 use Rattle.mc_guests.specs.Books.{BooksState, Wakes, quiet}
 use Rattle.mc_guests.specs.Doors.{unasked, came, heard, counted_in, WakesNamed, and_one, WakesAllNamed, WakesAfter, LetsIn, ComesNothing, Opens, link, none_now, none_more, over}
 use Rattle.mc_guests.specs.Doors.{LinksCame, one_came, OpensForAll, then_none}

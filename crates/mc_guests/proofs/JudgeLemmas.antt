@@ -1,14 +1,14 @@
 -- What becomes of a list where one of it is changed, and which guest is the slowest.
 use Rattle.std.specs.Prelude.{slice_get, slice_set}
 use Rattle.std.specs.List.{sum_by}
-use Rattle.std.proofs.Common.{◌≡◌, ◌⊎◌, inl, inr, ℕ, zero, suc, ◌+◌, ◌<◌, ◌≤◌, Bool, true, false, List, [], ◌∷◌, length, Option, Some, None, refl, sym, ap, ◌∙◌, subst, arith, ltb-true, ltb-false}
+use Rattle.std.proofs.Common.{◌≡◌, inl, inr, ℕ, zero, suc, ◌+◌, ◌<◌, ◌≤◌, true, false, List, [], ◌∷◌, length, Option, Some, None, refl, sym, ap, ◌∙◌, subst, arith, ltb-true, ltb-false}
 use Rattle.std.proofs.lemmas.Bool.{cases_lt}
 use Rattle.std.proofs.lemmas.List.Sums.{sum_by-cons}
 use Rattle.std.proofs.lemmas.Option.{none-some, same_Some}
 use Rattle.mc_guests.specs.Budgets.{one_if, is_large, AreSums}
 use Rattle.mc_guests.specs.Guests.{RowGuest}
 use Rattle.mc_guests.specs.Books.{RowState, changed}
-use Rattle.mc_guests.specs.Judging.{slowness, undercuts, NoneIsSlow, IsSlowest, FindsSlowest, Judges, judged}
+use Rattle.mc_guests.specs.Judging.{slowness, undercuts, FindsSlowest, Judges, judged}
 use Rattle.mc_guests.specs.declared.weighed.Judged.{Judged}
 
 module _ {A : Type 0} (f : A → A) where

@@ -1,5 +1,5 @@
 -- What measuring a block does to a store.
-use Rattle.std.proofs.Common.{◌≡◌, ℕ, List, inl, inr, refl, Option, Some, None, Result, Ok, Err, IfOk, OnErr}
+use Rattle.std.proofs.Common.{ℕ, List, inl, inr, Result, Ok, Err, IfOk, OnErr}
 use Rattle.mc_protocol.specs.declared.step.Steps.{Ghosts as Relations}
 use Rattle.mc_guests.specs.Asks.{ReadsLength, MayRead, MayAsk, MeasuresNext}
 

@@ -1,12 +1,12 @@
 -- Who of those that wait goes on.
 use Rattle.std.specs.Prelude.{slice_get, MatchOption, nat_le, if◌then◌else◌, not, ◌&&◌}
-use Rattle.std.proofs.Common.{◌≡◌, ◌⊎◌, inl, inr, ℕ, zero, suc, ◌+◌, ◌-◌, ◌<◌, ◌≤◌, Bool, true, false, List, [], ◌∷◌, ◌++◌, length, drop, Option, Some, None, refl, sym, ap, ◌∙◌, subst, arith, leb-true, leb-false, IsTrue, IsFalse}
+use Rattle.std.proofs.Common.{◌≡◌, ℕ, suc, ◌+◌, ◌-◌, ◌<◌, ◌≤◌, Bool, true, false, length, Option, Some, None, refl, sym, ap, ◌∙◌, subst, arith, leb-true, leb-false}
 use Rattle.std.proofs.lemmas.List.Edits.{length-swap}
 use Rattle.std.proofs.lemmas.Option.{same_Some, slice_get_within}
 use Rattle.mc_guests.specs.Budgets.{has_left, promised_more}
 use Rattle.mc_guests.specs.Guests.{RowGuest, in_line, missing}
-use Rattle.mc_guests.specs.Books.{RowState, BooksState, HasNumber, SleepsAt, StandsAt, woken, swapped}
-use Rattle.mc_guests.specs.Retries.{IsQueuedAt, NoneWaits, PromisesRoom, KeepsRoom, TakesTurn, goes_on as turn_goes, is_gone as turn_gone, EndsTurns, nobody_waits as turn_none, finds_none as turn_lacks}
+use Rattle.mc_guests.specs.Books.{RowState, BooksState, SleepsAt, StandsAt, woken}
+use Rattle.mc_guests.specs.Retries.{IsQueuedAt, NoneWaits, PromisesRoom, KeepsRoom, TakesTurn, goes_on as turn_goes, is_gone as turn_gone, EndsTurns, finds_none as turn_lacks}
 use Rattle.mc_guests.specs.Retries.{LooksAtFirst, goes_on, is_gone, nobody_waits, finds_none, finds_room, promised_to, room_kept, in_turn, struck_out, turn_passed, lined, woken_if, tried_again}
 use Rattle.mc_guests.specs.Retries.{first_dropped, first_behind, stray_tried, strays, strays_tried, waits_long}
 use Rattle.mc_guests.specs.declared.budget.Budget.{Budget}

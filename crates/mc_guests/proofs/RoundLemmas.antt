@@ -2,7 +2,7 @@
 use Rattle.std.proofs.Common.{◌≡◌, ℕ, Option, Some, None, refl, IfSome}
 use Rattle.mc_protocol.specs.declared.step.Steps.{Ghosts as Relations}
 use Rattle.mc_guests.specs.Guests.{GuestState}
-use Rattle.mc_guests.specs.Asks.{AsksAndVisits, IsKeptWaiting, MakesRound, nobody, asks, visits}
+use Rattle.mc_guests.specs.Asks.{AsksAndVisits, IsKeptWaiting, MakesRound, asks, visits}
 use Rattle.mc_guests.specs.declared.guest.Visit.{Visit}
 
 -- one guest more was visited, or is kept waiting

@@ -1,11 +1,11 @@
 -- The books that a worker has of its guests.
-use Rattle.std.specs.Prelude.{◌≡◌, ◌⊎◌, ◌≤◌, ◌<◌, ◌+◌, ◌-◌, ◌^◌, ◌==◌, ◌&&◌, not, ℕ, zero, suc, List, [], ◌∷◌, ◌++◌, length, take, drop, min, swap, slice_get, Option, Some, None, Bool, true, false, IsTrue, IsFalse}
+use Rattle.std.specs.Prelude.{◌≡◌, ◌⊎◌, ◌≤◌, ◌<◌, ◌+◌, ◌-◌, ◌^◌, ◌==◌, ◌&&◌, not, ℕ, zero, suc, List, [], ◌∷◌, ◌++◌, length, take, drop, min, swap, slice_get, Option, Some, Bool, true, false, IsTrue, IsFalse}
 use Rattle.mc_guests.specs.Budgets.{rest_of, may_try}
 use Rattle.mc_guests.specs.Guests.{GuestState, RowGuest, newcomer, has_ended, is_to_sleep, is_stray, in_line}
 use Rattle.mc_guests.specs.declared.budget.Budget.{Budget}
 use Rattle.mc_guests.specs.declared.weighed.Line.TheVariants.{Queued}
 use Rattle.mc_guests.specs.declared.guest.Visit.{Visit}
-use Rattle.mc_guests.specs.declared.guest.Visit.TheVariants.{Wrote, Turned, Read, Later, Served, Broken, Refused}
+use Rattle.mc_guests.specs.declared.guest.Visit.TheVariants.{Served, Broken, Refused}
 use Rattle.mc_guests.specs.declared.guests.WorkEnd.{WorkEnd}
 use Rattle.mc_guests.specs.declared.guests.Fate.{Fate}
 use Rattle.mc_guests.specs.declared.guests.Fate.TheVariants.{GoesOn, Waits, Sleeps, Ended}
@@ -23,7 +23,7 @@ nobody = record { guests = []; numbers = [] }
 abbrev pub HasNumber : RowState → (at number : ℕ) → Type 0
 HasNumber row at number = slice_get row.numbers at ≡ Some number
 
--- a place is told for each number that stands in the row, and it is the one where it stands
+-- the place of each number that stands in the row is found, and no other place
 pub record TellsPlaces (place_of : ℕ → Option ℕ) (numbers : List ℕ) : Type 0 where
   pub told : (number at : ℕ) → place_of number ≡ Some at → slice_get numbers at ≡ Some number
   pub all : (number at : ℕ) → slice_get numbers at ≡ Some number → place_of number ≡ Some at
@@ -60,7 +60,7 @@ with_guest change at row = record row { guests = changed change at row.guests }
 abbrev pub StandsAt : ℕ → RowState → RowGuest → Type 0
 StandsAt at row guest = slice_get row.guests at ≡ Some guest
 
--- Guests in a row, of which so many are awake: the first ones. What they hold together, with its limit. The queue of
+-- Guests in a row; the first `awake` of them are awake. What they hold together, with its limit. The queue of
 -- those that wait, oldest first, by the numbers of their links; whether the turn is the newest's, and not the oldest's;
 -- and whether some that wait were left out of it, as memory was refused.
 pub record BooksState : Type 0 where
@@ -71,18 +71,22 @@ pub record BooksState : Type 0 where
   pub is_last : Bool
   pub has_strays : Bool
 
--- no guests, with what a budget has beside those that it counts
-abbrev pub no_books : Budget → BooksState
-no_books budget = record {
-  row = nobody;
-  awake = 0;
-  budget = rest_of budget;
-  queue = [];
-  is_last = false;
-  has_strays = false;
+-- what contracts see of guests with these fields
+abbrev pub books : RowState → (awake : ℕ) → Budget → (queue : List ℕ) → (is_last has_strays : Bool) → BooksState
+books row awake budget queue is_last has_strays = record {
+  row = row;
+  awake = awake;
+  budget = budget;
+  queue = queue;
+  is_last = is_last;
+  has_strays = has_strays;
 }
 
--- nobody is awake, and none that is kept waiting may be tried again
+-- no guests, with what a budget has beside those that it counts
+abbrev pub no_books : Budget → BooksState
+no_books budget = books nobody 0 (rest_of budget) [] false false
+
+-- no guest is awake, and none that is kept waiting may be tried again
 abbrev pub quiet : BooksState → Bool
 quiet books = books.awake == 0 && not (may_try books.budget)
 

@@ -1,5 +1,5 @@
 -- How much memory the guests of one worker may hold together.
-use Rattle.std.specs.Prelude.{◌≡◌, ◌⊎◌, ◌<◌, ◌≤◌, ℕ, ◌+◌, ◌-◌, ◌/◌, ◌==◌, ◌&&◌, ◌||◌, Bool, true, false, cond, if◌then◌else◌, not, nat_lt, nat_le, min, max, List, length, IsTrue, IsFalse}
+use Rattle.std.specs.Prelude.{◌≡◌, ◌⊎◌, ◌<◌, ◌≤◌, ℕ, ◌+◌, ◌-◌, ◌/◌, ◌==◌, ◌&&◌, ◌||◌, Bool, false, cond, if◌then◌else◌, not, nat_lt, nat_le, min, max, List, length, IsTrue, IsFalse}
 use Rattle.std.specs.List.{sum_by}
 use Rattle.mc_guests.specs.Asks.{little, most}
 use Rattle.mc_guests.specs.Guests.{GuestState, RowGuest, has_ended}
@@ -9,7 +9,7 @@ use Rattle.mc_guests.specs.declared.budget.Budget.{Budget}
 abbrev pub plus : ℕ → ℕ → ℕ
 plus one other = min (one + other) most
 
--- a budget of `share` bytes without guests, of which one may want up to `greatest` at once
+-- a budget of `share` bytes without guests; each guest may want up to `greatest` at once
 abbrev pub unused : (share greatest : ℕ) → Budget
 unused share greatest = record {
   share = share;
@@ -40,7 +40,7 @@ has_left wanted budget = nat_le wanted (budget.share - plus budget.held budget.p
 abbrev pub promised_more : ℕ → Budget → Budget
 promised_more more budget = record budget { promised = plus budget.promised more }
 
--- whether the budget may soon be used up: somebody waits, or much is held
+-- whether the budget may soon be used up: a guest waits, or much is held
 abbrev pub is_tight : Budget → Bool
 is_tight budget = nat_lt 0 budget.waiting || nat_lt budget.tight budget.held
 
@@ -132,7 +132,7 @@ pub record AreSums (held waiting large : ℕ) (guests : List RowGuest) : Type 0 
   pub waits : waiting ≡ waiting_of guests
   pub larges : large ≡ large_of guests
 
--- a budget counts these guests, each once, and nobody else
+-- a budget counts these guests, each once, and no others
 abbrev pub CountsAll : Budget → List RowGuest → Type 0
 CountsAll budget guests = AreSums budget.held budget.waiting budget.large guests
 

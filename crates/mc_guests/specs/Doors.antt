@@ -1,5 +1,5 @@
 -- What a worker asks of its links between two rounds, and what becomes of its guests.
-use Rattle.std.specs.Prelude.{◌≡◌, ◌⊎◌, ◌↔◌, ◌<◌, ◌+◌, ◌%◌, ◌^◌, ◌&&◌, ◌==◌, ℕ, Bool, true, false, length, Option, Some, None, IsTrue}
+use Rattle.std.specs.Prelude.{◌≡◌, ◌⊎◌, ◌<◌, ◌+◌, ◌%◌, ◌^◌, ◌&&◌, ◌==◌, ℕ, Bool, true, false, length, Option, Some, None}
 use Rattle.mc_guests.specs.Links.{LinkState}
 use Rattle.mc_guests.specs.Guests.{welcomed}
 use Rattle.mc_guests.specs.Books.{BooksState, Wakes, let_in, one_more, quiet}
@@ -54,7 +54,7 @@ abbrev pub WakesAfter : (rests : Bool) (talk : Talk) (old : BooksState) (later :
 WakesAfter true talk old later new = WakesAllNamed talk old later new
 WakesAfter false talk old later new = (later ≡ talk) × (new ≡ old)
 
--- Nothing came, and those woke whose links were named. It rests if nobody was awake and none was named, and then those
+-- Nothing came, and those woke whose links were named. It rests if no guest was awake and none was named, and then those
 -- woke whose links were named after that.
 pub record ComesNothing (is_quiet : Bool) (talk : Talk) (old : BooksState) (later : Talk) (new : BooksState) : Type 0 where
   pub last : Talk
@@ -89,7 +89,7 @@ pub data Opens (is_quiet : Bool) : (door later : Door) (old new : BooksState) (b
   over : {door : Door} {books : BooksState} {end : WorkEnd} → length books.row.guests ≡ 0
       → Opens is_quiet door (asks_next Closed door) books books end end false
 
--- The door was opened so many times, and a link came each time. Whether the guests were quiet was
+-- The door was opened `count` times, and a link came each time. Whether the guests were quiet was
 -- seen anew before each.
 pub data LinksCame : (count : ℕ) (door later : Door) (old new : BooksState) (before after : WorkEnd) → Type 0 where
   none_yet : {door : Door} {books : BooksState} {end : WorkEnd} → LinksCame 0 door door books books end end

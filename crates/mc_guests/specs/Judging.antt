@@ -55,7 +55,7 @@ judged ticks guest = record guest {
   pace = if was_asked ticks guest.pace then begun ticks else asked_again ticks guest.pace;
 }
 
--- the guest at a place was judged, by the number of its link; nobody else changes
+-- the guest at a place was judged, by the number of its link; no other guest changes
 pub record JudgesAt (ticks at : ℕ) (result : Judged) (old new : RowState) : Type 0 where
   pub guest : RowGuest
   pub stands : StandsAt at old guest

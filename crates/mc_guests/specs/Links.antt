@@ -1,5 +1,6 @@
 -- What contracts see of a link.
 use Rattle.std.specs.Prelude.{◌≡◌, ◌+◌, ◌<◌, ◌≤◌, ℕ, Bool, true, false, List, [], ◌++◌, length, take, Option, Some, None, Result, Ok, Err}
+use Rattle.mc_session.specs.Exchanges.{longest_piece}
 use Rattle.mc_guests.specs.declared.link.Got.{Got}
 use Rattle.mc_guests.specs.declared.link.Got.TheVariants.{Bytes as GaveBytes, Later as GaveNone, End}
 use Rattle.mc_guests.specs.declared.link.Took.{Took}
@@ -8,7 +9,7 @@ use Rattle.mc_guests.specs.declared.link.LinkFault.{LinkFault}
 use Rattle.mc_guests.specs.declared.tap.Tapped.{Tapped}
 use Rattle.mc_guests.specs.declared.tap.Tapped.TheVariants.{Bytes as TappedBytes, Later as TappedNone, End as TappedEnd, Broken, NoRoom}
 
--- The bytes that it gave and took until now, none where nobody can know them; how often it failed,
+-- The bytes that it gave and took until now, `None` where they are unspecified; how often it failed,
 -- whether it is at its end, and whether it was last asked to give and not to take. Of the last call
 -- also how many bytes it was for: the room that a read was lent, or the bytes that a write offered.
 pub record LinkState : Type 0 where
@@ -19,9 +20,9 @@ pub record LinkState : Type 0 where
   pub was_read : Bool
   pub requested : ℕ
 
--- a read of a guest is lent room for 1 to 16384 bytes
+-- a read of a guest is lent room for 1 to `longest_piece` bytes
 abbrev pub IsRoom : (bytes : ℕ) → Type 0
-IsRoom bytes = (0 < bytes) × (bytes ≤ 16384)
+IsRoom bytes = (0 < bytes) × (bytes ≤ longest_piece)
 
 -- known bytes, and these behind them
 abbrev pub grown : Option (List ℕ) → List ℕ → Option (List ℕ)

@@ -6,7 +6,7 @@ use Rattle.mc_guests.specs.declared.pace.Pace.{Pace}
 abbrev pub begun : (ticks : ℕ) → Pace
 begun ticks = record { since = ticks; moved = 0; heard = ticks; asked = None }
 
--- the link moved so many bytes more
+-- the link moved `bytes` bytes more
 abbrev pub moves : (bytes ticks : ℕ) → Pace → Pace
 moves bytes ticks pace = record pace { moved = min (pace.moved + bytes) (2 ^ 64 - 1); heard = ticks }
 
@@ -22,7 +22,7 @@ age ticks pace = ticks - pace.since
 unfoldable pub rate : (ticks : ℕ) → Pace → ℕ
 rate ticks pace = pace.moved / max (age ticks pace) 1
 
--- whether a link that was asked then was asked less than so many ticks ago
+-- whether a link was asked less than `within` ticks ago
 abbrev pub is_recent : (within ticks : ℕ) → Option ℕ → Bool
 is_recent within ticks None = false
 is_recent within ticks (Some asked) = nat_lt (ticks - asked) within

@@ -1,9 +1,10 @@
 -- Who of those that wait for room goes on.
-use Rattle.std.specs.Prelude.{◌≡◌, ◌⊎◌, ◌<◌, ◌+◌, ◌-◌, ◌&&◌, not, nat_le, min, ℕ, zero, suc, Bool, false, List, [], ◌∷◌, ◌++◌, length, take, drop, slice_get, Option, Some, None, if◌then◌else◌, IsTrue, IsFalse}
+use Rattle.std.specs.Prelude.{◌≡◌, ◌⊎◌, ◌<◌, ◌+◌, ◌-◌, ◌&&◌, not, nat_le, min, ℕ, zero, suc, Bool, false, [], ◌∷◌, ◌++◌, length, take, drop, slice_get, Option, Some, None, if◌then◌else◌, IsTrue, IsFalse}
 use Rattle.mc_guests.specs.Budgets.{promised_more, has_left, is_retry_due, retried}
 use Rattle.mc_guests.specs.Guests.{RowGuest, is_queued, is_stray, missing, in_line}
 use Rattle.mc_guests.specs.Paces.{age}
 use Rattle.mc_guests.specs.Books.{RowState, BooksState, HasNumber, StandsAt, with_guest, woken}
+use Rattle.mc_guests.specs.Repeats.{Repeats}
 use Rattle.mc_guests.specs.declared.weighed.Line.{Line}
 use Rattle.mc_guests.specs.declared.weighed.Line.TheVariants.{Next}
 
@@ -67,7 +68,7 @@ pub record KeepsRoom (at : ℕ) (old new : BooksState) : Type 0 where
   pub stands : StandsAt at old.row guest
   pub books : new ≡ room_kept guest old
 
--- the number in the queue whose turn it is: the newest's or the oldest's
+-- the next number of the queue: the newest's or the oldest's
 abbrev pub in_turn : BooksState → Option ℕ
 in_turn books = if books.is_last then slice_get books.queue (length books.queue - 1) else slice_get books.queue 0
 
@@ -81,7 +82,7 @@ struck_out books = record books {
 abbrev pub turn_passed : BooksState → BooksState
 turn_passed books = record books { is_last = not books.is_last }
 
--- The number whose turn it is left the queue: its guest found room and is tried again, and the turn passes; or no guest
+-- The next number left the queue: its guest found room and is tried again, and the turn passes; or no guest
 -- waits by it.
 pub data TakesTurn : (old new : BooksState) → Type 0 where
   goes_on : {books : BooksState} {number at : ℕ} → in_turn books ≡ Some number
@@ -90,7 +91,7 @@ pub data TakesTurn : (old new : BooksState) → Type 0 where
   is_gone : {books : BooksState} {number : ℕ} → in_turn books ≡ Some number → NoneWaits number books.row
       → TakesTurn books (struck_out books)
 
--- Nobody is in the queue; or the guest whose turn it is finds no room, and others wait for it if it is the oldest and
+-- The queue is empty; or its next guest finds no room, and others wait for it if it is the oldest and
 -- waited long.
 pub data EndsTurns : (old new : BooksState) → Type 0 where
   nobody_waits : {books : BooksState} → in_turn books ≡ None → EndsTurns books books
@@ -98,11 +99,9 @@ pub data EndsTurns : (old new : BooksState) → Type 0 where
       → (waits : IsQueuedAt number at books.row) → IsFalse (finds_room waits.guest books)
       → EndsTurns books (room_kept waits.guest books)
 
--- so many turns were taken
-pub data TakesTurns : (count : ℕ) (old new : BooksState) → Type 0 where
-  none_yet : {books : BooksState} → TakesTurns 0 books books
-  one_more : {count : ℕ} {old mid new : BooksState} → TakesTurns count old mid → TakesTurn mid new
-      → TakesTurns (count + 1) old new
+-- `count` turns were taken
+abbrev pub TakesTurns : (count : ℕ) (old new : BooksState) → Type 0
+TakesTurns count old new = Repeats TakesTurn count old new
 
 -- the oldest and the newest go on in turn, until one finds no room, none is there, or 256 turns were taken
 pub record GoInTurn (old new : BooksState) : Type 0 where
@@ -132,11 +131,9 @@ pub data LooksAtFirst : (old new : BooksState) → Type 0 where
   is_gone : {books : BooksState} {number : ℕ} → slice_get books.queue 0 ≡ Some number → NoneWaits number books.row
       → LooksAtFirst books (first_dropped books)
 
--- the first of the queue was looked at so many times
-pub data LooksAt : (count : ℕ) (old new : BooksState) → Type 0 where
-  none_yet : {books : BooksState} → LooksAt 0 books books
-  one_more : {count : ℕ} {old mid new : BooksState} → LooksAt count old mid → LooksAtFirst mid new
-      → LooksAt (count + 1) old new
+-- the first of the queue was looked at `count` times
+abbrev pub LooksAt : (count : ℕ) (old new : BooksState) → Type 0
+LooksAt count old new = Repeats LooksAtFirst count old new
 
 -- all in the queue are looked at, but 256 at most; none if others wait for the oldest
 pub record GoBeside (old new : BooksState) : Type 0 where
@@ -152,7 +149,7 @@ strays (Some guest) = is_stray guest
 abbrev pub stray_tried : (at : ℕ) → BooksState → BooksState
 stray_tried at books = if strays (slice_get books.row.guests at) then tried_again at books else books
 
--- those at so many places from one on were tried again if they wait and are left out of the queue
+-- those at `count` places from `from` on were tried again if they wait and are left out of the queue
 abbrev pub strays_tried : (count from : ℕ) → BooksState → BooksState
 strays_tried zero from books = books
 strays_tried (suc count) from books = stray_tried (from + count) (strays_tried count from books)
@@ -170,7 +167,7 @@ pub record LetsOnAll (old new : BooksState) : Type 0 where
   pub looks : GoBeside after_turns after_looks
   pub strays : new ≡ all_strays_tried after_looks
 
--- a retry begins: nothing is promised yet, and nobody waits for the oldest
+-- a retry begins: nothing is promised yet, and no guest waits for the oldest
 abbrev pub begun_anew : BooksState → BooksState
 begun_anew books = record books { budget = retried books.budget }
 

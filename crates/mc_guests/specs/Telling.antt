@@ -77,7 +77,7 @@ module _ {S : Type 0} (relations : Relations S) where
   bytes_taken (visit now answer visits visited) =
       bytes_taken visits ++ part_of now answer _ _ _ _ visited
 
-  -- of which unit a turn is, and which of its turns
+  -- the unit of a turn, and the turn's place among those of the unit
   abbrev pub turn_of : TakenTurn → ProtocolUnit × ℕ
   turn_of turn = (turn.takes.unit, turn.old.taken)
 

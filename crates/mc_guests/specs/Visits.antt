@@ -48,7 +48,7 @@ pub record EndsBroken (old new : GuestState) : Type 0 where
   pub link : new.link ≡ failed (asked (wants awaits) new.link.requested old.link)
   pub demand : IsDemand old.session awaits new.link.requested
 
--- there was no memory for a piece, or no room of 1 to 16384 bytes, and the link wasn't asked
+-- there was no memory for a piece, or no room of 1 to `longest_piece` bytes, and the link wasn't asked
 pub record RefusesPiece (old new : GuestState) : Type 0 where
   pub waits : IsWaiting old.session
   pub session : new.session ≡ closed old.session
@@ -85,7 +85,7 @@ module _ {S : Type 0} (relations : Relations S) (now : ℕ) where
     pub takes : TakesTurn relations now old.session new.session before after
     pub link : new.link ≡ old.link
 
-  -- memory ran out over a turn, of which the step alone may stand
+  -- memory ran out over a turn, whose step may have been taken
   pub record RefusesTurn (old new : GuestState) (before after : S) : Type 0 where
     pub due : IsTurnDue old.session
     pub session : new.session ≡ closed old.session

@@ -152,7 +152,7 @@ impl Budget {
         }
     }
 
-    /// Uncounts a guest that was counted for so many bytes.
+    /// Uncounts a guest that was counted for `counted` bytes.
     pub(crate) fn take_out(&mut self, counted: usize, waits: bool)
         ensures { self.new ≡ uncounted counted waits self.old }
     {
@@ -161,7 +161,7 @@ impl Budget {
         self.large = self.large.saturating_sub(one_if(is_large(counted, waits)));
     }
 
-    /// Counts a guest for so many bytes, or for as many as can be counted, and returns how many.
+    /// Counts a guest for `bytes` bytes, or for as many as fit the counter, and returns how many.
     pub(crate) fn put_in(&mut self, bytes: usize, waits: bool) -> usize
         ensures all { result ≡ min bytes (most - self.old.held) }
         ensures counts { self.new ≡ counted_too result waits self.old }

@@ -41,7 +41,7 @@ impl Door {
     /// Admits waiting links, one opening for each, until none is left or 32 came.
     ///
     /// So newcomers wait for few rounds, and guests wait for at most 32 newcomers. Only the last
-    /// opening rests, if nobody was admitted before it and there is nothing to do. Each opening
+    /// opening rests, if no guest was admitted before it and there is nothing to do. Each opening
     /// wakes the guests whose links are named, at most 1024. Returns whether more can come.
     pub fn open_for_all<L: Link + Drop, Q: Links<L>>(
         &mut self,

@@ -13,10 +13,10 @@ ghost use Rattle.mc_guests.specs.Outcomes.{too_large};
 
 use crate::link::{Link, LinkFault, Took};
 use crate::measure::Naming;
-use crate::tap::{LONGEST_PIECE, Tap, Tapped};
+use crate::tap::{Tap, Tapped};
 use mc_bytes::{FIRST_PIECE, Spares};
 use mc_protocol::Steps;
-use mc_session::{LentOutput, SessionOf, Turn};
+use mc_session::{LONGEST_PIECE, LentOutput, SessionOf, Turn};
 use mc_time::Moment;
 use std::alloc::{AllocError, Global};
 use std::marker::Model;

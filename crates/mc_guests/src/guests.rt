@@ -67,24 +67,18 @@ pub struct Guests<L: Link + Drop> {
 
 impl<L: Link + Drop> Model for Guests<L> {
     ghost use Rattle.std.specs.Prelude.{◌≤◌, length};
-    ghost use Rattle.mc_guests.specs.Books.{BooksState};
+    ghost use Rattle.mc_guests.specs.Books.{BooksState, books};
     ghost use Rattle.mc_guests.specs.Budgets.{CountsAll};
 
     ghost Value = { BooksState };
 
-    ghost view = { λ g. record {
-      row = g.row;
-      awake = g.awake;
-      budget = g.budget;
-      queue = g.queue.items;
-      is_last = g.is_last;
-      has_strays = g.has_strays;
-    } };
+    ghost view = { λ g.
+        books g.row g.awake g.budget g.queue.items g.is_last g.has_strays };
 
     ghost invariant = { λ g. (g.awake ≤ length g.row.guests) × CountsAll g.budget g.row.guests };
 }
 
-/// The ticks after which spares that nobody took are freed.
+/// The ticks after which unused spares are freed.
 const UNUSED: u64 = 4;
 
 /// The most waiting guests that one retry looks at.
@@ -180,7 +174,7 @@ impl<L: Link + Drop> Guests<L> {
     /// Sets the time, in ticks of 0.25 s.
     ///
     /// In a new tick, quiet guests free the memory that they keep, and spares are freed that, with
-    /// what guests hold, are more than the share. Every fourth tick frees spares that nobody took.
+    /// what guests hold, are more than the share. Every fourth tick frees unused spares.
     pub fn tick(&mut self, ticks: u64)
         ensures { self.new ≡ at_ticks ticks self.old }
     {
@@ -251,7 +245,7 @@ impl<L: Link + Drop> Guests<L> {
         }
     }
 
-    /// Wakes the waiting guest whose turn it is, if it finds room. Returns whether it did, or waits
+    /// Wakes the next guest of the queue, if it finds room. Returns whether it did, or waits
     /// no more. An oldest guest that waited for 2 s without room makes others wait.
     fn lets_next_on(&mut self) -> bool
         ensures goes { IsTrue result → TakesTurn self.old self.new }
@@ -399,7 +393,7 @@ impl<L: Link + Drop> Guests<L> {
         self.is_last = !self.is_last;
     }
 
-    /// Returns the number of the guest whose turn it is in the queue.
+    /// Returns the number of the next guest of the queue.
     fn whose_turn(&self) -> Option<u64>
         ensures { result ≡ in_turn self.now }
     {
@@ -410,7 +404,7 @@ impl<L: Link + Drop> Guests<L> {
         }
     }
 
-    /// Removes the guest whose turn it is from the queue.
+    /// Removes the next guest from the queue.
     fn strike_out(&mut self)
         ensures { self.new ≡ struck_out self.old }
     {

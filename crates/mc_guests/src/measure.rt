@@ -1,11 +1,11 @@
 //! The length of a block before it is delivered.
 ghost use Rattle.std.specs.Prelude.{◌≡◌, ◌≤◌, length, min, IfOk, OnErr};
-ghost use Rattle.std.specs.List.{concat};
 ghost use Rattle.mc_protocol.specs.Commands.{longest_key};
 ghost use Rattle.mc_guests.specs.Asks.{block_length, most, MayRead, ReadsLength, MeasuresNext, MayAsk};
 
 use crate::reports::Reports;
 use mc_protocol::{Answer, Bytes, KeyStep, Reply, Steps, Unanswered};
+use mc_reply::length_of;
 use mc_time::Moment;
 use std::alloc::{AllocError, Global};
 
@@ -30,17 +30,6 @@ impl Answer for Measure {
         self.length = length_in(reply);
         Ok(())
     }
-}
-
-/// Returns the number of bytes of parts, at most 2^64 - 1.
-fn length_of(parts: &[Bytes<'_>]) -> usize
-    ensures { result ≡ min (length (concat parts.now)) most }
-{
-    let mut counted = 0usize;
-    for part in parts {
-        counted = counted.saturating_add(part.as_slice().len());
-    }
-    counted
 }
 
 /// Returns the length of the block of a reply, or 0 if it has none.

@@ -111,7 +111,7 @@ impl Talk {
         }
     }
 
-    /// Wakes the guests whose links are named, and rests if nobody was awake and none was named.
+    /// Wakes the guests whose links are named, and rests if no guest was awake and none was named.
     /// After a rest it wakes those whose links are named then.
     pub(crate) fn wait<L: Link + Drop, Q: Links<L>>(
         &mut self,
@@ -128,7 +128,7 @@ impl Talk {
         }
     }
 
-    /// Rests if nobody was awake and none was named, and returns whether it did.
+    /// Rests if no guest was awake and none was named, and returns whether it did.
     fn rest_if<L: Link + Drop, Q: Links<L>>(&mut self, links: &mut Q, is_quiet: bool) -> bool
         ensures rests { result ≡ (is_quiet && self.old.names == 0) }
         ensures notes { self.new ≡ record self.old { has_rested = result } }

@@ -4,9 +4,7 @@ ghost use Rattle.mc_guests.specs.Links.{IsRoom};
 
 use crate::link::{Got, Link, LinkFault};
 use mc_bytes::Source;
-
-/// The most bytes of a read.
-pub const LONGEST_PIECE: usize = 16384;
+use mc_session::LONGEST_PIECE;
 
 /// The result of a read through a tap.
 #[derive(Clone, Copy, Debug, PartialEq, Eq)]

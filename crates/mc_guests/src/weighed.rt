@@ -27,7 +27,7 @@ use mc_time::Moment;
 use std::alloc::Global;
 use std::marker::Model;
 
-/// The bytes that an idle guest reserves. They aren't counted: idle guests keep nobody waiting.
+/// The bytes that an idle guest reserves. They aren't counted: idle guests make no others wait.
 const IDLE: usize = 6144;
 
 /// The bytes that a guest without input and output may keep while it isn't quiet.

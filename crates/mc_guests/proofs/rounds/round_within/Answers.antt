@@ -1,6 +1,6 @@
 use Rattle.std.proofs.Common.{sym, subst, refl, ◌<◌, ◌∙◌}
 use Rattle.mc_guests.specs.Asks.{nobody as no_round}
-use Rattle.mc_guests.specs.Budgets.{uncounted, IsHeldBack, Recounts}
+use Rattle.mc_guests.specs.Budgets.{Recounts}
 use Rattle.mc_guests.specs.Guests.{RowGuest}
 use Rattle.mc_guests.specs.Turns.{nobody, HasTurn}
 use Rattle.mc_guests.proofs.BudgetLemmas.{recounts_nobody, recounts_more}

@@ -1,7 +1,5 @@
-use Rattle.std.proofs.Common.{◌<◌, ◌-◌, length, refl, sym, ap, ◌∙◌, subst}
-use Rattle.mc_guests.specs.Books.{RowState, BooksState, LetsGo, let_gone}
-use Rattle.mc_guests.specs.Budgets.{rest_of}
-use Rattle.mc_guests.specs.declared.budget.Budget.{Budget}
+use Rattle.std.proofs.Common.{◌<◌, ◌-◌, refl, sym, ap, subst}
+use Rattle.mc_guests.specs.Books.{RowState, BooksState, LetsGo}
 use Rattle.mc_guests.proofs.BookLemmas.{some_stand, awake_stand, row_gone, counts_moved}
 use Rattle.mc_guests.proofs.guests.Guests.let_go.Goals as goal
 

@@ -1,7 +1,7 @@
 use Rattle.std.proofs.Common.{◌<◌, length, refl, sym, ap, ◌∙◌, subst}
 use Rattle.std.proofs.lemmas.Option.{slice_get_within}
 use Rattle.mc_guests.specs.Books.{BooksState}
-use Rattle.mc_guests.specs.Retries.{LooksAtFirst, tried_again}
+use Rattle.mc_guests.specs.Retries.{tried_again}
 use Rattle.mc_guests.proofs.RetryLemmas.{look_none, look_dropped, look_taken, look_behind, still_within}
 use Rattle.mc_guests.proofs.guests.Guests.look_at_first.Goals as goal
 

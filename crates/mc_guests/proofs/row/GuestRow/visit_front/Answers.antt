@@ -1,7 +1,7 @@
-use Rattle.std.proofs.Common.{◌≡◌, ◌≤◌, List, length, take, drop, ◌++◌, sym, subst, arith}
+use Rattle.std.proofs.Common.{◌≤◌, List, length, sym, subst, arith}
 use Rattle.mc_guests.specs.Asks.{most}
 use Rattle.mc_guests.specs.Books.{RowState}
-use Rattle.mc_guests.specs.Budgets.{AreSums, CountsAll}
+use Rattle.mc_guests.specs.Budgets.{CountsAll}
 use Rattle.mc_guests.specs.Guests.{RowGuest}
 use Rattle.mc_guests.proofs.BudgetLemmas.{counts_front}
 use Rattle.mc_guests.proofs.PlaceLemmas.{lent_back}
