@@ -3,13 +3,14 @@ use Rattle.std.proofs.Common.{◌≡◌, ◌<◌, ℕ, ◌+◌, length, Some, No
 use Rattle.mc_guests.specs.Books.{RowState, BooksState, at_ticks, took_judging}
 use Rattle.mc_guests.specs.Budgets.{to_judge}
 use Rattle.mc_guests.specs.Judging.{Judges, NoneIsSlow}
+use Rattle.mc_guests.specs.Repeats.{one_more}
 use Rattle.mc_guests.specs.declared.weighed.Judged.{Judged}
-use Rattle.mc_workers.specs.Room.{JudgesSlow, and_one, JudgesUpTo, MakesRoom}
+use Rattle.mc_workers.specs.Room.{JudgesSlow, JudgesUpTo, MakesRoom}
 
 -- one more was judged
 pub judged_more : (count : ℕ) (verdict : Judged) (old mid new : BooksState) → JudgesSlow count old mid → Judges mid.budget.ticks (Some verdict) mid.row new.row
     → new ≡ record mid { row = new.row } → JudgesSlow (count + 1) old new
-judged_more count verdict old mid new front judges is = and_one front judges is
+judged_more count verdict old mid new front judges is = one_more front (record { result = verdict; judges = judges; same = is })
 
 -- none is slow any more
 pub judged_none : (most count : ℕ) (old mid new : BooksState) → count < most → JudgesSlow count old mid → Judges mid.budget.ticks None mid.row new.row

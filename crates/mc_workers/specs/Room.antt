@@ -1,18 +1,22 @@
 -- What a worker does for room: it judges slow guests that hold much.
-use Rattle.std.specs.Prelude.{◌≡◌, ◌⊎◌, ◌<◌, ◌+◌, ℕ, length}
+use Rattle.std.specs.Prelude.{◌≡◌, ◌⊎◌, ◌<◌, ℕ, length}
 use Rattle.mc_guests.specs.Books.{BooksState, at_ticks, took_judging}
 use Rattle.mc_guests.specs.Budgets.{to_judge}
 use Rattle.mc_guests.specs.Judging.{JudgesSlowest, NoneIsSlow}
+use Rattle.mc_guests.specs.Repeats.{Repeats}
 use Rattle.mc_guests.specs.declared.weighed.Judged.{Judged}
 
--- so many slow guests were judged, each the slowest then, and nothing else of the guests changed
-pub data JudgesSlow : (count : ℕ) (old new : BooksState) → Type 0 where
-  nobody : {books : BooksState} → JudgesSlow 0 books books
-  and_one : {count : ℕ} {old mid new : BooksState} {result : Judged} → JudgesSlow count old mid
-      → JudgesSlowest mid.budget.ticks result mid.row new.row → new ≡ record mid { row = new.row }
-      → JudgesSlow (count + 1) old new
+-- the slowest guest was judged, and nothing else of the guests changed
+pub record JudgesOne (old new : BooksState) : Type 0 where
+  pub result : Judged
+  pub judges : JudgesSlowest old.budget.ticks result old.row new.row
+  pub same : new ≡ record old { row = new.row }
 
--- the slowest guests were judged: so many, or until none was slow
+-- `count` slow guests were judged, each the slowest then
+abbrev pub JudgesSlow : (count : ℕ) (old new : BooksState) → Type 0
+JudgesSlow count old new = Repeats JudgesOne count old new
+
+-- the slowest guests were judged: `most` of them, or until none was slow
 pub record JudgesUpTo (most : ℕ) (old new : BooksState) : Type 0 where
   pub count : ℕ
   pub judges : JudgesSlow count old new

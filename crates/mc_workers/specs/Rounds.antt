@@ -17,7 +17,7 @@ use Rattle.mc_guests.specs.declared.guests.WorkEnd.{WorkEnd}
 abbrev pub as_caller : {K : Type 0} → (K → List ℕ → ℕ) → Relations (AskingState K)
 as_caller hash_of = record { took = AsksStep hash_of; spent = AsksInVain hash_of; same = λ old new. new ≡ old }
 
--- what a worker has when its door was opened: its caller, its guests, its door, what it counted, the shelf whose turn it is
+-- what a worker has when its door was opened: its caller, its guests, its door, what it counted, the next shelf
 -- to be tidied, modulo their number, and the moment of the rounds before
 pub record WorkState (K : Type 0) : Type 0 where
   pub asking : AskingState K
@@ -52,8 +52,8 @@ module _ {K : Type 0} (hash_of : K → List ℕ → ℕ) where
     pub visits : VisitsAll (as_caller hash_of) now books visited old new
     pub settles : SettlesFrom 0 visited later before after
 
-  -- Rounds at a moment. So many of 64 visits are left, those to guests that were awake before each. Before each round
-  -- behind the first one was left, and somebody was awake.
+  -- Rounds at a moment. Each round visits the guests that were awake before it. `left` of 64 visits are left. A further
+  -- round is made only while visits are left and a guest is awake.
   pub data HaveRounds (now : ℕ) : (left : ℕ) (old new : AskingState K) (books later : BooksState) (before after : WorkEnd) → Type 0 where
     one : {old new : AskingState K} {books later : BooksState} {before after : WorkEnd}
         → VisitsAndSettles now old new books later before after → HaveRounds now (64 - books.awake) old new books later before after
@@ -80,7 +80,7 @@ module _ {K : Type 0} (hash_of : K → List ℕ → ℕ) where
     pub judges : MakesRoom settled roomy
     pub opens : OpensForAll old.door new.door roomy new.books counted new.end goes_on
 
-  -- openings of the door, one after another, each of which said that more can come
+  -- openings of the door, one after another; each said that more can come
   pub data Works (may_give : ℕ → Type 0) : (old new : WorkState K) → Type 0 where
     nothing : {state : WorkState K} → Works may_give state state
     and_once : {old between new : WorkState K} → Works may_give old between → WorksOnce may_give between new true

@@ -10,7 +10,7 @@ use Rattle.mc_shared.specs.History.{Purged, start_of}
 abbrev pub asked_by : {K : Type 0} → StoreState K → CallerState → AskingState K
 asked_by began caller = record { began = began; table = caller.table; past = caller.past }
 
--- the shelf whose turn is behind one's: the first one's behind the last
+-- the shelf behind one: the first behind the last
 abbrev pub in_turn : (shelves shelf : ℕ) → ℕ
 in_turn shelves shelf = if nat_lt (shelf + 1) shelves then shelf + 1 else 0
 

@@ -175,7 +175,7 @@ fn make_round<R: Wait, K: KeyHash + Drop, L: Link + Drop, G: Gate, T: Tally>(
 
 /// Drops the dead items of the next shelves if the clock has risen.
 ///
-/// Returns the shelf whose turn is next. The clocks of all workers rise at once. A worker that
+/// Returns the next shelf to tidy. The clocks of all workers rise at once. A worker that
 /// tidies its own shelves first doesn't want a shelf that another tidies.
 fn tidy_if_risen<R: Wait, K: KeyHash + Drop, G: Gate, T: Tally>(
     counting: &mut Counting<'_, Tending<'_, R, K, G>, T>,

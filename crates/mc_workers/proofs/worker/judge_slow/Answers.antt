@@ -1,10 +1,10 @@
 use Rattle.std.proofs.Common.{◌≡◌, arith}
-use Rattle.mc_workers.specs.Room.{nobody}
+use Rattle.mc_guests.specs.Repeats.{none_yet}
 use Rattle.mc_workers.proofs.RoomLemmas.{judged_more, judged_none, judged_all}
 use Rattle.mc_workers.proofs.worker.judge_slow.Goals as goal
 
 pub loop-init : goal.loop-init
-loop-init g c = nobody
+loop-init g c = none_yet
 
 pub loop-preserved : goal.loop-preserved
 loop-preserved g c =
