@@ -1,6 +1,7 @@
 -- Calls that are made again.
 use Rattle.std.proofs.Common.{◌≡◌, ℕ, ◌+◌, List, subst}
-use Rattle.mc_sockets.specs.Streams.{AreInterrupted, one_more, into_some, Flow, MovesIn, MovesOut}
+use Rattle.mc_guests.specs.Repeats.{one_more}
+use Rattle.mc_sockets.specs.Streams.{AreInterrupted, into_some, Flow, MovesIn, MovesOut}
 use Rattle.mc_sockets.specs.declared.stream.Hindrance.TheVariants.{Interrupted}
 use Rattle.mc_sockets.specs.declared.stream.Received.{Received}
 use Rattle.mc_sockets.specs.declared.stream.Received.TheVariants as received
@@ -13,7 +14,7 @@ pub read_interrupted : {S : Type 0} (receives : S → List ℕ → Received → 
     → AreInterrupted (into_some receives) (received.Hindered Interrupted) times old mid → receives mid piece answer new
     → AreInterrupted (into_some receives) (received.Hindered Interrupted) (times + 1) old new
 read_interrupted receives times old mid new piece answer is before call =
-    one_more times old mid new before (piece, subst (λ (given : Received). receives mid piece given new) is call)
+    one_more before (piece, subst (λ (given : Received). receives mid piece given new) is call)
 
 -- a write that was interrupted once more
 pub write_interrupted : {S : Type 0} (sends : S → List ℕ → Sent → S → Type 0) (bytes : List ℕ) (times : ℕ) (old mid new : S)
@@ -21,7 +22,7 @@ pub write_interrupted : {S : Type 0} (sends : S → List ℕ → Sent → S → 
     → AreInterrupted (λ s given t. sends s bytes given t) (sent.Hindered Interrupted) times old mid → sends mid bytes answer new
     → AreInterrupted (λ s given t. sends s bytes given t) (sent.Hindered Interrupted) (times + 1) old new
 write_interrupted sends bytes times old mid new answer is before call =
-    one_more times old mid new before (subst (λ (given : Sent). sends mid bytes given new) is call)
+    one_more before (subst (λ (given : Sent). sends mid bytes given new) is call)
 
 -- a read that was interrupted moved no byte
 pub moves_nothing_in : (old new : Flow) (piece : List ℕ) (answer : Received) → answer ≡ received.Hindered Interrupted

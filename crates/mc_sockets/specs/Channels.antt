@@ -29,7 +29,7 @@ link_of flow calls = record {
   requested = calls.requested;
 }
 
--- A read of a connection of which this is known: one that is to be closed is at its end, one with
+-- A read of a connection that has this readiness: one that is to be closed is at its end, one with
 -- nothing to read would block, and any other reads its stream.
 abbrev pub ReadsBy : {S : Type 0} → (S → List ℕ → Received → S → Type 0) → Readiness → List ℕ → S → Received → S → Type 0
 ReadsBy receives known piece old answer new =
@@ -37,7 +37,7 @@ ReadsBy receives known piece old answer new =
     (MatchBool known.reads (IsReadAgain receives piece old answer new)
     ((answer ≡ received.Hindered WouldBlock) × (new ≡ old)))
 
--- a write of a connection of which this is known: one without room would block, and any other writes
+-- a write of a connection that has this readiness: one without room would block, and any other writes
 -- to its stream
 abbrev pub WritesBy : {S : Type 0} → (S → List ℕ → Sent → S → Type 0) → Readiness → List ℕ → S → Sent → S → Type 0
 WritesBy sends known bytes old answer new =

@@ -8,7 +8,7 @@ use Rattle.mc_sockets.specs.declared.stream.Received.{Received}
 use Rattle.mc_sockets.specs.declared.stream.Received.TheVariants as received
 use Rattle.mc_sockets.specs.Streams.{into_some}
 
--- after so many dropped bytes there may be more to drop, up to 1 MiB
+-- after less than 1 MiB of dropped bytes there may be more to drop
 abbrev pub state_after : (bytes : ℕ) → Drain
 state_after bytes = if nat_lt bytes 1_048_576 then Going else Done
 
@@ -22,11 +22,11 @@ after_drop old (received.Hindered WouldBlock) = record { bytes = old.bytes; drai
 after_drop old (received.Hindered Interrupted) = old
 after_drop old (received.Hindered Fault) = record { bytes = old.bytes; drain = Done }
 
--- so many bytes were dropped before
+-- `before` bytes were dropped before
 abbrev pub starts : (before : ℕ) → Dropping
 starts before = record { bytes = before; drain = Going }
 
--- so many reads, one after another, each where there may be more to drop
+-- `reads` reads, one after another, each where there may be more to drop
 pub data Drops {S : Type 0} (receives : S → List ℕ → Received → S → Type 0) (before : ℕ) (first : S) : (reads : ℕ) → Dropping → S → Type 0 where
   none_yet : Drops receives before first 0 (starts before) first
   one_more : (reads : ℕ) (old : Dropping) (mid new : S) (answer : Received) → Drops receives before first reads old mid → old.drain ≡ Going → into_some receives mid answer new → Drops receives before first (reads + 1) (after_drop old answer) new

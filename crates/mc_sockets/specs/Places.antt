@@ -81,7 +81,7 @@ pub record EndsIfIdle {F : Type 0} (known : F → Option Readiness) (look : Look
   pub finds : Finds (known old.readiness) look (λ stood. stood.waits) (λ stood. seen_waiting stood old.waits_since) has_waited seen.waits_since
   pub ends : MatchBool has_waited (HappensTo known (Ended parting) IsFull seen new old_names new_names) ((new ≡ seen) × (new_names ≡ old_names))
 
--- A link is asked again if it waits or was dropped, and nothing was heard of it for the limit. Else only the
+-- A link is asked again if it waits or was dropped, and had no event for the limit. Else only the
 -- look is noted.
 pub record AsksIfUnheard {F : Type 0} (known : F → Option Readiness) (look : Look) (IsFull : Type 0) (old new : LinkRecord F) (old_names new_names : List ℕ) : Type 0 where
   pub is_unheard : Bool
@@ -90,7 +90,7 @@ pub record AsksIfUnheard {F : Type 0} (known : F → Option Readiness) (look : L
   pub finds : Finds (known old.readiness) look (λ stood. stood.waits || stood.leaves) (λ _. old.asked_since) is_unheard seen.asked_since
   pub asks : MatchBool is_unheard (HappensTo known AskedAgain IsFull seen new old_names new_names) ((new ≡ seen) × (new_names ≡ old_names))
 
--- one that has lingered for its limit is to be closed, and any other is asked again if nothing was heard of it
+-- one that has lingered for its limit is to be closed, and any other is asked again if it had no event
 pub record AsksOrCloses {F : Type 0} (known : F → Option Readiness) (linger look : Look) (IsFull : Type 0) (old new : LinkRecord F) (old_names new_names : List ℕ) : Type 0 where
   pub has_lingered : Bool
   pub seen : LinkRecord F

@@ -44,14 +44,14 @@ module _ {F : Type 0} where
     pub answers : AnswersAt act at answer old new
     pub rest : MatchBool answer (sends old_rests at new_rests) (new_rests ≡ old_rests)
 
-  -- An event is heard at the place of its token, which is 1 more than the place: what it reports happens to
+  -- An event is noted at the place of its token, which is 1 more than the place: what it reports happens to
   -- the link there. The token 0 is the waker's, and nothing happens.
   pub record Hears {R : Type 0} (known : F → Option Readiness) (sends : R → ℕ → R → Type 0) (event : Event) (old new : Seats F) (old_rests new_rests : R) : Type 0 where
     pub waker : (event_token event).0 ≡ 0 → (new ≡ old) × (new_rests ≡ old_rests)
     pub link : 0 < (event_token event).0
         → SendsAt sends (Notes known (report_of event) (IsFull old)) ((event_token event).0 - 1) old new old_rests new_rests
 
-  -- each event of a list is heard once, from the first to the last, and nothing else happens
+  -- each event of a list is noted once, from the first to the last, and nothing else happens
   pub data AreHeard {R : Type 0} (hears : Event → Seats F → Seats F → R → R → Type 0) : List Event → (old new : Seats F) → (old_rests new_rests : R) → Type 0 where
     no_event : (seats : Seats F) (rests : R) → AreHeard hears [] seats seats rests rests
     one_first : (event : Event) (others : List Event) (old mid new : Seats F) (old_rests mid_rests new_rests : R)

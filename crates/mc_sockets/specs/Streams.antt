@@ -1,9 +1,10 @@
 -- Streams of bytes below connections.
-use Rattle.std.specs.Prelude.{◌≡◌, ◌≢◌, ◌<◌, ◌≤◌, ℕ, ◌+◌, List, ◌++◌, length, take, Option, None, option_map, Result, Ok, Err}
+use Rattle.std.specs.Prelude.{◌≡◌, ◌≢◌, ◌<◌, ◌≤◌, ℕ, List, ◌++◌, length, take, Option, None, option_map, Result, Ok, Err}
 use Rattle.std.specs.IoError.{error_kind}
 use Rattle.std.specs.declared.io.Error.{Error}
 use Rattle.std.specs.declared.io.ErrorKind.TheVariants as io_kind
 use Rattle.mc_guests.specs.Links.{grown}
+use Rattle.mc_guests.specs.Repeats.{Repeats}
 use Rattle.mc_sockets.specs.declared.stream.Hindrance.{Hindrance}
 use Rattle.mc_sockets.specs.declared.stream.Hindrance.TheVariants.{WouldBlock, Interrupted, Fault}
 use Rattle.mc_sockets.specs.declared.stream.Received.{Received}
@@ -11,14 +12,14 @@ use Rattle.mc_sockets.specs.declared.stream.Received.TheVariants as received
 use Rattle.mc_sockets.specs.declared.stream.Sent.{Sent}
 use Rattle.mc_sockets.specs.declared.stream.Sent.TheVariants as sent
 
--- The bytes that a stream will still give, and those that it gave and took until now; none where
--- nobody can know them.
+-- The bytes that a stream will still give, and those that it gave and took until now; `None` where
+-- they are unspecified.
 pub record Flow : Type 0 where
   pub left : Option (List ℕ)
   pub given : Option (List ℕ)
   pub taken : Option (List ℕ)
 
--- the flow of a stream whose bytes nobody can know
+-- the flow of a stream whose bytes are unspecified
 abbrev pub unknown : Flow
 unknown = record { left = None; given = None; taken = None }
 
@@ -43,9 +44,8 @@ MovesOut old bytes (sent.Bytes n) new =
 MovesOut old bytes (sent.Hindered hindrance) new = new ≡ old
 
 -- a signal interrupted a call this many times, one after another
-pub data AreInterrupted {S A : Type 0} (call : S → A → S → Type 0) (interrupted : A) : ℕ → S → S → Type 0 where
-  none_is : (stream : S) → AreInterrupted call interrupted 0 stream stream
-  one_more : (times : ℕ) (old mid new : S) → AreInterrupted call interrupted times old mid → call mid interrupted new → AreInterrupted call interrupted (times + 1) old new
+abbrev pub AreInterrupted : {S A : Type 0} (call : S → A → S → Type 0) (interrupted : A) → ℕ → S → S → Type 0
+AreInterrupted call interrupted times old new = Repeats (λ before after. call before interrupted after) times old new
 
 -- A call that is made again if a signal interrupts it, and the answer of the last one, which may be
 -- interrupted too behind 1000 others.

@@ -6,7 +6,7 @@ use Rattle.slab.specs.Slab.{Slab, get}
 use Rattle.mc_sockets.specs.declared.yard.YardSpot.{YardSpot}
 use Rattle.mc_sockets.specs.declared.yard.YardSpot.TheVariants as spot
 
--- A place: nobody has it, a link has it, or what a link left lingers there.
+-- A place: it is free, a link has it, or what a link left lingers there.
 pub data PlaceState (L : Type 0) : Type 0 where
   Free : PlaceState L
   InUse : PlaceState L

@@ -128,7 +128,7 @@ impl Arrivals {
         }
     }
 
-    /// Deals a connection to the worker in turn, wakes a worker, and returns whose turn is next.
+    /// Deals a connection to worker `turn`, wakes a worker, and returns the next worker.
     ///
     /// It wakes that worker if it rests, and otherwise another one that rests.
     pub fn deal<R: Wait>(&self, rt: &R, connection: Connection, turn: usize) -> usize {

@@ -76,7 +76,7 @@ impl Dropping {
         }
     }
 
-    /// Returns that so many bytes were dropped.
+    /// Returns the state after `bytes` dropped bytes.
     fn of(bytes: usize) -> Dropping
         ensures { result ≡ record { bytes = bytes; drain = state_after bytes } }
     {
@@ -91,7 +91,7 @@ impl Dropping {
     }
 }
 
-/// Reads and drops what is there of a stream's input, behind so many bytes that were dropped
+/// Reads and drops what is there of a stream's input. `before` bytes of it were dropped
 /// before.
 pub fn drop_input<S: Stream>(stream: &mut S, before: usize) -> Dropping
     ensures { DropsInput S.receives before stream.old result stream.new }

@@ -1,6 +1,6 @@
 //! The links of a worker, and the events that wake them.
 //!
-//! What a poll reports is heard by the books, each event once. Which events the system reports, and
+//! The books note what a poll reports, each event once. Which events the system reports, and
 //! when, is unspecified.
 ghost use Rattle.std.specs.Prelude.{◌≡◌, [], length, None, IfSome, IfNone, ⊤};
 

@@ -14,11 +14,11 @@ pub struct LinkRecord<F: ReadinessCell + Drop> {
     /// The number by which the link is named.
     number: u64,
     readiness: F,
-    /// When it was first seen waiting, since the last event; `None` if nobody looked.
+    /// When it was first seen waiting, since the last event; `None` before a look.
     waits_since: Option<Instant>,
     /// The same, since its link was asked again or the last event.
     asked_since: Option<Instant>,
-    /// When it was first seen with its write side shut down; `None` if nobody looked.
+    /// When it was first seen with its write side shut down; `None` before a look.
     lingers_since: Option<Instant>,
 }
 

@@ -1,6 +1,6 @@
 //! The books of a worker's links: the record of each place, and the links to be named.
 //!
-//! They are proved for any readiness: each event of a poll is heard once, at the place of its token
+//! They are proved for any readiness: each event of a poll is noted once, at the place of its token
 //! and no other, a link is ended by its own number, and a look changes the place alone that it is
 //! at. What the poll reports, and when, is unspecified (`links.rt`).
 ghost use Rattle.std.specs.Prelude.{◌≡◌, ◌<◌, ◌≤◌, ◌+◌, ◌-◌, ◌^◌, ◌++◌, [], length, option_to_list};

@@ -1,10 +1,10 @@
 use Rattle.std.proofs.Common.{refl, ◌∙◌}
-use Rattle.mc_sockets.specs.Streams.{none_is}
+use Rattle.mc_guests.specs.Repeats.{none_yet}
 use Rattle.mc_sockets.proofs.StreamLemmas.{read_interrupted, moves_nothing_in}
 use Rattle.mc_sockets.proofs.stream.receive_again.Goals as goal
 
 pub loop-interruption-init : goal.loop-interruption-init
-loop-interruption-init g c = (none_is _, refl)
+loop-interruption-init g c = (none_yet, refl)
 
 pub loop-interruption-preserved : goal.loop-interruption-preserved
 loop-interruption-preserved g c =
