@@ -1,5 +1,5 @@
 -- Endpoints that need a listener of their own.
-use Rattle.std.proofs.Common.{◌≡◌, refl, sym, ap, ◌∙◌, subst, ℕ, zero, suc, List, [], ◌∷◌, Bool, true, false, not, ◌&&◌, ◌||◌, Option, Some, None, inl, inr, cond, length, Result, Ok, Err, IfErr, arith}
+use Rattle.std.proofs.Common.{◌≡◌, refl, sym, ap, ◌∙◌, subst, ℕ, zero, suc, List, [], ◌∷◌, Bool, true, false, not, ◌&&◌, ◌||◌, Some, inl, inr, cond, length, Result, Ok, Err, IfErr, arith}
 use Rattle.std.specs.Prelude.{slice_get, ◌==◌}
 use Rattle.std.specs.List.{filter, list_any}
 use Rattle.std.specs.declared.net.ip_addr.IpAddr.{IpAddr}

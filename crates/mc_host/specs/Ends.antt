@@ -1,4 +1,4 @@
--- What the shell is told of an end of the program, and what is said on standard error.
+-- The exit status of the program, and what it writes to standard error at its end.
 use Rattle.std.specs.Prelude.{◌≡◌, ◌⊎◌, ℕ, Bool, true, List, slice_get, Option, Some, None, Ok, Err, codes}
 use Rattle.mc_session.specs.declared.serving.ServeFault.TheVariants as fault
 use Rattle.mc_host.specs.declared.end.Obstacle.{Obstacle}

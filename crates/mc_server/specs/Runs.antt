@@ -1,5 +1,5 @@
 -- What the program serves, by its command line.
-use Rattle.std.specs.Prelude.{◌≡◌, ◌≤◌, ◌^◌, ℕ, List, [], replicate, Option, Some, None, Result, Ok, Err}
+use Rattle.std.specs.Prelude.{◌≤◌, ◌^◌, ℕ, List, [], replicate, Option, Result, Ok, Err}
 use Rattle.mc_hop.specs.Hash.{fnv}
 use Rattle.mc_protocol.specs.Plain.{opening}
 use Rattle.mc_world.specs.Worlds.{WorldState, CanStand}

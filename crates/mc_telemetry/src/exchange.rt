@@ -38,7 +38,7 @@ enum Stage {
 /// What is to be done about an exchange.
 #[derive(Clone, Copy)]
 pub enum Due {
-    /// Nothing until its client is heard of.
+    /// Nothing until its client sends or takes bytes.
     Nothing,
     /// It is to be asked to go on.
     More,
@@ -58,10 +58,10 @@ pub struct Exchange {
     stage: Stage,
     /// When this stage began, if the clock can be read.
     since: Option<Instant>,
-    /// The request, of which `came` bytes have come.
+    /// The request; `came` bytes of it have come.
     request: Vec<u8>,
     came: usize,
-    /// The answer, of which `sent` bytes were sent.
+    /// The answer; `sent` bytes of it were sent.
     answer: Vec<u8>,
     sent: usize,
     /// Whether the client may have sent more than was read.

@@ -28,7 +28,7 @@ pub struct Notice<'a> {
 }
 
 /// Writes where the server listens, and then the lines of the log, until no thread has more of
-/// them. If nobody reads what was written then, the rest isn't written, and the server ends all the
+/// them. If what was written isn't read then, the rest isn't written, and the server ends all the
 /// same. It sleeps while there is nothing to write. A minute after a report that the store is full
 /// it wakes once, so that the next refusal is reported again.
 pub fn write_lines<R: Wait + Clock, S: StoreStats>(

@@ -29,7 +29,7 @@ pub record HasNoNext (connection : Connection) : Type 0 where
   pub are : AreUnits connection.greatest connection.passed connection.stream units
   pub none : slice_get (turns units) connection.taken ≡ None
 
--- these units, none of which ends the stream, are at its front, and this comes after them
+-- these units are at the front of the stream, none of them ends it, and this comes after them
 abbrev pub Follows : (greatest passed : ℕ) → List ℕ → List ProtocolUnit → Unread → Type 0
 Follows greatest passed bytes [] rest =
     rest ≡ settled (record { greatest = greatest; passed = passed; bytes = bytes })

@@ -1,4 +1,4 @@
-use Rattle.std.proofs.Common.{rules, arith}
+use Rattle.std.proofs.Common.{rules}
 use Rattle.mc_host.proofs.CoverLemmas.{first-bound}
 use Rattle.mc_host.proofs.covers.led_by.Goals as goal
 use Rattle.mc_host.proofs.covers.led_by.Goals.{else-is_dual-via-then-is_dual+then-is_covered+else-not-is_empty, else-is_dual-via-then-is_dual+else-is_covered, else-is_dual-via-else-is_dual}
