@@ -3,6 +3,10 @@
 //! The tests see what a budget counts by the guests that wait.
 
 use crate::counting::Counting;
+use crate::lines::{
+    BEGUN, GREATEST, OF_16384, OF_16385, OF_400000, OF_400001, OF_600000, OF_1000000, OF_1200000,
+    OF_9000000,
+};
 use mc_guests::{Budget, Got, Guests, Link, LinkFault, Outcome, Tally, Took, WorkEnd};
 use mc_protocol::{KeyStep, Verb};
 use mc_testing::{Ask, ask_step, filled_block, step_of};
@@ -12,36 +16,11 @@ use std::cell::Cell;
 use std::process::Abort;
 use std::test::*;
 
-/// The greatest charge that a line may announce.
-const GREATEST: u64 = 16_777_216;
-
 /// More rounds than any guest is awake in.
 const ROUNDS: u64 = 1000;
 
-/// The bytes of a block that arrive: enough that room for all of it is wanted.
-const BEGUN: usize = 30_000;
-
-/// As many for a block of 16384 bytes.
+/// The bytes that arrive of a block of 16384 bytes.
 const BEGUN_LITTLE: usize = 10_000;
-
-// Lines that announce a block, named by their length with the block. At most its first bytes
-// arrive.
-
-const OF_16384: &[u8] = b"set b 0 0 16365\r\n";
-
-const OF_16385: &[u8] = b"set b 0 0 16366\r\n";
-
-const OF_400000: &[u8] = b"set b 0 0 399980\r\n";
-
-const OF_400001: &[u8] = b"set b 0 0 399981\r\n";
-
-const OF_600000: &[u8] = b"set b 0 0 599980\r\n";
-
-const OF_1000000: &[u8] = b"set b 0 0 999980\r\n";
-
-const OF_1200000: &[u8] = b"set b 0 0 1199979\r\n";
-
-const OF_9000000: &[u8] = b"set b 0 0 8999979\r\n";
 
 /// A link that gives its input as fast as it is read, and takes all output.
 ///

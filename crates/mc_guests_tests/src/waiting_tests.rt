@@ -3,6 +3,7 @@
 //! What a budget counts is seen by which further guests wait.
 
 use crate::counting::Counting;
+use crate::lines::{BEGUN, GREATEST, OF_131073, OF_380000, OF_600000, OF_9000000};
 use mc_guests::{Budget, Got, Guests, Link, LinkFault, Took, WorkEnd};
 use mc_protocol::Verb;
 use mc_testing::{Ask, ask_step, filled_block, step_of};
@@ -10,9 +11,6 @@ use mc_time::Moment;
 use std::alloc::{AllocError, Global};
 use std::cell::Cell;
 use std::test::*;
-
-/// The greatest charge that a line may announce.
-const GREATEST: u64 = 16_777_216;
 
 /// The bytes that the guests of a hall may hold.
 const SHARE: usize = 1_000_000;
@@ -24,20 +22,6 @@ const ROUNDS: u64 = 100;
 const TICKS: u64 = 20;
 
 const ROUNDS_A_TICK: u64 = 50;
-
-/// The bytes of a block that arrive: enough that room for all of it is wanted.
-const BEGUN: usize = 30_000;
-
-// Lines that announce a block, named by their length with the block. At most its first bytes
-// arrive.
-
-const OF_131073: &[u8] = b"set b 0 0 131053\r\n";
-
-const OF_380000: &[u8] = b"set b 0 0 379980\r\n";
-
-const OF_600000: &[u8] = b"set b 0 0 599980\r\n";
-
-const OF_9000000: &[u8] = b"set b 0 0 8999979\r\n";
 
 /// What is outside a link: whether its peer has left, and how often its guest called it.
 #[derive(Drop)]
