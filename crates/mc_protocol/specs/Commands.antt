@@ -5,7 +5,6 @@ use Rattle.mc_protocol.specs.declared.command.CommandOf.TheVariants.{Store, Cas,
 use Rattle.mc_protocol.specs.declared.lone.Lone.{Lone}
 use Rattle.mc_protocol.specs.declared.step.KeyStep.{KeyStep}
 use Rattle.mc_protocol.specs.declared.step.KeyStep.TheVariants.{Store as StoreStep, Cas as CasStep, Read as ReadStep, ReadTouch as ReadTouchStep, Touch as TouchStep, Delete as DeleteStep, Count as CountStep, Flush as FlushStep}
-use Rattle.mc_protocol.specs.declared.limits.TheConstants.{LONGEST_KEY}
 
 -- a command as it is lent
 abbrev pub Command : Type 0
@@ -173,7 +172,7 @@ key_of step = key_seen (view step)
 
 -- how many bytes a key has at most
 abbrev pub longest_key : ℕ
-longest_key = LONGEST_KEY
+longest_key = 250
 
 -- no key of the command's steps is longer than that
 abbrev pub HasShortKeys : Command → Type 0

@@ -26,7 +26,6 @@ use Rattle.mc_protocol.specs.declared.row.Body.{Body}
 use Rattle.mc_protocol.specs.declared.row.Body.TheVariants.{Given, Appended, Prepended, Counted}
 use Rattle.mc_protocol.specs.declared.reply.Reply.{Reply}
 use Rattle.mc_protocol.specs.declared.reply.Reply.TheVariants.{Stored, NotStored, Exists, NotFound, Miss, Hit, Touched, Deleted, Number, NotNumeric, TooLarge, NoChunk, Flushed}
-use Rattle.mc_protocol.specs.declared.limits.TheConstants.{CHUNK_HEAD}
 
 -- an item under a key
 pub record Entry : Type 0 where
@@ -78,7 +77,7 @@ pub data Outcome : Type 0 where
 
 -- what a chunk holds beside the key and the block, in bytes
 abbrev pub chunk_head : ℕ
-chunk_head = CHUNK_HEAD
+chunk_head = 48
 
 -- how many bytes of a chunk an item takes
 abbrev pub charge : List ℕ → List ℕ → ℕ
