@@ -9,6 +9,10 @@ use crate::numbers::Numbers;
 use mc_protocol::{Bytes, Keys, Reply};
 use std::alloc::AllocError;
 
+/// The bytes of a hit's text beside its key, its numbers and its block: `VALUE `, and the line end
+/// behind the block.
+const AROUND: usize = 8;
+
 /// The fields of a hit, whose block is in these parts one after another.
 #[derive(Clone, Copy)]
 pub(crate) struct HitFields<'a> {
@@ -130,7 +134,7 @@ fn append_hit(
         .saturating_add(block_len)
         .saturating_add(numbers.len())
         .saturating_add(end.len())
-        .saturating_add(8);
+        .saturating_add(AROUND);
     out.reserve(room)?;
     out.extend_from_slice(b"VALUE ")?;
     out.extend_from_slice(key)?;
