@@ -2,15 +2,14 @@
 use Rattle.std.specs.Prelude.{◌≡◌, ◌⊎◌, ℕ, ◌+◌, ◌^◌, ◌<◌, ◌≤◌, List, [], ◌++◌, length, take, Option}
 use Rattle.std.specs.Io.KnownBytes.{Appends, Consumes, IsAtEnd}
 use Rattle.mc_session.specs.declared.endpoint.Endpoint.{Ghosts as Relations}
-use Rattle.mc_session.specs.declared.rounds.TheConstants.{LONGEST_PIECE, WRITE_AT}
 
 -- the most bytes that are read at once
 abbrev pub longest_piece : ℕ
-longest_piece = LONGEST_PIECE
+longest_piece = 16384
 
 -- a turn is taken only with less output than this, in bytes
 abbrev pub most_waiting : ℕ
-most_waiting = WRITE_AT
+most_waiting = 65536
 
 -- an endpoint, its store, what is left to be read, and what was written
 pub record Scene (E S : Type 0) : Type 0 where

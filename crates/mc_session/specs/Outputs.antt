@@ -1,10 +1,9 @@
 -- What an output keeps, and what was appended to it.
 use Rattle.std.specs.Prelude.{◌≡◌, ℕ, List, length, take}
-use Rattle.mc_session.specs.declared.output.TheConstants.{KEPT_OUTPUT}
 
 -- the most memory in bytes that an empty output keeps
 abbrev pub kept_output : ℕ
-kept_output = KEPT_OUTPUT
+kept_output = 131072
 
 -- the new bytes begin with the old
 abbrev pub IsBegun : (old new : List ℕ) → Type 0

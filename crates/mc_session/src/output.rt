@@ -94,6 +94,7 @@ pub trait Outgoing {
     /// Returns the number of reserved bytes afterwards.
     fn rest(&mut self) -> usize
         ensures same { bytes self.new ≡ bytes self.old }
+        ensures filled { length (bytes self.new) ≤ result }
         ensures empty { bytes self.new ≡ [] → result ≤ first_piece };
 }
 

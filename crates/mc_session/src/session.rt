@@ -271,6 +271,8 @@ impl<O: Outgoing + Drop> SessionOf<O> {
     /// Returns the number of reserved bytes afterwards.
     pub fn rest(&mut self) -> usize
         ensures same { self.new ≡ self.old }
+        ensures unread { length self.new.unread.bytes ≤ result }
+        ensures out { length self.new.out ≤ result }
         ensures empty { self.new.unread.bytes ≡ [] → self.new.out ≡ [] → result ≤ resting }
     {
         let unread = self.feed.rest();
