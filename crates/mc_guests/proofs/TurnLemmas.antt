@@ -1,16 +1,17 @@
 -- What becomes of turns with one guest more.
-use Rattle.std.proofs.Common.{◌≡◌, ℕ, ◌<◌, ◌+◌, List, [], ◌∷◌, ◌++◌, length, take, drop, refl, sym, ap, ◌∙◌, subst, arith, get_or, inl, inr, Option, Some, None, IfSome}
+use Rattle.std.proofs.Common.{◌≡◌, ◌≢◌, ℕ, ◌<◌, ◌+◌, List, [], ◌∷◌, ◌++◌, length, take, drop, refl, sym, ap, ◌∙◌, subst, arith, get_or, inl, inr, Option, Some, None, IfSome}
 use Rattle.std.specs.Prelude.{is_none}
 use Rattle.std.proofs.Math.ListN.{set}
 use Rattle.std.proofs.lemmas.List.{take_more, take_more_set, get_or-drop, drop-set-lt}
 use Rattle.std.proofs.lemmas.Grind.{drop_more_same}
 use Rattle.mc_protocol.specs.declared.step.Steps.{Ghosts as Relations}
 use Rattle.mc_guests.specs.Asks.{AsksAndVisits, IsKeptWaiting}
-use Rattle.mc_guests.specs.Budgets.{uncounted, IsHeldBack, Recounts}
+use Rattle.mc_guests.specs.Budgets.{uncounted, IsHeldBack, IsCounted, Recounts}
 use Rattle.mc_guests.specs.Guests.{RowGuest}
 use Rattle.mc_guests.specs.declared.budget.Budget.{Budget}
 use Rattle.mc_guests.specs.Turns.{HasTurn, HaveTurns, next}
 use Rattle.mc_guests.specs.declared.guest.Visit.{Visit}
+use Rattle.mc_guests.specs.declared.guest.Visit.TheVariants.{Wrote}
 
 module _ {S : Type 0} (relations : Relations S) (now : ℕ) where
   -- a guest was visited with an answer, or is kept waiting where there was none
@@ -18,11 +19,12 @@ module _ {S : Type 0} (relations : Relations S) (now : ℕ) where
       → IfSome result (λ answer. AsksAndVisits relations now answer old.guest new.guest before after)
       → (result ≡ None → IsKeptWaiting relations now old.guest new.guest before after)
       → (result ≡ None → IsHeldBack new.guest (uncounted old.counted old.waits budget)) → new.waits ≡ is_none result → Recounts old new budget later
+      → IfSome result (λ answer. answer ≢ Wrote → IsCounted new later)
       → HasTurn relations now old new before after budget later
-  has_turn None old new before after budget later some none held waits counts =
+  has_turn None old new before after budget later some none held waits counts covers =
       record { turn = inr (record { kept = none refl; held_back = held refl; waits = waits }); counts = counts }
-  has_turn (Some answer) old new before after budget later some none held waits counts =
-      record { turn = inl (record { answer = answer; visits = some; goes_on = waits }); counts = counts }
+  has_turn (Some answer) old new before after budget later some none held waits counts covers =
+      record { turn = inl (record { answer = answer; visits = some; goes_on = waits; counted = covers }); counts = counts }
 
   pub turns_more : (olds news : List RowGuest) (i : ℕ) (x y : RowGuest) (before between after : S) (budget mid later : Budget)
       → length news ≡ length olds → i < length news → x ≡ get_or news i x

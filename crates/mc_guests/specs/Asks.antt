@@ -60,10 +60,19 @@ module _ {S : Type 0} (took : S → KeyStep → ℕ → Reply → S → Type 0) 
     pub took_it : took before (Read key) now reply after
     pub length_is : bytes ≡ min (block_length reply) most
 
+-- a key was read at that moment
+abbrev pub WasRead : {S : Type 0} → (S → KeyStep → ℕ → Reply → S → Type 0) → (now : ℕ) (key : List ℕ) (before after : S)
+    → Type 0
+WasRead took now key before after = (reply : Reply) × took before (Read key) now reply after
+
 -- a key was read at that moment, or the store holds the same
 abbrev pub MayRead : {S : Type 0} → (S → KeyStep → ℕ → Reply → S → Type 0) → (S → S → Type 0) → (now : ℕ) (key : List ℕ)
     (before after : S) → Type 0
-MayRead took same now key before after = same before after ⊎ ((reply : Reply) × took before (Read key) now reply after)
+MayRead took same now key before after = same before after ⊎ WasRead took now key before after
+
+-- no unique number is left for the read of a key
+abbrev pub SpendsRead : {S : Type 0} → (spent : S → KeyStep → ℕ → Type 0) → (now : ℕ) (key : List ℕ) (before : S) → Type 0
+SpendsRead spent now key before = spent before (Read key) now
 
 module _ {S : Type 0} (relations : Relations S) (now : ℕ) where
   -- a key that is named was read at that moment

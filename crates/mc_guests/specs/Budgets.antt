@@ -1,6 +1,7 @@
 -- How much memory the guests of one worker may hold together.
 use Rattle.std.specs.Prelude.{◌≡◌, ◌⊎◌, ◌<◌, ◌≤◌, ℕ, ◌+◌, ◌-◌, ◌/◌, ◌==◌, ◌&&◌, ◌||◌, Bool, false, cond, if◌then◌else◌, not, nat_lt, nat_le, min, max, List, length, IsTrue, IsFalse}
 use Rattle.std.specs.List.{sum_by}
+use Rattle.mc_session.specs.Turns.{SessionState}
 use Rattle.mc_guests.specs.Asks.{little, most}
 use Rattle.mc_guests.specs.Guests.{GuestState, RowGuest, has_ended}
 use Rattle.mc_guests.specs.declared.budget.Budget.{Budget}
@@ -113,6 +114,19 @@ pub record Recounts (old new : RowGuest) (before after : Budget) : Type 0 where
   pub large : (others : ℕ) → others < most → before.large ≡ others + one_if (is_large old.counted old.waits)
       → after.large ≡ others + one_if (is_large new.counted new.waits)
   pub rest : rest_of after ≡ rest_of before
+
+-- the most bytes that a guest holds beyond those for which it is counted
+abbrev pub most_uncounted : ℕ
+most_uncounted = 65536
+
+-- a guest that is counted for this many bytes may hold these unread bytes, and this output
+pub record Covers (counted : ℕ) (session : SessionState) : Type 0 where
+  pub unread : length session.unread.bytes ≤ counted + most_uncounted
+  pub out : length session.out ≤ counted + most_uncounted
+
+-- a guest is counted for what it holds, unless the budget counts the greatest number of bytes
+abbrev pub IsCounted : RowGuest → Budget → Type 0
+IsCounted guest budget = budget.held < most → Covers guest.counted guest.guest.session
 
 -- the bytes for which guests are counted
 abbrev pub held_by : List RowGuest → ℕ

@@ -31,9 +31,13 @@ is_recent within ticks (Some asked) = nat_lt (ticks - asked) within
 abbrev pub was_asked : (ticks : ℕ) → Pace → Bool
 was_asked ticks pace = is_recent 8 ticks pace.asked
 
+-- whether the link moved nothing for this many ticks
+abbrev pub was_quiet : (least ticks : ℕ) → Pace → Bool
+was_quiet least ticks pace = nat_le least (ticks - pace.heard)
+
 -- whether the link moved nothing for 5 s
 abbrev pub is_silent : (ticks : ℕ) → Pace → Bool
-is_silent ticks pace = nat_le 20 (ticks - pace.heard)
+is_silent ticks pace = was_quiet 20 ticks pace
 
 -- whether the link moved less than 64 KiB/s for at least 5 s
 abbrev pub lags : (ticks : ℕ) → Pace → Bool

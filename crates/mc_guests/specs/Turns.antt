@@ -1,20 +1,22 @@
 -- Who is visited in a round, where guests that want much may be kept waiting.
-use Rattle.std.specs.Prelude.{◌⊎◌, ℕ, List, [], ◌∷◌, ◌++◌, take, IsTrue, IsFalse}
+use Rattle.std.specs.Prelude.{◌≢◌, ◌⊎◌, ℕ, List, [], ◌∷◌, ◌++◌, take, IsTrue, IsFalse}
 use Rattle.mc_protocol.specs.declared.step.Steps.{Ghosts as Relations}
 use Rattle.mc_guests.specs.Asks.{AsksAndVisits, IsKeptWaiting}
 use Rattle.mc_guests.specs.Books.{BooksState, KeepsBooks}
 use Rattle.mc_guests.specs.Retries.{LetsOn, IsWhole}
-use Rattle.mc_guests.specs.Budgets.{uncounted, IsHeldBack, Recounts, CountsAll}
+use Rattle.mc_guests.specs.Budgets.{uncounted, IsHeldBack, IsCounted, Recounts, CountsAll}
 use Rattle.mc_guests.specs.Guests.{RowGuest}
 use Rattle.mc_guests.specs.declared.budget.Budget.{Budget}
 use Rattle.mc_guests.specs.declared.guest.Visit.{Visit}
+use Rattle.mc_guests.specs.declared.guest.Visit.TheVariants.{Wrote}
 
 module _ {S : Type 0} (relations : Relations S) (now : ℕ) where
-  -- a guest was visited, and waits for no room
-  pub record IsVisited (old new : RowGuest) (before after : S) : Type 0 where
+  -- a guest was visited, and waits for no room; unless its link took output, it is counted for what it holds then
+  pub record IsVisited (old new : RowGuest) (before after : S) (later : Budget) : Type 0 where
     pub answer : Visit
     pub visits : AsksAndVisits relations now answer old.guest new.guest before after
     pub goes_on : IsFalse new.waits
+    pub counted : answer ≢ Wrote → IsCounted new later
 
   -- a guest is kept waiting, and waits for room: it has ended, or lacks room beside what the budget counts of the others
   pub record WaitsForRoom (old new : RowGuest) (before after : S) (budget : Budget) : Type 0 where
@@ -24,7 +26,7 @@ module _ {S : Type 0} (relations : Relations S) (now : ℕ) where
 
   -- a guest was visited, or is kept waiting, and the budget counts it anew
   pub record HasTurn (old new : RowGuest) (before after : S) (budget later : Budget) : Type 0 where
-    pub turn : IsVisited old new before after ⊎ WaitsForRoom old new before after budget
+    pub turn : IsVisited old new before after later ⊎ WaitsForRoom old new before after budget
     pub counts : Recounts old new budget later
 
   -- the guests have their turns in order, once each; the store and the budget go from each to the next

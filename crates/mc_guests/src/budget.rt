@@ -1,6 +1,6 @@
 //! How much memory the guests of one worker may hold together.
 
-ghost use Rattle.std.specs.Prelude.{◌≡◌, ◌-◌, min, IsTrue, IsFalse};
+ghost use Rattle.std.specs.Prelude.{◌≡◌, ◌<◌, ◌-◌, min, IsTrue, IsFalse};
 ghost use Rattle.mc_guests.specs.Asks.{most};
 ghost use Rattle.mc_guests.specs.Budgets.{unused, fits, has_left, promised_more, is_tight};
 ghost use Rattle.mc_guests.specs.Budgets.{is_kept_for_one};
@@ -165,6 +165,7 @@ impl Budget {
     pub(crate) fn put_in(&mut self, bytes: usize, waits: bool) -> usize
         ensures all { result ≡ min bytes (most - self.old.held) }
         ensures counts { self.new ≡ counted_too result waits self.old }
+        ensures whole { self.new.held < most → result ≡ bytes }
     {
         let counted = bytes.min(usize::MAX - self.held);
         self.held += counted;

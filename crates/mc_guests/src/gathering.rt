@@ -4,8 +4,8 @@
 //! one send. A piece of 32 KiB or more, and the last answer of a batch, are sent from where they lie,
 //! in one call with what was gathered. A connection with unsent output isn't read.
 ghost use Rattle.mc_bytes.specs.Queues.{first_piece};
-ghost use Rattle.std.specs.Prelude.{◌≡◌, ◌≤◌, ◌↔◌, ◌-◌, ◌^◌, ◌++◌, [], length, Ok, IsTrue, IsFalse, true, false};
-ghost use Rattle.mc_guests.specs.Links.{Gives, IsWrite};
+ghost use Rattle.std.specs.Prelude.{◌≡◌, ◌≤◌, ◌↔◌, ◌-◌, ◌^◌, ◌++◌, [], length, Ok, OnOk, IsTrue, IsFalse, true, false};
+ghost use Rattle.mc_guests.specs.Links.{Gives, IsWrite, Pauses};
 ghost use Rattle.mc_guests.specs.Gathered.{over, whole, turned, IsFront, Flushes, Gathers, AfterAll};
 ghost use Rattle.mc_guests.specs.Gathered.{WaitsBelow};
 
@@ -237,7 +237,14 @@ impl<L: Link + Drop> Link for Gathering<L> {
         }
     }
 
-    fn pause(&mut self) -> Result<(), LinkFault> {
+    /// Writes the gathered bytes, as far as the link below takes them, and pauses that link.
+    fn pause(&mut self) -> Result<(), LinkFault>
+        ensures pauses { Pauses (whole self.old) result (whole self.new) }
+        ensures asks { (self.old.link.faults ≡ 2 ^ 64 - 1 → ⊥) → OnOk result
+            ((self.new.gathered ≡ [] → ⊥) → self.new.link.was_read ≡ false) }
+        ensures offers { (self.old.link.faults ≡ 2 ^ 64 - 1 → ⊥) → OnOk result
+            (length self.new.gathered ≤ self.new.link.requested) }
+    {
         if self.link.faults() == u64::MAX {
             return Ok(());
         }

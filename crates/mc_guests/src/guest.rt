@@ -132,6 +132,8 @@ impl<L: Link + Drop> Guest<L> {
     #[inline(never)]
     pub fn rest(&mut self) -> usize
         ensures same { self.new ≡ self.old }
+        ensures unread { length self.new.session.unread.bytes ≤ result }
+        ensures out { length self.new.session.out ≤ result }
         ensures empty { self.new.session.unread.bytes ≡ [] → self.new.session.out ≡ [] →
             result ≤ resting }
     {
@@ -207,7 +209,11 @@ impl<L: Link + Drop> Guest<L> {
     }
 
     /// Drops the unread bytes and the output, and frees their memory.
-    pub(crate) fn give_up(&mut self) {
+    pub(crate) fn give_up(&mut self)
+        ensures same { self.new ≡ record self.old { session = self.new.session } }
+        ensures closed { IsFalse self.new.session.is_open }
+        ensures written { self.new.session.out ≡ [] }
+    {
         self.session.close();
         let waiting = self.session.out_len();
         self.session.sent(waiting);

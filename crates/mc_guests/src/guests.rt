@@ -429,7 +429,9 @@ impl<L: Link + Drop> Guests<L> {
     }
 
     /// Returns the number of waiting guests.
-    pub fn waiting_guests(&self) -> usize {
+    pub fn waiting_guests(&self) -> usize
+        ensures { result ≡ self.now.budget.waiting }
+    {
         self.budget.waiting
     }
 

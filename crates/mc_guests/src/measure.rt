@@ -1,7 +1,8 @@
 //! The length of a block before it is delivered.
-ghost use Rattle.std.specs.Prelude.{◌≡◌, ◌≤◌, length, min, IfOk, OnErr};
+ghost use Rattle.std.specs.Prelude.{◌≡◌, ◌≤◌, length, min, Err, IfOk, OnErr};
 ghost use Rattle.mc_protocol.specs.Commands.{longest_key};
 ghost use Rattle.mc_guests.specs.Asks.{block_length, most, MayRead, ReadsLength, MeasuresNext, MayAsk};
+ghost use Rattle.mc_guests.specs.Asks.{SpendsRead, WasRead};
 
 use crate::reports::Reports;
 use mc_protocol::{Answer, Bytes, KeyStep, Reply, Steps, Unanswered};
@@ -92,7 +93,8 @@ pub fn next_length<N: Naming, S: Reports>(
 /// Returns the length of the block that a get of this key finds at this moment, or 0 if it finds
 /// none.
 ///
-/// It is a read of the key. After an error the key was read at most.
+/// It is a read of the key. After an error the key was read at most; it is `NumbersSpent` only if
+/// the read is refused so.
 pub fn length_at<S: Steps>(
     alloc: Global,
     store: &mut S,
@@ -103,6 +105,10 @@ pub fn length_at<S: Steps>(
     ensures ok { IfOk result (λ bytes.
         ReadsLength S.took now key.now bytes store.old store.new) }
     ensures err { OnErr result (MayRead S.took S.same now key.now store.old store.new) }
+    ensures spent { result ≡ Err Unanswered.NumbersSpent →
+        SpendsRead S.spent now key.now store.old }
+    ensures untold { result ≡ Err Unanswered.Untold →
+        WasRead S.took now key.now store.old store.new }
 {
     let step = KeyStep::Read {
         key: Bytes::of(key),

@@ -1,7 +1,7 @@
 //! How fast a guest's link moves bytes.
 ghost use Rattle.std.specs.Prelude.{◌≡◌};
 ghost use Rattle.mc_guests.specs.Paces.{begun, moves, asked_again, age, rate, is_slow, is_silent};
-ghost use Rattle.mc_guests.specs.Paces.{lags, is_recent, was_asked};
+ghost use Rattle.mc_guests.specs.Paces.{lags, is_recent, was_asked, was_quiet};
 
 /// Ticks for which a link may move nothing, and after which its rate is judged. A tick is 0.25 s.
 const PATIENCE: u64 = 20;
@@ -71,7 +71,9 @@ impl Pace {
     }
 
     /// Returns whether the link moved nothing for this many ticks.
-    pub fn was_quiet(&self, ticks: u64, least: u64) -> bool {
+    pub fn was_quiet(&self, ticks: u64, least: u64) -> bool
+        ensures { result ≡ was_quiet least ticks self.now }
+    {
         ticks.saturating_sub(self.heard) >= least
     }
 
@@ -79,7 +81,7 @@ impl Pace {
     fn is_silent(&self, ticks: u64) -> bool
         ensures { result ≡ is_silent ticks self.now }
     {
-        ticks.saturating_sub(self.heard) >= PATIENCE
+        self.was_quiet(ticks, PATIENCE)
     }
 
     /// Returns whether the link moved less than 64 KiB/s for at least 5 s.

@@ -5,11 +5,12 @@
 //! whole when it is admitted, so an admitted guest never stops half way. Waiting guests are retried
 //! after memory came back, the oldest and the newest in turn: with the oldest only, a thousand
 //! half-sent blocks delayed everyone else for minutes.
-ghost use Rattle.std.specs.Prelude.{◌≡◌, ◌<◌, not, true, false, is_none, IfSome, None};
+ghost use Rattle.std.specs.Prelude.{◌≡◌, ◌≢◌, ◌<◌, not, true, false, is_none, IfSome, None};
 ghost use Rattle.std.specs.Prelude.{IsTrue, IsFalse};
 ghost use Rattle.mc_guests.specs.Asks.{AsksAndVisits, IsKeptWaiting, StaysOrLosesLink};
-ghost use Rattle.mc_guests.specs.Asks.{little, MayAsk, NamesKey};
+ghost use Rattle.mc_guests.specs.Asks.{little, most, MayAsk, NamesKey};
 ghost use Rattle.mc_guests.specs.Budgets.{uncounted, counted_too, IsHeldBack, Recounts};
+ghost use Rattle.mc_guests.specs.Budgets.{Covers, IsCounted};
 ghost use Rattle.mc_guests.specs.Guests.{newcomer, has_ended, is_in_queue, is_left_out};
 ghost use Rattle.mc_guests.specs.Guests.{is_queued, is_stray, missing, in_line};
 ghost use Rattle.mc_guests.specs.Judging.{is_held_up, is_hoarding, slowness, verdict, judged};
@@ -79,6 +80,17 @@ pub enum Line {
     Queued,
     /// It is tried again.
     Next,
+}
+
+/// The bytes for which a guest is counted after a visit.
+#[derive(Clone, Copy)]
+enum Weight {
+    /// As many as before.
+    Same,
+    /// None: it keeps at most `KEPT` for its next request.
+    Kept,
+    /// What it reserves, or the block for which it was admitted if that is longer.
+    Reserved,
 }
 
 /// What to do with a guest that holds much and is slow, by the number of its link.
@@ -258,6 +270,8 @@ impl<L: Link + Drop> Weighed<L> {
             IsHeldBack self.new.guest (uncounted self.old.counted self.old.waits budget.old) }
         ensures waits { self.new.waits ≡ is_none result }
         ensures counts { Recounts self.old self.new budget.old budget.new }
+        ensures covers { IfSome result (λ answer. answer ≢ Visit.Wrote →
+            IsCounted self.new budget.new) }
     {
         let asked = self.asked_bytes(alloc, store, now, budget);
         if !self.may_go_on(asked, budget) {
@@ -278,6 +292,7 @@ impl<L: Link + Drop> Weighed<L> {
             store.new }
         ensures waits { self.new.waits ≡ self.old.waits }
         ensures counts { Recounts self.old self.new budget.old budget.new }
+        ensures covers { result ≢ Visit.Wrote → IsCounted self.new budget.new }
     {
         let answer = self.guest.visit(alloc, store, now);
         self.report(answer, store);
@@ -448,6 +463,7 @@ impl<L: Link + Drop> Weighed<L> {
         ensures same { self.new.guest ≡ self.old.guest }
         ensures waits { self.new.waits ≡ self.old.waits }
         ensures counts { Recounts self.old self.new budget.old budget.new }
+        ensures covers { answer ≢ Visit.Wrote → IsCounted self.new budget.new }
     {
         let bytes = self.bytes_after(answer, budget);
         self.recount(bytes, budget);
@@ -456,14 +472,22 @@ impl<L: Link + Drop> Weighed<L> {
     /// Returns the bytes that it is to be counted for after a visit with this answer, and notes
     /// what the visit moved.
     fn bytes_after(&mut self, answer: Visit, budget: &Budget) -> usize
-        ensures { self.new ≡ record self.old { pace = self.new.pace } }
+        ensures same { self.new ≡ record self.old { pace = self.new.pace } }
+        ensures covers { answer ≢ Visit.Wrote → Covers result self.old.guest.session }
     {
-        if !self.notes(answer, budget) {
-            return self.counted;
+        match self.notes(answer, budget) {
+            Weight::Same => self.counted,
+            Weight::Kept => 0,
+            Weight::Reserved => self.reserved_bytes(),
         }
-        if self.keeps {
-            return 0;
-        }
+    }
+
+    /// Returns the bytes that it reserves beyond an idle guest's, and at least the length of a block
+    /// that it was admitted for.
+    #[inline]
+    fn reserved_bytes(&self) -> usize
+        ensures { Covers result self.now.guest.session }
+    {
         let reserved = self.guest.capacity().saturating_sub(IDLE);
         if self.has_leave {
             reserved.max(self.unit)
@@ -472,9 +496,11 @@ impl<L: Link + Drop> Weighed<L> {
         }
     }
 
-    /// Notes what a visit with this answer moved, and returns whether it is to be counted anew.
-    fn notes(&mut self, answer: Visit, budget: &Budget) -> bool
-        ensures { self.new ≡ record self.old { pace = self.new.pace } }
+    /// Notes what a visit with this answer moved, and returns for how many bytes it is counted then.
+    fn notes(&mut self, answer: Visit, budget: &Budget) -> Weight
+        ensures same { self.new ≡ record self.old { pace = self.new.pace } }
+        ensures wrote { result ≡ Weight.Same → answer ≡ Visit.Wrote }
+        ensures kept { result ≡ Weight.Kept → Covers 0 self.old.guest.session }
     {
         let ticks = budget.ticks;
         self.keeps = false;
@@ -482,23 +508,24 @@ impl<L: Link + Drop> Weighed<L> {
             Visit::Wrote => {
                 self.pace.moves(self.guest.moved_bytes(), ticks);
                 // a guest that holds little is counted for less only after a later visit
-                self.counted > LITTLE
+                if self.counted > LITTLE {
+                    Weight::Reserved
+                } else {
+                    Weight::Same
+                }
             }
             Visit::Read => {
                 self.pace.moves(self.guest.moved_bytes(), ticks);
                 self.unit = self.guest.unit();
-                true
+                Weight::Reserved
             }
             Visit::Turned => {
                 self.has_leave = false;
                 self.unit = self.guest.unit();
-                true
+                Weight::Reserved
             }
-            Visit::Later => {
-                self.keep_or_rest(budget);
-                true
-            }
-            Visit::Served | Visit::Broken | Visit::Refused => true,
+            Visit::Later => self.keep_or_rest(budget),
+            Visit::Served | Visit::Broken | Visit::Refused => Weight::Reserved,
         }
     }
 
@@ -506,17 +533,21 @@ impl<L: Link + Drop> Weighed<L> {
     /// `KEPT`, and memory isn't tight. Otherwise it frees what it doesn't use.
     ///
     /// It does nothing if it holds no more than an idle guest may.
-    fn keep_or_rest(&mut self, budget: &Budget)
-        ensures { self.new ≡ self.old }
+    fn keep_or_rest(&mut self, budget: &Budget) -> Weight
+        ensures same { self.new ≡ self.old }
+        ensures anew { result ≢ Weight.Same }
+        ensures kept { result ≡ Weight.Kept → Covers 0 self.old.guest.session }
     {
         let reserved = self.guest.capacity();
         if reserved <= IDLE {
-            return;
+            return Weight::Reserved;
         }
-        self.keeps = reserved <= KEPT && !budget.is_tight() && self.guest.is_between_requests();
-        if !self.keeps {
-            let _ = self.guest.rest();
+        if reserved <= KEPT && !budget.is_tight() && self.guest.is_between_requests() {
+            self.keeps = true;
+            return Weight::Kept;
         }
+        let _ = self.guest.rest();
+        Weight::Reserved
     }
 
     /// Frees the memory that it keeps, if it moved nothing for 1 s or memory is tight.
@@ -534,6 +565,7 @@ impl<L: Link + Drop> Weighed<L> {
         ensures same { self.new.guest ≡ self.old.guest }
         ensures waits { self.new.waits ≡ self.old.waits }
         ensures counts { Recounts self.old self.new budget.old budget.new }
+        ensures whole { budget.new.held < most → self.new.counted ≡ bytes }
     {
         let was = self.counted;
         if bytes == was {

@@ -18,7 +18,8 @@ loop-guest-preserved g c =
     let same = ◌∙◌ {b = c.guest.inside.inner.value} c.deref_mut.ensures.value (c.guest.view_is ∙ sym c.guest-item.is) in
     let turn = subst (λ (x : RowGuest). HasTurn g.S.Steps c.args.now x c.visit.new.self loop.store c.visit.new.store loop.budget c.visit.new.budget) same
     (has_turn g.S.Steps c.args.now c.visit.result _ c.visit.new.self loop.store c.visit.new.store loop.budget c.visit.new.budget
-    c.visit.ensures.some c.visit.ensures.none c.visit.ensures.held_back c.visit.ensures.waits c.visit.ensures.counts) in
+    c.visit.ensures.some c.visit.ensures.none c.visit.ensures.held_back c.visit.ensures.waits c.visit.ensures.counts
+    c.visit.ensures.covers) in
     let counts = subst (λ (x : RowGuest). Recounts x c.visit.new.self loop.budget c.visit.new.budget) same c.visit.ensures.counts in
     let turns = turns_more g.S.Steps c.args.now c.args.guests.now loop.guests loop.guest-index c.guest-item.result
     c.visit.new.self c.args.store.now loop.store c.visit.new.store c.args.budget.now loop.budget c.visit.new.budget loop.auto.guests inside c.guest-item.is
