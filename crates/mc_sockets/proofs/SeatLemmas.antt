@@ -1,17 +1,24 @@
 -- What is done at a place.
-use Rattle.std.proofs.Common.{◌≡◌, ◌∙◌, ℕ, ◌+◌, ◌<◌, ◌-◌, List, [], ◌∷◌, length, Option, MatchOption, slice_get, slice_set, slice_index_or}
-use Rattle.std.proofs.Common.{refl, subst, sym, ap, inl, inr, Bool, true, false, MatchBool, arith}
+use Rattle.std.proofs.Common.{◌≡◌, ◌∙◌, ℕ, ◌+◌, ◌<◌, ◌≤◌, ◌-◌, List, [], ◌∷◌, length, Option, MatchOption, slice_get, slice_set, slice_index_or}
+use Rattle.std.proofs.Common.{if◌then◌else◌, Some, refl, subst, sym, ap, inl, inr, Bool, true, false, MatchBool, arith}
 use Rattle.std.proofs.lemmas.Option.{slice_get_read, slice_get_cases}
+use Rattle.std.specs.declared.time.Duration.{Duration}
+use Rattle.std.specs.declared.time.Instant.{Instant}
 use Rattle.mio.specs.declared.event.event.Event.{Event}
 use Rattle.mio.specs.declared.token.Token.{Token}
 use Rattle.mio.specs.Event.{event_token}
+use Rattle.mc_guests.specs.Repeats.{Repeats}
+use Rattle.mc_guests.specs.Repeats as repeats
 use Rattle.mc_sockets.specs.declared.place.LinkRecord.{LinkRecord}
 use Rattle.mc_sockets.specs.declared.readiness.Readiness.{Readiness}
 use Rattle.mc_sockets.specs.declared.readiness.Report.{Report}
+use Rattle.mc_sockets.specs.declared.seats.Patrol.{Patrol}
 use Rattle.mc_sockets.specs.declared.seats.Seats.{Seats}
 use Rattle.mc_sockets.specs.Places.{Notes}
 use Rattle.mc_sockets.specs.Readiness.{report_of}
-use Rattle.mc_sockets.specs.Seats.{Acts, AreHeard, AtEach, Hears, IsFull, SendsAt, no_event, none_yet, one_first, one_more}
+use Rattle.mc_sockets.specs.Seats.{Acts, AnswersAt, AreHeard, AtEach, Hears, IsFull, LooksAtNext, LooksInTurn, Patrols, SendsAt, sweep, no_event, none_yet, one_first, one_more}
+use Rattle.mc_sockets.specs.Watches.{due, is_too_soon, turn}
+use Rattle.mc_sockets.specs.declared.idle.Watch.{Watch}
 
 -- a record stands at this place, and that holds of it
 pub some_at : {P : Type 0} (places : List P) (n at : ℕ) (place : P) (N : Type 0) (Q : P → Type 0) → n ≡ length places → at < n
@@ -94,3 +101,61 @@ module _ {F R : Type 0} (hears : Event → Seats F → Seats F → R → R → T
   heard_nothing all old new old_rests new_rests is same same_rests =
       subst (λ events. AreHeard hears events old new old_rests new_rests) (sym is)
       (subst (λ end. AreHeard hears [] old end old_rests new_rests) (sym same) (subst (λ end. AreHeard hears [] old old old_rests end) (sym same_rests) (no_event old old_rests)))
+
+-- the watch, where the moment of a look is noted
+abbrev pub noted : Instant → Watch → Watch
+noted now watch = record watch { looked = if is_too_soon watch.looked now then watch.looked else Some now }
+
+module _ {F R : Type 0} (known : F → Option Readiness) (sends : R → ℕ → R → Type 0) (patrol : Patrol) (before now : Instant) (first : Watch) (old : Seats F) (old_rests : R) where
+  -- what a look by this limit does
+  abbrev act : Duration → Seats F → Bool → LinkRecord F → LinkRecord F → List ℕ → List ℕ → Type 0
+  act limit = Patrols known patrol (record { limit = limit; before = before; now = now })
+
+  -- this many places were looked at, from where the watch began
+  pub record Looked (count : ℕ) (watch : Watch) (new : Seats F) (new_rests : R) : Type 0 where
+    pub looks : (n : ℕ) → n ≡ count → Repeats (LooksAtNext sends (act first.limit)) n (sweep first.at old old_rests) (sweep watch.at new new_rests)
+    pub same : watch ≡ record (noted now first) { at = watch.at }
+
+  pub looked_none : (watch : Watch) → watch ≡ noted now first → Looked 0 watch old old_rests
+  looked_none watch is = record {
+    looks = λ n none. subst (λ (k : ℕ). Repeats (LooksAtNext sends (act first.limit)) k (sweep first.at old old_rests) (sweep watch.at old old_rests)) (sym none)
+        (subst (λ (at : ℕ). Repeats (LooksAtNext sends (act first.limit)) 0 (sweep first.at old old_rests) (sweep at old old_rests)) (sym (ap (λ (w : Watch). w.at) is)) repeats.none_yet);
+    same = is ∙ ap (λ (at : ℕ). record (noted now first) { at = at }) (sym (ap (λ (w : Watch). w.at) is));
+  }
+
+  pub looked_more : (count : ℕ) (mid later : Watch) (between new : Seats F) (mid_rests new_rests : R) → Looked count mid between mid_rests
+      → LooksAtNext sends (act mid.limit) (sweep mid.at between mid_rests) (sweep later.at new new_rests) → later ≡ record mid { at = later.at }
+      → Looked (count + 1) later new new_rests
+  looked_more count mid later between new mid_rests new_rests looked next is =
+      let limit : mid.limit ≡ first.limit = ap (λ (w : Watch). w.limit) looked.same in
+      let one = subst (λ (d : Duration). LooksAtNext sends (act d) (sweep mid.at between mid_rests) (sweep later.at new new_rests)) limit next in
+      record {
+        looks = λ n more. subst (λ (k : ℕ). Repeats (LooksAtNext sends (act first.limit)) k (sweep first.at old old_rests) (sweep later.at new new_rests)) (sym more)
+            (repeats.one_more (looked.looks count refl) one);
+        same = is ∙ ap (λ (w : Watch). record w { at = later.at }) looked.same;
+      }
+
+  pub looked_all : (count : ℕ) (watch : Watch) (new : Seats F) (new_rests : R) → Looked count watch new new_rests → count ≡ due first.looked now (length old.places.items)
+      → LooksInTurn known sends patrol before now first watch old new old_rests new_rests
+  looked_all count watch new new_rests looked all = record {
+    looks = looked.looks (due first.looked now (length old.places.items)) (sym all);
+    looked = ap (λ (w : Watch). w.looked) looked.same;
+    limit = ap (λ (w : Watch). w.limit) looked.same;
+  }
+
+-- as many as are due
+pub count_of : (count all places len : ℕ) (looked : Option Instant) (now : Instant) → all ≤ count → count ≤ all → all ≡ due looked now len → len ≡ places → count ≡ due looked now places
+count_of count all places len looked now least most is long =
+    let same : count ≡ all = omega (arith, least, most) in
+    same ∙ is ∙ ap (λ (n : ℕ). due looked now n) long
+
+-- the place in turn was looked at, and what a dropped link left there was sent
+pub looked_at : {F R : Type 0} (sends : R → ℕ → R → Type 0) (act : Seats F → Bool → LinkRecord F → LinkRecord F → List ℕ → List ℕ → Type 0) (at place later len : ℕ) (old new : Seats F)
+    (old_rests new_rests : R) (answer : Bool) → place ≡ turn at len → len ≡ length old.places.items → later ≡ place + 1 → AnswersAt (act old) place answer old new
+    → MatchBool answer (sends old_rests place new_rests) (new_rests ≡ old_rests) → LooksAtNext sends act (sweep at old old_rests) (sweep later new new_rests)
+looked_at sends act at place later len old new old_rests new_rests answer is long next answers rest =
+    let there : place ≡ turn at (length old.places.items) = is ∙ ap (λ (n : ℕ). turn at n) long in
+    record {
+      looks = subst (λ (n : ℕ). SendsAt sends (act old) n old new old_rests new_rests) there (record { answer = answer; answers = answers; rest = rest });
+      next = next ∙ ap (λ (n : ℕ). n + 1) there;
+    }

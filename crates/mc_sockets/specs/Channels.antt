@@ -6,6 +6,8 @@ use Rattle.mc_guests.specs.declared.link.Took.{Took}
 use Rattle.mc_guests.specs.declared.link.Took.TheVariants.{Bytes as TookBytes, Later as TookNone}
 use Rattle.mc_guests.specs.declared.link.LinkFault.{LinkFault}
 use Rattle.mc_guests.specs.Links.{LinkState}
+use Rattle.mc_metrics.specs.declared.counts.Counted.{Counted}
+use Rattle.mc_metrics.specs.declared.counts.Counted.TheVariants as counted
 use Rattle.mc_sockets.specs.declared.channel.Calls.{Calls}
 use Rattle.mc_sockets.specs.declared.connection.Parting.{Parting}
 use Rattle.mc_sockets.specs.declared.connection.Parting.TheVariants as parting
@@ -59,6 +61,19 @@ GivesLeft old piece (Ok (GaveBytes n)) new = GivesFront (take n piece) old new
 GivesLeft old piece (Ok GaveNone) new = new ≡ old
 GivesLeft old piece (Ok GaveEnd) new = new ≡ old
 GivesLeft old piece (Err fault) new = new ≡ old
+
+-- a read counts the bytes that it brought as received, once; any other answer counts nothing
+abbrev pub CountsRead : {M : Type 0} → (M → Counted → ℕ → M → Type 0) → Result Got LinkFault → M → M → Type 0
+CountsRead counts (Ok (GaveBytes n)) old new = counts old counted.Received n new
+CountsRead counts (Ok GaveNone) old new = new ≡ old
+CountsRead counts (Ok GaveEnd) old new = new ≡ old
+CountsRead counts (Err fault) old new = new ≡ old
+
+-- a write counts the bytes that were taken as sent, once; any other answer counts nothing
+abbrev pub CountsWrite : {M : Type 0} → (M → Counted → ℕ → M → Type 0) → Result Took LinkFault → M → M → Type 0
+CountsWrite counts (Ok (TookBytes n)) old new = counts old counted.Sent n new
+CountsWrite counts (Ok TookNone) old new = new ≡ old
+CountsWrite counts (Err fault) old new = new ≡ old
 
 -- what a link answers to a write that was answered so: one that would block fails if the connection
 -- is to be closed

@@ -1,11 +1,12 @@
 -- What happens at the place of a link.
-use Rattle.std.specs.Prelude.{◌≡◌, ◌≤◌, ◌-◌, ◌↔◌, ◌&&◌, ◌||◌, ℕ, List, [], ◌∷◌, ◌++◌, Bool, false, not, if◌then◌else◌, is_some, MatchBool, MatchOption, Option, Some, None, IfSome, IsTrue}
+use Rattle.std.specs.Prelude.{◌≡◌, ◌≤◌, ◌-◌, ◌↔◌, ◌&&◌, ◌||◌, ℕ, List, [], ◌∷◌, ◌++◌, Bool, true, false, not, if◌then◌else◌, is_some, MatchBool, MatchOption, Option, Some, None, IfSome, IsTrue}
 use Rattle.std.specs.Duration.{as_nanos}
 use Rattle.std.specs.Time.{instant_nanos}
 use Rattle.std.specs.declared.time.Duration.{Duration}
 use Rattle.std.specs.declared.time.Instant.{Instant}
 use Rattle.mc_sockets.specs.declared.connection.Parting.{Parting}
 use Rattle.mc_sockets.specs.declared.place.LinkRecord.{LinkRecord}
+use Rattle.mc_sockets.specs.declared.place.Look.{Look}
 use Rattle.mc_sockets.specs.declared.readiness.Readiness.{Readiness}
 use Rattle.mc_sockets.specs.declared.readiness.Report.{Report}
 use Rattle.mc_sockets.specs.Readiness.{Happening, AskedAgain, Ended, Reported, after, names}
@@ -23,13 +24,6 @@ pub record Happens (happening : Happening) (number : ℕ) (IsFull : Type 0) (old
   pub known : Readiness
   pub is_known : IfSome old (λ stood. known ≡ stood)
   pub named : NamesIf (names known happening) number IsFull (after known happening) new old_names new_names
-
--- A look at a connection: what is asked of it is to have lasted for a limit before one moment, and the
--- look itself is at another.
-pub record Look : Type 0 where
-  pub limit : Duration
-  pub before : Instant
-  pub now : Instant
 
 -- Whether something has lasted for the limit. It is so or isn't; if it is, it was first seen at a moment,
 -- or it wasn't seen before, and then it is seen now.
@@ -73,27 +67,34 @@ pub record HappensIf {F : Type 0} (known : F → Option Readiness) (happening : 
   pub own : old.number ≡ number → Happens happening number IsFull (known old.readiness) (known new.readiness) old_names new_names
   pub others : (old.number ≡ number → ⊥) → (new ≡ old) × (new_names ≡ old_names)
 
--- a connection ends if its link has waited for the limit, and else only the look is noted
-pub record EndsIfIdle {F : Type 0} (known : F → Option Readiness) (look : Look) (parting : Parting) (IsFull : Type 0) (old new : LinkRecord F) (old_names new_names : List ℕ) : Type 0 where
+-- A connection ends if its link has waited for the limit, and else only the look is noted. The answer is whether it ended
+-- and its link was dropped.
+pub record EndsIfIdle {F : Type 0} (known : F → Option Readiness) (look : Look) (parting : Parting) (IsFull : Type 0)
+    (answer : Bool) (old new : LinkRecord F) (old_names new_names : List ℕ) : Type 0 where
   pub has_waited : Bool
   pub seen : LinkRecord F
   pub number : new.number ≡ old.number
   pub finds : Finds (known old.readiness) look (λ stood. stood.waits) (λ stood. seen_waiting stood old.waits_since) has_waited seen.waits_since
   pub ends : MatchBool has_waited (HappensTo known (Ended parting) IsFull seen new old_names new_names) ((new ≡ seen) × (new_names ≡ old_names))
+  pub left : MatchBool has_waited (WasDropped (known seen.readiness) answer) (answer ≡ false)
 
 -- A link is asked again if it waits or was dropped, and had no event for the limit. Else only the
--- look is noted.
-pub record AsksIfUnheard {F : Type 0} (known : F → Option Readiness) (look : Look) (IsFull : Type 0) (old new : LinkRecord F) (old_names new_names : List ℕ) : Type 0 where
+-- look is noted. The answer is whether it was asked and is dropped.
+pub record AsksIfUnheard {F : Type 0} (known : F → Option Readiness) (look : Look) (IsFull : Type 0) (answer : Bool)
+    (old new : LinkRecord F) (old_names new_names : List ℕ) : Type 0 where
   pub is_unheard : Bool
   pub seen : LinkRecord F
   pub number : new.number ≡ old.number
   pub finds : Finds (known old.readiness) look (λ stood. stood.waits || stood.leaves) (λ _. old.asked_since) is_unheard seen.asked_since
   pub asks : MatchBool is_unheard (HappensTo known AskedAgain IsFull seen new old_names new_names) ((new ≡ seen) × (new_names ≡ old_names))
+  pub left : MatchBool is_unheard (WasDropped (known new.readiness) answer) (answer ≡ false)
 
--- one that has lingered for its limit is to be closed, and any other is asked again if it had no event
-pub record AsksOrCloses {F : Type 0} (known : F → Option Readiness) (linger look : Look) (IsFull : Type 0) (old new : LinkRecord F) (old_names new_names : List ℕ) : Type 0 where
+-- One that has lingered for its limit is to be closed, and the answer is yes. Any other is asked again if it had no event.
+pub record AsksOrCloses {F : Type 0} (known : F → Option Readiness) (linger look : Look) (IsFull : Type 0) (answer : Bool)
+    (old new : LinkRecord F) (old_names new_names : List ℕ) : Type 0 where
   pub has_lingered : Bool
   pub seen : LinkRecord F
   pub number : new.number ≡ old.number
   pub finds : Finds (known old.readiness) linger (λ stood. lingers stood) (λ _. old.lingers_since) has_lingered seen.lingers_since
-  pub asks : MatchBool has_lingered ((new ≡ seen) × (new_names ≡ old_names)) (AsksIfUnheard known look IsFull seen new old_names new_names)
+  pub asks : MatchBool has_lingered ((new ≡ seen) × ((new_names ≡ old_names) × (answer ≡ true)))
+      (AsksIfUnheard known look IsFull answer seen new old_names new_names)

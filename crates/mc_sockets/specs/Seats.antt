@@ -1,13 +1,32 @@
 -- The books of a worker's links.
-use Rattle.std.specs.Prelude.{◌≡◌, ◌≤◌, ◌<◌, ◌+◌, ◌-◌, ℕ, Bool, false, List, [], ◌∷◌, ◌++◌, length, slice_get, slice_set, Option, MatchBool, MatchOption, vec_len, vec_capacity}
+use Rattle.std.specs.Prelude.{◌≡◌, ◌≤◌, ◌<◌, ◌+◌, ◌-◌, ℕ, Bool, false, List, [], ◌∷◌, ◌++◌, length, slice_get, slice_set, Option, Some, if◌then◌else◌, MatchBool, MatchOption, vec_len, vec_capacity}
 use Rattle.std.specs.VecDeque.{deque_len, deque_capacity}
 use Rattle.mio.specs.declared.event.event.Event.{Event}
 use Rattle.mio.specs.Event.{event_token}
-use Rattle.mc_sockets.specs.Places.{Notes}
-use Rattle.mc_sockets.specs.Readiness.{report_of}
+use Rattle.std.specs.Duration.{as_nanos}
+use Rattle.std.specs.declared.time.Duration.{Duration}
+use Rattle.std.specs.declared.time.Instant.{Instant}
+use Rattle.mc_guests.specs.Repeats.{Repeats}
+use Rattle.mc_sockets.specs.Places.{AsksOrCloses, EndsIfIdle, HappensTo, Notes}
+use Rattle.mc_sockets.specs.Readiness.{Ended, report_of}
+use Rattle.mc_sockets.specs.Watches.{due, is_too_soon, turn}
+use Rattle.mc_sockets.specs.declared.connection.Parting.{Parting}
+use Rattle.mc_sockets.specs.declared.idle.Watch.{Watch}
 use Rattle.mc_sockets.specs.declared.place.LinkRecord.{LinkRecord}
+use Rattle.mc_sockets.specs.declared.place.Look.{Look}
 use Rattle.mc_sockets.specs.declared.readiness.Readiness.{Readiness}
+use Rattle.mc_sockets.specs.declared.seats.Patrol.{Patrol}
+use Rattle.mc_sockets.specs.declared.seats.Patrol.TheVariants.{AskUnheard, EndIdle}
 use Rattle.mc_sockets.specs.declared.seats.Seats.{Seats}
+
+-- where the next look begins, the books, and what dropped links left
+pub record Sweep (F R : Type 0) : Type 0 where
+  pub at : ℕ
+  pub seats : Seats F
+  pub rests : R
+
+abbrev pub sweep : {F R : Type 0} → (at : ℕ) → Seats F → R → Sweep F R
+sweep at seats rests = record { at = at; seats = seats; rests = rests }
 
 module _ {F : Type 0} where
   -- the queue of names may find no memory for one more
@@ -38,8 +57,15 @@ module _ {F : Type 0} where
   abbrev pub AnswersAt : (act : Bool → LinkRecord F → LinkRecord F → List ℕ → List ℕ → Type 0) → ℕ → (answer : Bool) → Seats F → Seats F → Type 0
   AnswersAt act at answer old new = MatchOption (slice_get old.places.items at) ((answer ≡ false) × (new ≡ old)) (λ place. Acts (act answer) at place old new)
 
+  -- all connections are ended for this reason, one after another
+  abbrev pub EndsAll : (known : F → Option Readiness) → Parting → Seats F → Seats F → Type 0
+  EndsAll known parting old new =
+      AtEach (λ at mid. ActsAt (HappensTo known (Ended parting) (IsFull mid)) at mid) (length old.places.items) old new
+
   -- That is done at a place. What the link there left is sent if the answer is yes, and else nothing is sent.
-  pub record SendsAt {R : Type 0} (sends : R → ℕ → R → Type 0) (act : Bool → LinkRecord F → LinkRecord F → List ℕ → List ℕ → Type 0) (at : ℕ) (old new : Seats F) (old_rests new_rests : R) : Type 0 where
+  pub record SendsAt {R : Type 0} (sends : R → ℕ → R → Type 0)
+      (act : Bool → LinkRecord F → LinkRecord F → List ℕ → List ℕ → Type 0) (at : ℕ) (old new : Seats F)
+      (old_rests new_rests : R) : Type 0 where
     pub answer : Bool
     pub answers : AnswersAt act at answer old new
     pub rest : MatchBool answer (sends old_rests at new_rests) (new_rests ≡ old_rests)
@@ -57,6 +83,41 @@ module _ {F : Type 0} where
     one_first : (event : Event) (others : List Event) (old mid new : Seats F) (old_rests mid_rests new_rests : R)
         → hears event old mid old_rests mid_rests → AreHeard hears others mid new mid_rests new_rests
         → AreHeard hears (event ∷ others) old new old_rests new_rests
+
+  -- The place in turn is looked at: that is done there, and what a dropped link left is sent exactly if the answer is yes.
+  pub record LooksAtNext {R : Type 0} (sends : R → ℕ → R → Type 0)
+      (act : Seats F → Bool → LinkRecord F → LinkRecord F → List ℕ → List ℕ → Type 0) (old new : Sweep F R) : Type 0 where
+    pub looks : SendsAt sends (act old.seats) (turn old.at (length old.seats.places.items)) old.seats new.seats old.rests new.rests
+    pub next : new.at ≡ turn old.at (length old.seats.places.items) + 1
+
+  -- what a look does with the link of a record, by the patrol
+  abbrev pub Patrols : (known : F → Option Readiness) → Patrol → Look → Seats F → (answer : Bool) → (old new : LinkRecord F)
+      → (old_names new_names : List ℕ) → Type 0
+  Patrols known (EndIdle parting) look seats answer old new old_names new_names =
+      EndsIfIdle known look parting (IsFull seats) answer old new old_names new_names
+  Patrols known (AskUnheard linger) look seats answer old new old_names new_names =
+      AsksOrCloses known (record look { limit = linger }) look (IsFull seats) answer old new old_names new_names
+
+  -- The places that are due are looked at one after another, in turn, by the watch's limit. The watch goes on behind the last.
+  pub record LooksInTurn {R : Type 0} (known : F → Option Readiness) (sends : R → ℕ → R → Type 0) (patrol : Patrol)
+      (before now : Instant) (watch later : Watch) (old new : Seats F) (old_rests new_rests : R) : Type 0 where
+    pub looks : Repeats (LooksAtNext sends (Patrols known patrol (record { limit = watch.limit; before = before; now = now })))
+        (due watch.looked now (length old.places.items)) (sweep watch.at old old_rests) (sweep later.at new new_rests)
+    pub looked : later.looked ≡ (if is_too_soon watch.looked now then watch.looked else Some now)
+    pub limit : later.limit ≡ watch.limit
+
+  -- that is done by the watch, if there is one; without one nothing is done
+  abbrev pub ByWatch : {R : Type 0} (act : Watch → Watch → Seats F → Seats F → R → R → Type 0) (watch later : Option Watch)
+      (old new : Seats F) (old_rests new_rests : R) → Type 0
+  ByWatch act watch later old new old_rests new_rests =
+      MatchOption watch ((new ≡ old) × (new_rests ≡ old_rests))
+      (λ stood. MatchOption later ⊥ (λ stands. act stood stands old new old_rests new_rests))
+
+  -- links without an event are asked again, and connections linger for this many nanoseconds at most
+  abbrev pub AsksUnheard : {R : Type 0} (known : F → Option Readiness) (sends : R → ℕ → R → Type 0) (nanos : ℕ)
+      (before now : Instant) (watch later : Watch) (old new : Seats F) (old_rests new_rests : R) → Type 0
+  AsksUnheard known sends nanos before now watch later old new old_rests new_rests =
+      (linger : Duration) × ((as_nanos linger ≡ nanos) × LooksInTurn known sends (AskUnheard linger) before now watch later old new old_rests new_rests)
 
   -- a link gets a place: its record has the next number, and stands there or behind all others
   pub record Settles (at : ℕ) (cell : F) (old new : Seats F) : Type 0 where

@@ -1,5 +1,5 @@
 -- Which places are looked at, and when.
-use Rattle.std.specs.Prelude.{ℕ, Bool, ◌-◌, ◌*◌, ◌/◌, ◌^◌, nat_lt, min, max, if◌then◌else◌, Option, Some, None}
+use Rattle.std.specs.Prelude.{ℕ, Bool, ◌+◌, ◌-◌, ◌*◌, ◌/◌, ◌^◌, nat_lt, min, max, if◌then◌else◌, Option, Some, None}
 use Rattle.std.specs.Time.{instant_nanos}
 use Rattle.std.specs.declared.time.Instant.{Instant}
 
@@ -22,6 +22,20 @@ is_too_soon looked now = nat_lt (since_look looked now) 125_000_000
 abbrev pub due : Option Instant → Instant → (places : ℕ) → ℕ
 due looked now places =
     if is_too_soon looked now then 0 else min (max (worth places (since_look looked now)) 256) places
+
+-- the ticks of 250 ms that a time in nanoseconds is, at most two: a pause of the process counts as no more
+abbrev pub ticks_in : (nanos : ℕ) → ℕ
+ticks_in nanos = if nat_lt nanos 250_000_000 then 0 else if nat_lt nanos 500_000_000 then 1 else 2
+
+-- the ticks of a worker after a look at the clock; before the first look none has passed
+abbrev pub ticks_after : Option Instant → (ticks : ℕ) → Instant → ℕ
+ticks_after None ticks now = ticks
+ticks_after (Some ticked) ticks now = min (ticks + ticks_in (instant_nanos now - instant_nanos ticked)) (2 ^ 64 - 1)
+
+-- when a tick was last counted; the first look begins the first
+abbrev pub ticked_after : Option Instant → Instant → Instant
+ticked_after None now = now
+ticked_after (Some ticked) now = if nat_lt (instant_nanos now - instant_nanos ticked) 250_000_000 then ticked else now
 
 -- the place in turn, behind the last: the first again behind all
 abbrev pub turn : (at places : ℕ) → ℕ

@@ -1,23 +1,22 @@
 //! Channels: the one owner of a connection.
 //!
 //! A channel owns a connection's stream, its entry among the open connections, its readiness and
-//! its counters, and is a link over them. It is proved for any stream: contracts see the bytes that
-//! the stream gave and took, and how each answer comes of the stream's answer and the readiness.
+//! its meter, and is a link over them. It is proved for any stream and meter: contracts see the bytes
+//! that the stream gave and took, how each answer comes of the stream's answer and the readiness,
+//! and what is counted.
 ghost use Rattle.std.specs.Prelude.{◌≡◌, ◌+◌, ◌++◌, length};
 ghost use Rattle.mc_sockets.specs.Channels.{ReadsBy, WritesBy};
 ghost use Rattle.mc_sockets.specs.Streams.{MovesIn, MovesOut};
 
 use crate::connection::{Parting, Registration};
 use crate::dropping::drop_input;
+use crate::meter::{Meter, SharedMeter};
 use crate::readiness::{Readiness, ReadinessCell, SharedReadiness};
 use crate::stream::{Hindrance, Received, Sent, Stream, receive_again, send_again};
 use mc_guests::{Got, Link, LinkFault, Took};
-use mc_metrics::{Counted, Counters};
+use mc_metrics::Counted;
 use mio::net::TcpStream;
-use std::cell::Cell;
 use std::net::Shutdown;
-use std::rc::Rc;
-use std::sync::Arc;
 
 /// A connection as a link.
 ///
@@ -28,14 +27,11 @@ use std::sync::Arc;
 ///
 /// Its fields are dropped in their order: it is counted until the system has closed its stream.
 #[derive(Drop)]
-pub struct Channel<S: Stream + Drop, F: ReadinessCell + Drop> {
+pub struct Channel<S: Stream + Drop, F: ReadinessCell + Drop, M: Meter + Drop> {
     stream: S,
     entry: Registration,
     readiness: F,
-    /// The bytes that all channels of the worker moved.
-    moved: Rc<Cell<usize>>,
-    /// The worker's counters.
-    counts: Arc<Counters>,
+    meter: M,
     calls: Calls,
 }
 
@@ -50,28 +46,21 @@ struct Calls {
     requested: usize,
 }
 
-/// The channel of a socket, whose readiness its worker shares.
-pub type SocketChannel = Channel<TcpStream, SharedReadiness>;
+/// The channel of a socket, whose readiness and meter its worker shares.
+pub type SocketChannel = Channel<TcpStream, SharedReadiness, SharedMeter>;
 
-impl<S: Stream + Drop, F: ReadinessCell + Drop> Channel<S, F> {
+impl<S: Stream + Drop, F: ReadinessCell + Drop, M: Meter + Drop> Channel<S, F, M> {
     ghost use Rattle.std.specs.Prelude.{◌<◌, ◌-◌, ◌^◌, IsErr};
 
-    /// Returns the channel of a stream that never blocks.
+    /// Returns the channel of a stream that never blocks, which counts the bytes that it moves.
     ///
-    /// It adds the bytes that it moves to `moved` and to the counters. It takes no memory.
-    pub fn new(
-        stream: S,
-        entry: Registration,
-        readiness: F,
-        moved: Rc<Cell<usize>>,
-        counts: Arc<Counters>,
-    ) -> Channel<S, F> {
+    /// It takes no memory.
+    pub fn new(stream: S, entry: Registration, readiness: F, meter: M) -> Channel<S, F, M> {
         Channel {
             stream,
             entry,
             readiness,
-            moved,
-            counts,
+            meter,
             calls: Calls {
                 faults: 0,
                 is_ended: false,
@@ -98,12 +87,6 @@ impl<S: Stream + Drop, F: ReadinessCell + Drop> Channel<S, F> {
         self.entry.note(parting);
         self.calls.faults += 1;
         Err(LinkFault)
-    }
-
-    /// Counts bytes that were moved.
-    fn count(&self, counted: Counted, bytes: usize) {
-        self.moved.set(self.moved.get().saturating_add(bytes));
-        self.counts.add(counted, bytes as u64);
     }
 }
 
@@ -135,10 +118,11 @@ fn send_by<S: Stream>(stream: &mut S, known: Readiness, first: &[u8], second: &[
     }
 }
 
-impl<S: Stream + Drop, F: ReadinessCell + Drop> Link for Channel<S, F> {
+impl<S: Stream + Drop, F: ReadinessCell + Drop, M: Meter + Drop> Link for Channel<S, F, M> {
     ghost use Rattle.std.specs.Prelude.{◌<◌, ◌-◌, ◌^◌, [], Ok};
     ghost use Rattle.mc_guests.specs.Links.{Gives, IsWrite, OffersFront};
     ghost use Rattle.mc_sockets.specs.Channels.{link_of, at, AnswersRead, AnswersWrite, GivesLeft};
+    ghost use Rattle.mc_sockets.specs.Channels.{CountsRead, CountsWrite};
 
     ghost shown = { λ c. link_of (S.flow c.stream) c.calls };
 
@@ -153,6 +137,7 @@ impl<S: Stream + Drop, F: ReadinessCell + Drop> Link for Channel<S, F> {
             (at self.new.stream (F.known self.new.readiness) self.new.entry.parting) }
         ensures left { GivesLeft (S.flow self.old.stream) piece.new result
             (S.flow self.new.stream) }
+        ensures counts { CountsRead M.counts result self.old.meter self.new.meter }
     {
         self.calls.was_read = true;
         self.calls.requested = piece.len();
@@ -164,7 +149,7 @@ impl<S: Stream + Drop, F: ReadinessCell + Drop> Link for Channel<S, F> {
         self.readiness.note(known.after_read(answer, piece.len()));
         match answer {
             Received::Bytes(count) => {
-                self.count(Counted::Received, count);
+                self.meter.count(Counted::Received, count);
                 Ok(Got::Bytes(count))
             }
             Received::End => {
@@ -186,6 +171,7 @@ impl<S: Stream + Drop, F: ReadinessCell + Drop> Link for Channel<S, F> {
             AnswersWrite S.sends bytes.now (length bytes.now) result
             (at self.old.stream (F.known self.old.readiness) self.old.entry.parting)
             (at self.new.stream (F.known self.new.readiness) self.new.entry.parting) }
+        ensures counts { CountsWrite M.counts result self.old.meter self.new.meter }
     {
         self.try_write_both(bytes, &[])
     }
@@ -200,6 +186,7 @@ impl<S: Stream + Drop, F: ReadinessCell + Drop> Link for Channel<S, F> {
             AnswersWrite S.sends (first.now ++ second.now) self.new.calls.requested result
             (at self.old.stream (F.known self.old.readiness) self.old.entry.parting)
             (at self.new.stream (F.known self.new.readiness) self.new.entry.parting) }
+        ensures counts { CountsWrite M.counts result self.old.meter self.new.meter }
     {
         self.calls.was_read = false;
         self.calls.requested = first.len().saturating_add(second.len());
@@ -216,7 +203,7 @@ impl<S: Stream + Drop, F: ReadinessCell + Drop> Link for Channel<S, F> {
             .note(known.after_write(answer, self.calls.requested));
         match answer {
             Sent::Bytes(count) => {
-                self.count(Counted::Sent, count);
+                self.meter.count(Counted::Sent, count);
                 Ok(Took::Bytes(count))
             }
             Sent::Hindered(Hindrance::WouldBlock) => match known.ends {
@@ -251,7 +238,7 @@ impl<S: Stream + Drop, F: ReadinessCell + Drop> Link for Channel<S, F> {
     }
 }
 
-impl Channel<TcpStream, SharedReadiness> {
+impl Channel<TcpStream, SharedReadiness, SharedMeter> {
     /// Shuts down the write side, drops what the client sent, and returns whether that was all.
     ///
     /// A connection that is closed with unread input is reset, and its client may lose answers. It
@@ -294,7 +281,8 @@ impl Channel<TcpStream, SharedReadiness> {
         };
         let mut stream = &self.stream;
         let dropped = drop_input(&mut stream, before);
-        self.count(Counted::Received, dropped.bytes.saturating_sub(before));
+        let bytes = dropped.bytes.saturating_sub(before);
+        self.meter.add(Counted::Received, bytes);
         self.readiness.set(Readiness {
             dropped: Some(dropped.bytes),
             ..known

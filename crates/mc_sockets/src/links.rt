@@ -2,15 +2,19 @@
 //!
 //! The books note what a poll reports, each event once. Which events the system reports, and
 //! when, is unspecified.
-ghost use Rattle.std.specs.Prelude.{◌≡◌, [], length, None, IfSome, IfNone, ⊤};
+ghost use Rattle.std.specs.Prelude.{◌≡◌, [], length, None, Some, IfSome, IfNone, IsTrue, IsFalse, ⊤};
+ghost use Rattle.std.specs.Duration.{as_nanos};
+ghost use Rattle.mc_sockets.specs.Watches.{ticked_after, ticks_after, ticks_in};
+ghost use Rattle.mc_sockets.specs.declared.connection.Parting.{Parting as Reason};
 
 use crate::arrivals::{Arrivals, Share};
 use crate::channel::Channel;
 use crate::connection::{Connection, Parting};
 use crate::idle::Watch;
 use crate::link::SocketLink;
+use crate::meter::SharedMeter;
 use crate::readiness::{Readiness, SharedReadiness};
-use crate::seats::{Rests, Seats, token_of};
+use crate::seats::{Patrol, Rests, Seats, token_of};
 use crate::yard::SocketYard;
 use mc_guests::{Links, Next};
 use mc_metrics::Counters;
@@ -131,7 +135,7 @@ pub struct SocketLinks<'a, R: Wait + Clock> {
 
 impl<'a, R: Wait + Clock> SocketLinks<'a, R> {
     ghost use Rattle.mio.specs.Events.{items};
-    ghost use Rattle.mc_sockets.specs.Seats.{AreHeard, Hears};
+    ghost use Rattle.mc_sockets.specs.Seats.{AreHeard, AsksUnheard, ByWatch, EndsAll, Hears, LooksInTurn};
 
     /// Returns links without a connection, which count what they move. It takes no memory.
     pub fn new(
@@ -214,53 +218,48 @@ impl<'a, R: Wait + Clock> SocketLinks<'a, R> {
     }
 
     /// Counts the ticks that passed, at most two: a pause of the process counts no more.
-    fn count_ticks(&mut self, now: Instant) {
+    fn count_ticks(&mut self, now: Instant)
+        ensures ticks { self.new.ticks ≡ ticks_after self.old.ticked self.old.ticks now }
+        ensures ticked { self.new.ticked ≡ Some (ticked_after self.old.ticked now) }
+        ensures same { self.new
+            ≡ record self.old { ticks = self.new.ticks; ticked = self.new.ticked } }
+    {
         let Some(ticked) = self.ticked else {
             self.ticked = Some(now);
             return;
         };
         let passed = now.duration_since(ticked);
+        self.ticks = self.ticks.saturating_add(ticks_in(passed));
         if passed >= Duration::from_millis(TICK) {
-            let is_twice = passed >= Duration::from_millis(2 * TICK);
-            self.ticks = self.ticks.saturating_add(if is_twice { 2 } else { 1 });
             self.ticked = Some(now);
         }
     }
 
     /// Closes connections in turn that were idle for too long before the last poll.
-    fn end_idle(&mut self, before: Instant, now: Instant) {
-        let Some(watch) = &mut self.watch else {
-            return;
-        };
-        let (places, quiet) = (self.seats.len(), self.quiet);
-        for _one in 0..watch.due(places, now) {
-            let at = watch.turn(places);
-            if self
-                .seats
-                .end_if_idle(at, watch.limit(), before, now, quiet)
-            {
-                self.common.send_rest(at);
-            }
+    fn end_idle(&mut self, before: Instant, now: Instant)
+        ensures { ByWatch (LooksInTurn (λ _. None) (λ _ _ _. ⊤) (Patrol.EndIdle self.old.quiet)
+            before now) self.old.watch self.new.watch self.old.seats self.new.seats
+            self.old.common self.new.common }
+    {
+        let patrol = Patrol::EndIdle(self.quiet);
+        if let Some(watch) = &mut self.watch {
+            self.seats
+                .look_in_turn(watch, patrol, before, now, &mut self.common);
         }
     }
 
     /// Names links again, in turn, that had no event for long before the last poll.
     ///
     /// It closes those that have lingered for `LINGER`.
-    fn ask_unheard(&mut self, before: Instant, now: Instant) {
-        let Some(watch) = &mut self.unheard else {
-            return;
-        };
-        let places = self.seats.len();
-        let linger = Duration::from_secs(LINGER);
-        for _one in 0..watch.due(places, now) {
-            let at = watch.turn(places);
-            if self
-                .seats
-                .ask_or_close(at, linger, watch.limit(), before, now)
-            {
-                self.common.send_rest(at);
-            }
+    fn ask_unheard(&mut self, before: Instant, now: Instant)
+        ensures { ByWatch (AsksUnheard (λ _. None) (λ _ _ _. ⊤) 2_000_000_000 before now)
+            self.old.unheard self.new.unheard self.old.seats self.new.seats self.old.common
+            self.new.common }
+    {
+        let patrol = Patrol::AskUnheard(Duration::from_secs(LINGER));
+        if let Some(watch) = &mut self.unheard {
+            self.seats
+                .look_in_turn(watch, patrol, before, now, &mut self.common);
         }
     }
 
@@ -273,6 +272,7 @@ impl<'a, R: Wait + Clock> SocketLinks<'a, R> {
         let readiness = Rc::new(self.alloc, Cell::new(Readiness::NEW)).ok()?;
         let counts = self.counts.clone().ok()?;
         let LinkContext { yard, moved } = self.shared_parts()?;
+        let meter = SharedMeter::new(moved, counts);
         let at = self.settle(&yard, readiness.clone().ok()?)?;
         let all = Interest::READABLE | Interest::WRITABLE | Interest::PRIORITY;
         let token = Token(token_of(at));
@@ -289,7 +289,7 @@ impl<'a, R: Wait + Clock> SocketLinks<'a, R> {
             });
         }
         let Connection { stream, entry } = connection;
-        let channel = Channel::new(stream, entry, readiness, moved, counts);
+        let channel = Channel::new(stream, entry, readiness, meter);
         let link = SocketLink::new(self.alloc, channel, at, yard)?;
         registered.ok()?;
         self.seats.hand_out();
@@ -325,7 +325,11 @@ impl<'a, R: Wait + Clock> SocketLinks<'a, R> {
     /// Ends all connections, and answers that no more links come.
     ///
     /// Right after a new link it answers `Later`, so that this link is visited before it ends.
-    fn close(&mut self, gave: bool) -> Next<SocketLink> {
+    fn close(&mut self, gave: bool) -> Next<SocketLink>
+        ensures later { IsTrue gave → (result ≡ Next.Later) × (self.new ≡ self.old) }
+        ensures closed { IsFalse gave → (result ≡ Next.Closed) × (parting : Reason) ×
+            EndsAll (λ _. None) parting self.old.seats self.new.seats }
+    {
         if gave {
             return Next::Later;
         }
@@ -336,6 +340,20 @@ impl<'a, R: Wait + Clock> SocketLinks<'a, R> {
         };
         self.seats.end_all(parting);
         Next::Closed
+    }
+}
+
+/// Returns the ticks that a time is, at most two.
+fn ticks_in(time: Duration) -> u64
+    ensures { result ≡ ticks_in (as_nanos time) }
+{
+    if time < Duration::from_millis(TICK) {
+        return 0;
+    }
+    if time < Duration::from_millis(2 * TICK) {
+        1
+    } else {
+        2
     }
 }
 

@@ -8,6 +8,16 @@ use crate::readiness::{Readiness, ReadinessCell, Report};
 use std::collections::VecDeque;
 use std::time::{Duration, Instant};
 
+/// A look at a connection at the moment `now`.
+///
+/// It finds what lasted for at least `limit` before `before`, the moment of the poll before.
+#[derive(Clone, Copy)]
+pub struct Look {
+    pub limit: Duration,
+    pub before: Instant,
+    pub now: Instant,
+}
+
 /// A worker's record of a link.
 #[derive(Drop)]
 pub struct LinkRecord<F: ReadinessCell + Drop> {
@@ -28,7 +38,7 @@ impl<F: ReadinessCell + Drop> LinkRecord<F> {
     ghost use Rattle.mc_sockets.specs.Readiness.{Reported, AskedAgain, Ended};
     ghost use Rattle.mc_sockets.specs.Places.{AsksIfUnheard, AsksOrCloses, EndsIfIdle, Finds};
     ghost use Rattle.mc_sockets.specs.Places.{Happens, HappensIf, HappensTo, NamesIf, lingers};
-    ghost use Rattle.mc_sockets.specs.Places.{seen_waiting};
+    ghost use Rattle.mc_sockets.specs.Places.{WasDropped, seen_waiting};
 
     /// Returns the record of a new link with this number.
     pub fn new(number: u64, readiness: F) -> LinkRecord<F>
@@ -142,12 +152,11 @@ impl<F: ReadinessCell + Drop> LinkRecord<F> {
         });
     }
 
-    /// Returns whether its write side was shut down `limit` before `before`. It does so once.
+    /// Returns whether its write side was shut down for the look's limit. It does so once.
     ///
     /// The connection has lingered then, and is to be closed.
-    fn lingers_too_long(&mut self, limit: Duration, before: Instant, now: Instant) -> bool
-        ensures finds { Finds (F.known self.old.readiness)
-            (record { limit = limit; before = before; now = now }) (λ known. lingers known)
+    fn lingers_too_long(&mut self, look: Look) -> bool
+        ensures finds { Finds (F.known self.old.readiness) look (λ known. lingers known)
             (λ _. self.old.lingers_since) result self.new.lingers_since }
         ensures number { self.new.number ≡ self.old.number }
         ensures stays { IsFalse result → self.new.readiness ≡ self.old.readiness }
@@ -159,10 +168,10 @@ impl<F: ReadinessCell + Drop> LinkRecord<F> {
             return false;
         }
         let Some(since) = self.lingers_since else {
-            self.lingers_since = Some(now);
+            self.lingers_since = Some(look.now);
             return false;
         };
-        if !has_passed(since, before, limit) {
+        if !has_passed(since, look) {
             return false;
         }
         self.readiness.note(Readiness {
@@ -172,43 +181,37 @@ impl<F: ReadinessCell + Drop> LinkRecord<F> {
         true
     }
 
-    /// Names the link if it had no event for `limit` before `before`, so that it is tried again.
+    /// Names the link if it had no event for the look's limit, so that it is tried again.
     ///
     /// That holds for a link that waits or was dropped: its next call asks the system, which may
     /// have reported nothing. Returns whether the link was dropped, and its output may be sent.
-    fn ask_if_unheard(
-        &mut self,
-        limit: Duration,
-        before: Instant,
-        now: Instant,
-        named: &mut VecDeque<u64>,
-    ) -> bool
-        ensures { AsksIfUnheard F.known (record { limit = limit; before = before; now = now })
-            (deque_capacity named.old ≤ deque_len named.old) self.old self.new named.old.items
-            named.new.items }
+    fn ask_if_unheard(&mut self, look: Look, named: &mut VecDeque<u64>) -> bool
+        ensures { AsksIfUnheard F.known look (deque_capacity named.old ≤ deque_len named.old) result
+            self.old self.new named.old.items named.new.items }
     {
-        if !self.is_unheard(limit, before, now) {
+        if !self.is_unheard(look) {
             return false;
         }
-        self.ask_since(now, named)
+        self.ask_since(look.now, named)
     }
 
     /// Names the link if it waits, and notes when. Returns whether the link was dropped.
     fn ask_since(&mut self, now: Instant, named: &mut VecDeque<u64>) -> bool
-        ensures { HappensTo F.known AskedAgain (deque_capacity named.old ≤ deque_len named.old)
-            self.old self.new named.old.items named.new.items }
+        ensures asks { HappensTo F.known AskedAgain
+            (deque_capacity named.old ≤ deque_len named.old) self.old self.new named.old.items
+            named.new.items }
+        ensures left { WasDropped (F.known self.new.readiness) result }
     {
         self.asked_since = Some(now);
         self.ask_again(named);
         self.readiness.look().leaves
     }
 
-    /// Returns whether it had no event for `limit` before `before`, and waits or was dropped.
+    /// Returns whether it had no event for the look's limit, and waits or was dropped.
     ///
     /// If it wasn't seen so before, it is now.
-    fn is_unheard(&mut self, limit: Duration, before: Instant, now: Instant) -> bool
-        ensures finds { Finds (F.known self.old.readiness)
-            (record { limit = limit; before = before; now = now })
+    fn is_unheard(&mut self, look: Look) -> bool
+        ensures finds { Finds (F.known self.old.readiness) look
             (λ known. known.waits || known.leaves) (λ _. self.old.asked_since) result
             self.new.asked_since }
         ensures same { self.new ≡ record self.old { asked_since = self.new.asked_since } }
@@ -218,18 +221,17 @@ impl<F: ReadinessCell + Drop> LinkRecord<F> {
             return false;
         }
         let Some(since) = self.asked_since else {
-            self.asked_since = Some(now);
+            self.asked_since = Some(look.now);
             return false;
         };
-        has_passed(since, before, limit)
+        has_passed(since, look)
     }
 
-    /// Returns whether it was idle for `limit` before `before`, with no event since.
+    /// Returns whether it was idle for the look's limit, with no event since.
     ///
     /// If it waits and wasn't seen waiting before, it is now.
-    fn has_waited(&mut self, limit: Duration, before: Instant, now: Instant) -> bool
-        ensures finds { Finds (F.known self.old.readiness)
-            (record { limit = limit; before = before; now = now }) (λ known. known.waits)
+    fn has_waited(&mut self, look: Look) -> bool
+        ensures finds { Finds (F.known self.old.readiness) look (λ known. known.waits)
             (λ known. seen_waiting known self.old.waits_since) result self.new.waits_since }
         ensures number { self.new.number ≡ self.old.number }
     {
@@ -245,61 +247,49 @@ impl<F: ReadinessCell + Drop> LinkRecord<F> {
             });
         }
         match self.waits_since {
-            Some(since) => has_passed(since, before, limit),
+            Some(since) => has_passed(since, look),
             None => {
-                self.waits_since = Some(now);
+                self.waits_since = Some(look.now);
                 false
             }
         }
     }
 
-    /// Ends the connection for this reason if it was idle for `limit` before `before`, and names
-    /// its link if it waits. Returns whether it did and the link was dropped.
-    pub fn end_if_idle(
-        &mut self,
-        limit: Duration,
-        before: Instant,
-        now: Instant,
-        parting: Parting,
-        named: &mut VecDeque<u64>,
-    ) -> bool
-        ensures { EndsIfIdle F.known (record { limit = limit; before = before; now = now })
-            parting (deque_capacity named.old ≤ deque_len named.old) self.old self.new
-            named.old.items named.new.items }
+    /// Ends the connection for this reason if it was idle for the look's limit, and names its link
+    /// if it waits. Returns whether it did and the link was dropped.
+    pub fn end_if_idle(&mut self, look: Look, parting: Parting, named: &mut VecDeque<u64>) -> bool
+        ensures { EndsIfIdle F.known look parting (deque_capacity named.old ≤ deque_len named.old)
+            result self.old self.new named.old.items named.new.items }
     {
-        if !self.has_waited(limit, before, now) {
+        if !self.has_waited(look) {
             return false;
         }
         self.end(parting, named)
     }
 
-    /// Notes that the connection is to be closed if it lingers since `linger` before `before`, and
-    /// else names its link again if it had no event for `limit` before it.
+    /// Notes that the connection is to be closed if it lingered for `linger`, and else names its
+    /// link again if it had no event for the look's limit.
     ///
     /// Returns whether what the link left is to be looked at.
-    pub fn ask_or_close(
-        &mut self,
-        linger: Duration,
-        limit: Duration,
-        before: Instant,
-        now: Instant,
-        named: &mut VecDeque<u64>,
-    ) -> bool
-        ensures { AsksOrCloses F.known (record { limit = linger; before = before; now = now })
-            (record { limit = limit; before = before; now = now })
-            (deque_capacity named.old ≤ deque_len named.old) self.old self.new named.old.items
-            named.new.items }
+    pub fn ask_or_close(&mut self, linger: Duration, look: Look, named: &mut VecDeque<u64>) -> bool
+        ensures { AsksOrCloses F.known (record look { limit = linger }) look
+            (deque_capacity named.old ≤ deque_len named.old) result self.old self.new
+            named.old.items named.new.items }
     {
-        if self.lingers_too_long(linger, before, now) {
+        if self.lingers_too_long(Look {
+            limit: linger,
+            ..look
+        }) {
             return true;
         }
-        self.ask_if_unheard(limit, before, now, named)
+        self.ask_if_unheard(look, named)
     }
 }
 
-/// Returns whether at least `limit` passed from `since` until `until`.
-fn has_passed(since: Instant, until: Instant, limit: Duration) -> bool
-    ensures { IsTrue result ↔ (as_nanos limit ≤ instant_nanos until - instant_nanos since) }
+/// Returns whether at least the look's limit passed since a moment.
+fn has_passed(since: Instant, look: Look) -> bool
+    ensures { IsTrue result
+        ↔ (as_nanos look.limit ≤ instant_nanos look.before - instant_nanos since) }
 {
-    until.duration_since(since).as_nanos() >= limit.as_nanos()
+    look.before.duration_since(since).as_nanos() >= look.limit.as_nanos()
 }

@@ -4,10 +4,11 @@
 //! and no other, a link is ended by its own number, and a look changes the place alone that it is
 //! at. What the poll reports, and when, is unspecified (`links.rt`).
 ghost use Rattle.std.specs.Prelude.{◌≡◌, ◌<◌, ◌≤◌, ◌+◌, ◌-◌, ◌^◌, ◌++◌, [], length, option_to_list};
-ghost use Rattle.std.specs.Prelude.{IsTrue, IsFalse, OnOk};
+ghost use Rattle.std.specs.Prelude.{IsTrue, IsFalse, MatchBool, OnOk};
 
 use crate::connection::Parting;
-use crate::place::LinkRecord;
+use crate::idle::Watch;
+use crate::place::{LinkRecord, Look};
 use crate::readiness::{ReadinessCell, Report};
 use mio::Events;
 use mio::event::Event;
@@ -25,6 +26,16 @@ pub trait Rests {
     /// Sends what the link at a place left.
     fn send_rest(&mut self, at: usize)
         ensures { sends self.old at self.new };
+}
+
+/// What a look at a place does.
+#[derive(Clone, Copy)]
+pub enum Patrol {
+    /// It ends a connection for this reason if it was idle for the watch's limit.
+    EndIdle(Parting),
+    /// It closes a connection that lingered for this time, and names a link again that had no event
+    /// for the watch's limit.
+    AskUnheard(Duration),
 }
 
 /// The records of a worker's links by place, and the links to be named.
@@ -45,7 +56,8 @@ impl<F: ReadinessCell + Drop> Seats<F> {
     ghost use Rattle.mc_sockets.specs.Places.{Notes};
     ghost use Rattle.mc_sockets.specs.Readiness.{AskedAgain, Ended};
     ghost use Rattle.mc_sockets.specs.Seats.{ActsAt, AnswersAt, AreHeard, AtEach, HasRoom, Hears};
-    ghost use Rattle.mc_sockets.specs.Seats.{IsFull, Settles};
+    ghost use Rattle.mc_sockets.specs.Seats.{EndsAll, IsFull, LooksAtNext, LooksInTurn, Patrols};
+    ghost use Rattle.mc_sockets.specs.Seats.{Settles, sweep};
     ghost use Rattle.mio.specs.Events.{items};
 
     /// Makes books without a place. It takes no memory.
@@ -136,9 +148,8 @@ impl<F: ReadinessCell + Drop> Seats<F> {
             return;
         }
         let at = token - 1;
-        if self.hear_at(at, Report::of(event)) {
-            rests.send_rest(at);
-        }
+        let was_dropped = self.hear_at(at, Report::of(event));
+        send_rest_if(was_dropped, at, rests);
     }
 
     /// Notes a report at a place, and names the link there if it waits. Returns whether it was
@@ -175,8 +186,7 @@ impl<F: ReadinessCell + Drop> Seats<F> {
 
     /// Ends all links for this reason, and names those that wait.
     pub fn end_all(&mut self, parting: Parting)
-        ensures { AtEach (λ at mid. ActsAt (HappensTo F.known (Ended parting) (IsFull mid)) at mid)
-            (length self.old.places.items) self.old self.new }
+        ensures { EndsAll F.known parting self.old self.new }
     {
         for at in 0..self.places.len() {
             self.end_whose(at, parting);
@@ -217,44 +227,87 @@ impl<F: ReadinessCell + Drop> Seats<F> {
         }
     }
 
-    /// Ends the link at a place if it was idle for too long. Returns whether it was dropped.
-    pub fn end_if_idle(
+    /// Looks at the places that are due by the watch, in turn, and acts at each by the patrol.
+    ///
+    /// What a dropped link left is sent.
+    #[inline]
+    pub fn look_in_turn<R: Rests>(
         &mut self,
-        at: usize,
-        limit: Duration,
+        watch: &mut Watch,
+        patrol: Patrol,
         before: Instant,
         now: Instant,
-        parting: Parting,
-    ) -> bool
-        ensures { ActsAt (EndsIfIdle F.known
-            (record { limit = limit; before = before; now = now }) parting (IsFull self.old)) at
-            self.old self.new }
+        rests: &mut R,
+    )
+        ensures { LooksInTurn F.known R.sends patrol before now watch.old watch.new self.old
+            self.new rests.old rests.new }
+    {
+        for _one in 0..watch.due(self.places.len(), now) {
+            self.look_at_next(watch, patrol, before, now, rests);
+        }
+    }
+
+    /// Looks at the place in turn. What a dropped link left there is sent.
+    #[inline(never)]
+    fn look_at_next<R: Rests>(
+        &mut self,
+        watch: &mut Watch,
+        patrol: Patrol,
+        before: Instant,
+        now: Instant,
+        rests: &mut R,
+    )
+        ensures looks { LooksAtNext R.sends (Patrols F.known patrol
+            (record { limit = watch.old.limit; before = before; now = now }))
+            (sweep watch.old.at self.old rests.old) (sweep watch.new.at self.new rests.new) }
+        ensures same { watch.new ≡ record watch.old { at = watch.new.at } }
+    {
+        let at = watch.turn(self.places.len());
+        let limit = watch.limit();
+        let was_dropped = self.look_at(at, patrol, Look { limit, before, now });
+        send_rest_if(was_dropped, at, rests);
+    }
+
+    /// Looks at a place. Returns whether what its link left is to be sent.
+    fn look_at(&mut self, at: usize, patrol: Patrol, look: Look) -> bool
+        ensures { AnswersAt (Patrols F.known patrol look self.old) at result self.old self.new }
+    {
+        match patrol {
+            Patrol::EndIdle(parting) => self.end_if_idle(at, look, parting),
+            Patrol::AskUnheard(linger) => self.ask_or_close(at, look, linger),
+        }
+    }
+
+    /// Ends the link at a place if it was idle for too long. Returns whether it was dropped.
+    fn end_if_idle(&mut self, at: usize, look: Look, parting: Parting) -> bool
+        ensures { AnswersAt (EndsIfIdle F.known look parting (IsFull self.old)) at result self.old
+            self.new }
     {
         match self.places.get_mut(at) {
-            Some(place) => place.end_if_idle(limit, before, now, parting, &mut self.named),
+            Some(place) => place.end_if_idle(look, parting, &mut self.named),
             None => false,
         }
     }
 
     /// Names the link at a place again, or notes that it is to be closed. Returns whether what it
     /// left is to be looked at.
-    pub fn ask_or_close(
-        &mut self,
-        at: usize,
-        linger: Duration,
-        limit: Duration,
-        before: Instant,
-        now: Instant,
-    ) -> bool
-        ensures { ActsAt (AsksOrCloses F.known
-            (record { limit = linger; before = before; now = now })
-            (record { limit = limit; before = before; now = now }) (IsFull self.old)) at self.old
-            self.new }
+    fn ask_or_close(&mut self, at: usize, look: Look, linger: Duration) -> bool
+        ensures { AnswersAt (AsksOrCloses F.known (record look { limit = linger }) look
+            (IsFull self.old)) at result self.old self.new }
     {
         match self.places.get_mut(at) {
-            Some(place) => place.ask_or_close(linger, limit, before, now, &mut self.named),
+            Some(place) => place.ask_or_close(linger, look, &mut self.named),
             None => false,
         }
+    }
+}
+
+/// Sends what the link at a place left, if it was dropped.
+fn send_rest_if<R: Rests>(was_dropped: bool, at: usize, rests: &mut R)
+    ensures { MatchBool was_dropped (R.sends rests.old at rests.new) (rests.new ≡ rests.old) }
+{
+    if was_dropped {
+        rests.send_rest(at);
     }
 }
 
