@@ -25,7 +25,7 @@
 #include <time.h>
 #include <unistd.h>
 
-enum call { ACCEPT4, RECV, SEND, SENDMSG, EPOLL_WAIT, EPOLL_CTL, CLOSE, WRITE, PTHREAD_CREATE, CALLS };
+enum call { ACCEPT4, RECV, SEND, SENDMSG, EPOLL_WAIT, EPOLL_CTL, CLOSE, WRITE, PTHREAD_CREATE, STDIN, STDOUT, CALLS };
 enum column { EVERY, LEFT, MADE, FAILED, ERRORS, FIRST, WIDTH = 16 };
 enum { CLOCK, ELSEWHERE, FRONT = 8, DELAY = 1000, LATE = 1000000 };
 
@@ -129,10 +129,18 @@ int close(int fd) {
     return error > 0 ? (errno = error, -1) : answer;
 }
 
+ssize_t read(int fd, void *bytes, size_t size) {
+    NEXT(read);
+    if (fd == 0) {
+        FAIL(STDIN);
+    }
+    return next(fd, bytes, size);
+}
+
 ssize_t write(int fd, const void *bytes, size_t size) {
     NEXT(write);
-    if (fd == 2) {
-        FAIL(WRITE);
+    if (fd == 1 || fd == 2) {
+        FAIL(fd == 1 ? STDOUT : WRITE);
     }
     return next(fd, bytes, size);
 }

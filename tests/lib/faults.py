@@ -18,8 +18,8 @@ import subprocess
 import tempfile
 
 HERE = os.path.dirname(os.path.realpath(__file__))
-# As in faults.c.
-CALLS = ["accept4", "recv", "send", "sendmsg", "epoll_wait", "epoll_ctl", "close", "write", "pthread_create"]
+# As in faults.c: write is that of standard error, stdin a read of standard input, stdout a write of standard output.
+CALLS = ["accept4", "recv", "send", "sendmsg", "epoll_wait", "epoll_ctl", "close", "write", "pthread_create", "stdin", "stdout"]
 CLOCK, ELSEWHERE, FRONT, WIDTH, WORD, DELAY, LATE = 0, 1, 8, 16, 8, 1000, 1_000_000
 EVERY, LEFT, MADE, FAILED, ERRORS, FIRST = range(6)
 MOST = WIDTH - FIRST

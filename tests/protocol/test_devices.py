@@ -1,8 +1,10 @@
 """Streams that fail, fill up or don't block: the session ends, and says why."""
+import errno
 import os
 import tempfile
 
 from tests.lib.case import ProgramCase
+from tests.lib.faults import Faults
 from tests.lib.process import outcome, started
 
 ARGS = ["--stdin", "--now", "1000"]
@@ -82,3 +84,16 @@ class Inputs(ProgramCase):
             os.close(theirs)
         ran.ended(1, CANNOT_READ)
         ran.wrote(TOLD)
+
+
+class Interrupted(ProgramCase):
+    def test_reads_and_writes_that_are_interrupted(self):
+        """Each second read and write is interrupted by a signal: it is retried, and the session answers all."""
+        with Faults() as faults, versions(100_000) as given:
+            for stream in ("stdin", "stdout"):
+                faults.fail(stream, [errno.EINTR], every=2)
+            ran = outcome(started(self.program, ARGS, given, env=faults.environment))
+            ran.ended()
+            ran.wrote(TOLD * 100_000)
+            for stream in ("stdin", "stdout"):
+                self.assertLess(0, faults.count(stream), f"no call of {stream} failed")
