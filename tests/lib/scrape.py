@@ -52,6 +52,9 @@ def families(page):
         head = HEAD.match("# HELP " + part)
         if not head or head[1] != head[3] or head[1] in found or not part.endswith("\n"):
             raise AssertionError(f"a family doesn't begin and end as one: {part!r}")
+        # Prometheus' naming: a counter's name ends with _total, and no gauge's does
+        if (head[4] == "counter") != head[1].endswith("_total"):
+            raise AssertionError(f"{head[1]} is no name of a {head[4]}")
         samples = {}
         for line in part.splitlines()[2:]:
             sample = SAMPLE.fullmatch(line)
