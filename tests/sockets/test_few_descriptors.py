@@ -26,6 +26,8 @@ class FewDescriptors(ProgramCase):
         limit = (resource.RLIMIT_NOFILE, DESCRIPTORS, DESCRIPTORS)
         with abused(KEPT, limit=limit) as server:
             for _ in range(2):
+                # those that were served before have given their descriptors back
+                server.settle()
                 with clients(server.port, CONNECTIONS, seconds=ANSWERED) as peers:
                     self.meet_their_fates(server, peers)
                 few = DESCRIPTORS // 2
