@@ -7,12 +7,15 @@ from tests.lib.case import ProgramCase
 from tests.lib.lent import Told, Unread, block, setting
 from tests.lib.peer import Peer
 from tests.lib.server import StillServer
+from tests.lib.wait import until
 
 MB = 2**20
 GREATEST, PAGES = 8 * MB, 24
 REFUSED = b"SERVER_ERROR out of memory storing object\r\n"
 # Blocks in the smallest chunk that is lent, in larger ones up to half a page, and in a page or several.
 LENGTHS = [33_904 - 48 - 3, 130_000, 493_552 - 48 - 3, 493_552 - 48 - 2, 1_000_000, 2 * MB - 48 - 3, 7_900_000]
+# Items change while they are read for at least so many seconds, and at most for so many more, until so many changes and reads of each kind are seen.
+LEAST_SECONDS, MOST_SECONDS, LEAST_SEEN = 12, 60, 30
 
 
 # ---- what becomes of an item: each takes a client whose answers are the model's, and the item's length
@@ -90,16 +93,16 @@ class Writer(threading.Thread):
 
     A value is the numbers and lengths of the blocks that it was made of, or None where there is no item."""
 
-    def __init__(self, port, key, seed, until):
+    def __init__(self, port, key, seed, over):
         super().__init__(daemon=True)
-        self.port, self.key, self.random, self.until, self.fault = port, key, random.Random(seed), until, None
+        self.port, self.key, self.random, self.over, self.fault = port, key, random.Random(seed), over, None
         # (of all values those up to `sure` have been stored: an answer says so)
         self.values, self.sure, self.number = [None], 0, seed * 100_000
 
     def run(self):
         try:
             with Peer(self.port, 30) as peer:
-                while time.monotonic() < self.until:
+                while not self.over.is_set():
                     self.turn(peer)
         except (OSError, AssertionError) as error:
             self.fault = error
@@ -134,16 +137,16 @@ class Writer(threading.Thread):
 class SlowReader(threading.Thread):
     """A client that gets the items of writers and reads them slowly; each must be one that it was since it was asked for."""
 
-    def __init__(self, port, writers, seed, until, receives):
+    def __init__(self, port, writers, seed, over, receives):
         super().__init__(daemon=True)
-        self.port, self.writers, self.until, self.receives = port, writers, until, receives
+        self.port, self.writers, self.over, self.receives = port, writers, over, receives
         # (blocks that were read: all, those in chunks below a page that are lent, and those in pages)
         self.random, self.fault, self.read, self.middle, self.large = random.Random(seed), None, 0, 0, 0
 
     def run(self):
         try:
             with Unread(self.port, b"", 30, self.receives) as peer:
-                while time.monotonic() < self.until:
+                while not self.over.is_set():
                     self.turn(peer)
         except (OSError, AssertionError) as error:
             self.fault = error
@@ -180,6 +183,11 @@ class SlowReader(threading.Thread):
         raise AssertionError(f"item {writer.key} of {length} bytes begins with {begun}, and is none of {possible}")
 
 
+def seen(writers, readers):
+    """How many changes were made, and how many blocks below a page and of pages were read."""
+    return sum(it.sure for it in writers), sum(it.middle for it in readers), sum(it.large for it in readers)
+
+
 class Lent(ProgramCase):
     def test_an_item_that_changes_while_it_is_read(self):
         """A client has the first bytes of a large item when that is changed, and its pages are used for others: it is told the rest."""
@@ -205,11 +213,14 @@ class Lent(ProgramCase):
     def test_no_block_is_torn(self):
         """Four clients change an item each, of 100 bytes to 7.9 MB, while ten read them slowly."""
         with StillServer(greatest=GREATEST, pages=256, workers=2, buffers=256) as server:
-            until = time.monotonic() + 12
-            writers = [Writer(server.port, b"item%d" % seed, seed, until) for seed in range(4)]
-            readers = [SlowReader(server.port, writers, 10 + at, until, [4096, 16384, 65536][at % 3]) for at in range(10)]
+            over = threading.Event()
+            writers = [Writer(server.port, b"item%d" % seed, seed, over) for seed in range(4)]
+            readers = [SlowReader(server.port, writers, 10 + at, over, [4096, 16384, 65536][at % 3]) for at in range(10)]
             for it in writers + readers:
                 it.start()
+            time.sleep(LEAST_SECONDS)
+            until(lambda: min(seen(writers, readers)) >= LEAST_SEEN or any(it.fault for it in writers + readers), MOST_SECONDS, 0.1)
+            over.set()
             for it in writers + readers:
                 it.join(60)
             for it in writers + readers:
@@ -217,10 +228,10 @@ class Lent(ProgramCase):
                     raise it.fault
                 self.assertFalse(it.is_alive())
             self.assertTrue(server.runs())
-        changed, read = sum(it.sure for it in writers), sum(it.read for it in readers)
-        middle, large = sum(it.middle for it in readers), sum(it.large for it in readers)
+        changed, middle, large = seen(writers, readers)
+        read = sum(it.read for it in readers)
         print(f"    {changed} changes, {read} blocks read, {middle} of them of 34 KB to half a page, {large} of pages")
-        self.assertGreater(min(changed, middle, large), 30)
+        self.assertGreaterEqual(min(changed, middle, large), LEAST_SEEN)
 
     def test_many_in_one_request_and_behind_it(self):
         """Large and small items in one get, and many gets in one write: each byte is as it is to be."""

@@ -134,7 +134,7 @@ class Kept(ProgramCase):
         with self.full() as server, Peer(server.port) as peer:
             began = time.monotonic()
             peer.asks(b"get small\r\nget small\r\nget large\r\n", b"VALUE small 0 1\r\ns\r\nEND\r\n" * 2)
-            self.assertLess(time.monotonic() - began, 0.5)  # (0.1 s, and some for a machine that is busy)
+            self.assertLess(time.monotonic() - began, 2)  # (the large one waits for 5 s)
             peer.is_told(b"VALUE large 0 1000000\r\n%s\r\nEND\r\n" % (b"l" * 1_000_000))
 
     def test_one_that_breaks_leaves(self):
