@@ -171,7 +171,7 @@ def made_tcp(short=""):
     for row in (row for row in it["rows"] if not short or row["title"] in SHOWN):
         theirs, ours = row["sides"]["memcached"], row["sides"]["mcserver"]
         shown = {name: f"{ratio['median']:.2f} ({ratio['least']:.2f}-{ratio['most']:.2f})" for name, ratio in row["ratios"].items()}
-        text += (f"| {row['title']} | {theirs['a_second']:,} | {ours['a_second']:,} | {shown['a_second']} | {theirs['us']:.2f} | "
+        text += (f"| {row['title']} | {theirs['a_second']:,.0f} | {ours['a_second']:,.0f} | {shown['a_second']} | {theirs['us']:.2f} | "
                  f"{ours['us']:.2f} | {shown['us']} | {shown['p99']} |\n")
     return text
 
