@@ -7,7 +7,20 @@
 //! A vector's contract doesn't bound what it reserves, and a text may reserve more than it appends.
 //! So each append compares what is reserved with what may be.
 
-ghost use Rattle.std.specs.Prelude.{◌≡◌, ◌+◌, ◌≤◌, drop, take, length, max, OnOk, IfOk, vec_capacity};
+ghost use Rattle.std.specs.Prelude.{
+  ◌≡◌,
+  ◌+◌,
+  ◌≤◌,
+  drop,
+  take,
+  length,
+  max,
+  OnOk,
+  IfOk,
+  IsTrue,
+  IsFalse,
+  vec_capacity,
+};
 ghost use Rattle.std.specs.Arc.{arc_value};
 ghost use Rattle.mc_bytes.specs.Queues.{twice};
 
@@ -121,8 +134,8 @@ impl Buffer {
             (self.new.reserved ≤ max self.old.reserved (twice (length self.new.bytes))) }
     {
         let reserved = self.all.capacity();
-        if self.filled == 0 && bytes > reserved {
-            self.take_spare(bytes, twice(bytes));
+        if self.filled == 0 && bytes > reserved && !self.take_spare(bytes, twice(bytes)) {
+            self.make_way(bytes);
         }
         self.all.truncate(self.filled);
         text.append_to(&mut self.all)?;
@@ -157,35 +170,50 @@ impl Buffer {
         }
     }
 
-    /// Reserves memory for exactly `more` bytes, if there is some. If spares may be taken, it takes
-    /// one with room for them and at most `most` bytes.
-    pub fn reserve(&mut self, more: usize, most: usize, may_take: bool)
+    /// Reserves memory for exactly `more` bytes, if there is some, or takes a spare with room for them
+    /// and at most `most` bytes.
+    ///
+    /// If they are all of a text and there is no such spare, others of the same size make way.
+    pub fn reserve(&mut self, more: usize, most: usize, is_all: bool)
         ensures same { self.new.bytes ≡ self.old.bytes }
         ensures grown { self.new.reserved
             ≤ max self.old.reserved (max (length self.old.bytes + more) most) }
     {
         let wanted = self.filled.saturating_add(more);
-        if !may_take || wanted <= self.all.capacity() || !self.take_spare(wanted, most) {
+        if wanted <= self.all.capacity() || !self.take_spare(wanted, most) {
+            if is_all {
+                self.make_way(wanted);
+            }
             let room = self.all.len() - self.filled;
             let _ = self.all.reserve_exact(more.saturating_sub(room));
         }
     }
 
+    /// Frees spares if more memory than is reserved is wanted.
+    fn make_way(&self, wanted: usize) {
+        if let Some(spares) = &self.spares {
+            if self.all.capacity() < wanted {
+                spares.make_way(wanted);
+            }
+        }
+    }
+
     /// Moves the bytes into a spare with `least` to `most` bytes of memory, and returns whether there
-    /// was one.
+    /// was one. The former memory becomes a spare.
     fn take_spare(&mut self, least: usize, most: usize) -> bool
         ensures same { self.new.bytes ≡ self.old.bytes }
         ensures taken { IsTrue result → self.new.reserved ≤ most }
         ensures none { IsFalse result → self.new.reserved ≡ self.old.reserved }
     {
-        let Some(spares) = &self.spares else {
-            return false;
-        };
-        let Some(spare) = spares.take(self.filled, least, most) else {
-            return false;
-        };
-        self.all = with_front(spare, self.as_slice());
-        true
+        let Buffer {
+            all,
+            filled,
+            spares,
+        } = self;
+        match spares {
+            Some(spares) => exchange(all, *filled, spares, least, most),
+            None => false,
+        }
     }
 
     /// Moves the bytes to memory that several owners can have, and returns it: it begins with them.
@@ -258,6 +286,24 @@ impl Buffer {
             }
         }
     }
+}
+
+/// Moves the first `filled` bytes into a spare with `least` to `most` bytes of memory, and returns
+/// whether there was one. The former memory becomes a spare.
+fn exchange(all: &mut Vec<u8>, filled: usize, spares: &Spares, least: usize, most: usize) -> bool
+    requires { filled ≤ length all.old.items }
+    ensures same { take filled all.new.items ≡ take filled all.old.items }
+    ensures inside { filled ≤ length all.new.items }
+    ensures taken { IsTrue result → vec_capacity all.new ≤ most }
+    ensures none { IsFalse result → all.new ≡ all.old }
+{
+    let Some(spare) = spares.take(filled, least, most) else {
+        return false;
+    };
+    let (front, _) = all.as_slice().split_at(filled);
+    let moved = with_front(spare, front);
+    spares.keep(mem::replace(all, moved));
+    true
 }
 
 /// Extends a vector with zeros as far as it has memory.

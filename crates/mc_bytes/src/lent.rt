@@ -120,6 +120,13 @@ impl Lent {
         self.memory.bytes.len()
     }
 
+    /// Returns whether its bytes come right behind those of another part, in memory of the same size.
+    ///
+    /// Two parts of one hit for which it is true have the same memory.
+    pub(crate) fn comes_behind(&self, before: &Lent) -> bool {
+        self.from == before.to && self.memory.bytes.len() == before.memory.bytes.len()
+    }
+
     /// Leaves the first `count` bytes out from now on. The others are unchanged.
     pub fn drop_front(&mut self, count: usize)
         requires { count ≤ length self.old }

@@ -80,13 +80,18 @@ impl Lents {
 
     /// Returns the number of bytes of the memory that its parts keep.
     ///
-    /// A part keeps its memory whole, so that is more than its bytes.
+    /// A part keeps its memory whole, so that is more than its bytes. Memory that several parts lie
+    /// in, one right behind another, counts once.
     pub fn kept_bytes(&self) -> usize
         ensures { length self.now ≤ result }
     {
         let mut kept = self.first.kept_bytes();
+        let mut before = &self.first;
         for part in self.rest.iter() {
-            kept = kept.saturating_add(part.kept_bytes());
+            if !part.comes_behind(before) {
+                kept = kept.saturating_add(part.kept_bytes());
+            }
+            before = part;
         }
         kept.max(self.left)
     }

@@ -310,7 +310,7 @@ impl<const KEPT: usize> Queue<KEPT> {
     /// Reserves room for a text of `whole` bytes, if that is more than `KEPT`.
     ///
     /// Before a sixteenth of it is there the room is a sixteenth and a piece. From then on it is the
-    /// whole text's, or a spare that has at most an eighth more.
+    /// whole text's. A spare that has at most an eighth more serves as well.
     fn make_room(&mut self, whole: usize)
         requires { IsHalfFull self.old }
         ensures same { self.new.bytes ≡ self.old.bytes }
@@ -325,7 +325,7 @@ impl<const KEPT: usize> Queue<KEPT> {
             0
         };
         if there < wanted {
-            let most = whole.saturating_add(whole / 8);
+            let most = wanted.saturating_add(wanted / 8);
             self.buffer
                 .reserve(wanted - there, most.min(begun(there)), wanted == whole);
         }

@@ -53,8 +53,6 @@ impl Spares {
 
     /// Takes a buffer with `least` to `most` bytes of memory, of which the first `front` may be
     /// written.
-    ///
-    /// If there is none, buffers of `least` bytes together are freed: the caller allocates as many.
     pub(crate) fn take(&self, front: usize, least: usize, most: usize) -> Option<Vec<u8>>
         ensures front { IfSome result (λ buffer. front ≤ length buffer.items) }
         ensures most { IfSome result (λ buffer. vec_capacity buffer ≤ most) }
@@ -63,6 +61,14 @@ impl Spares {
             return None;
         };
         kept.take(front, least, most)
+    }
+
+    /// Frees buffers of `bytes` bytes together, the longest kept first: the caller allocates as many.
+    pub(crate) fn make_way(&self, bytes: usize) {
+        if let Ok(mut kept) = self.kept.try_borrow_mut() {
+            let most = kept.memory().saturating_sub(bytes);
+            kept.keep_within(most);
+        }
     }
 
     /// Keeps a buffer that is no longer wanted, or frees it if it is small. Of more than 8 the
@@ -102,15 +108,12 @@ struct Kept {
 
 impl Kept {
     /// Takes a buffer with `least` to `most` bytes of memory, of which the first `front` may be
-    /// written. If there is none, buffers of `least` bytes together are freed.
+    /// written.
     fn take(&mut self, front: usize, least: usize, most: usize) -> Option<Vec<u8>>
         ensures front { IfSome result (λ buffer. front ≤ length buffer.items) }
         ensures most { IfSome result (λ buffer. vec_capacity buffer ≤ most) }
     {
-        let Some(at) = place_of(self.buffers.as_slice(), front, least, most) else {
-            self.keep_within(self.memory().saturating_sub(least));
-            return None;
-        };
+        let at = place_of(self.buffers.as_slice(), front, least, most)?;
         let buffer = self.buffers.remove(at);
         self.unused = self.unused.min(self.buffers.len());
         if buffer.len() < front || buffer.capacity() > most {

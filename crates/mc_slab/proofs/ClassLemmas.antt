@@ -23,6 +23,8 @@ pub chunk_sizes-is : chunk_sizes ≡ table
 unfolding chunk_sizes
 chunk_sizes-is = refl
 
+pub ruleset sizes = (chunk_sizes-is)
+
 -- there are 40
 pub length-chunk_sizes : length chunk_sizes ≡ 40
 unfolding chunk_sizes

@@ -1,7 +1,6 @@
 pub mod BlockLemmas
 pub mod ChunkLemmas
 pub mod ClassLemmas
-pub mod CutLemmas
 pub mod HeldLemmas
 pub mod NeedLemmas
 pub mod ReadyLemmas

@@ -20,6 +20,10 @@ coded_chunks =
     (λ p. record { class = p.0; count = p.1.0; bytes = p.1.1.0; head = p.1.1.1 })
     (λ _. refl)
 
+-- one chunk of a class
+abbrev pub one_chunk : (class : ℕ) → (bytes head : List ℕ) → ChunksState
+one_chunk class bytes head = record { class = class; count = 1; bytes = bytes; head = head }
+
 -- the need that they serve
 abbrev pub need_in : ChunksState → NeedState
 need_in chunks = record { class = chunks.class; count = chunks.count }
@@ -40,6 +44,11 @@ pub record AreChunksOf (need : NeedState) (chunks : ChunksState) : Type 0 where
   pub need_is : need_in chunks ≡ need
   pub are : AreChunks chunks
 
+-- The bytes of the first chunk: all bytes of a class below the last, and a page of those of the last.
+pub record IsFirst (chunks : ChunksState) (first : List ℕ) : Type 0 where
+  pub alone : chunks.class < 40 → first ≡ chunks.bytes
+  pub page : chunks.class ≡ 40 → first ≡ take 1048576 chunks.bytes
+
 -- the bytes of the chunk at a place, the first at 0
 abbrev pub chunk_at : ChunksState → ℕ → List ℕ
 chunk_at chunks at = take (size_of chunks.class) (drop (at * size_of chunks.class) chunks.bytes)
@@ -53,11 +62,10 @@ abbrev pub written_cut : ChunksState → (at : ℕ) → (part : List ℕ) → Ch
 written_cut chunks at part =
     record chunks { bytes = with_part chunks.bytes at part; head = with_part chunks.bytes at part }
 
--- Chunks that took the memory of a part over: one chunk of a class from 27 on, whose bytes now begin with the part's, and
--- else are of any content. They are as many as before, and everything else is as it was.
+-- Chunks that took the memory of a part over: chunks of a class from 27 on, whose bytes now begin with the part's, and else
+-- are of any content. They are as many as before, and everything else is as it was.
 pub record TakesOver (old : ChunksState) (part : List ℕ) (new : ChunksState) : Type 0 where
   pub class : 27 ≤ old.class
-  pub count : old.count ≡ 1
   pub begins : take (length part) new.bytes ≡ part
   pub size : length new.bytes ≡ length old.bytes
   pub same : new ≡ record old { bytes = new.bytes }

@@ -5,7 +5,9 @@
 //! a reader. If so, the reader keeps the memory, and the chunk goes on in a copy.
 //!
 //! A chunk may also take over the memory of bytes that are to be written to it, which saves their
-//! copy. The memory that it had goes to who held those bytes.
+//! copy. The memory that it had goes to who held those bytes. Linked chunks take over a piece each
+//! of one memory. Before one of them is written it copies its piece, and before they are parted
+//! each gives its piece up for blank memory, so that no piece keeps the memory of the others.
 //!
 //! A write can't fail, so memory for a copy is reserved when the chunk is made. It is touched only
 //! if other memory for a copy is refused.
@@ -129,15 +131,37 @@ impl Lendable {
     /// memory is left with the part.
     ///
     /// `false` if it doesn't, and nothing changed: if the bytes lie in memory that can't be lent, or
-    /// the part's memory is smaller than they are, or much larger.
-    pub(crate) fn take_over(&mut self, part: &Lent) -> bool
+    /// the part's memory has too few bytes from the part on, or more than `most` in all.
+    pub(crate) fn take_over(&mut self, part: &Lent, most: usize) -> bool
         requires { length part.now ≤ length self.old }
         ensures taken { IsTrue result → take (length part.now) self.new ≡ part.now }
         ensures size { length self.new ≡ length self.old }
         ensures kept { IsFalse result → self.new ≡ self.old }
     {
         let Lendable { memory } = self;
-        exchange(memory, part)
+        exchange(memory, part, most)
+    }
+
+    /// Copies the bytes to memory of their own if they are a piece of larger memory.
+    pub(crate) fn settle(&mut self)
+        ensures { self.new ≡ self.old }
+    {
+        let Lendable { memory } = self;
+        if is_piece(memory) {
+            let old = mem::replace(memory, Memory::Hollow);
+            *memory = written_copy(old, 0, &[]);
+        }
+    }
+
+    /// Takes blank memory if the bytes are a piece of larger memory. They are unspecified then. It
+    /// takes no memory.
+    pub(crate) fn give_up(&mut self, blank: &Arc<Large>)
+        ensures { length self.new ≡ length self.old }
+    {
+        let Lendable { memory } = self;
+        if is_piece(memory) {
+            make_blank(memory, blank);
+        }
     }
 
     /// Copies `part` to the place `at`. The other bytes are unchanged.
@@ -242,6 +266,54 @@ fn written_copy(memory: Memory, at: usize, part: &[u8]) -> Memory
     }
 }
 
+/// Returns whether the bytes are a piece of larger memory, in which other chunks' bytes lie.
+fn is_piece(memory: &Memory) -> bool
+    ensures { IsTrue result → is_shared memory.now ≡ true }
+{
+    match memory {
+        Memory::Shared { large, size, .. } => large.bytes.len() > size.saturating_add(BESIDE),
+        Memory::Own(_) | Memory::Hollow => false,
+    }
+}
+
+/// Has bytes that can be lent lie in blank memory, unless that is too small.
+fn make_blank(memory: &mut Memory, blank: &Arc<Large>)
+    requires { IsBlock memory.old }
+    ensures size { length (bytes_in memory.new) ≡ length (bytes_in memory.old) }
+    ensures block { IsBlock memory.new }
+{
+    if let Memory::Shared {
+        large,
+        from,
+        size,
+        ..
+    } = memory
+    {
+        if blank.bytes.len() < *size {
+            return;
+        }
+        if let Ok(other) = Arc::try_clone(blank) {
+            *from = 0;
+            *large = other;
+        }
+    }
+}
+
+/// Allocates memory of `size` zeros in which blank chunks lie. `None` if memory is refused.
+pub(crate) fn blank_memory(alloc: Global, size: usize) -> Option<Arc<Large>> {
+    let Ok(bytes) = Vec::with_capacity(alloc, size) else {
+        return None;
+    };
+    let mut large = Large { bytes };
+    if large.bytes.resize(size, 0).is_err() {
+        return None;
+    }
+    match Arc::new(alloc, large) {
+        Ok(blank) => Some(blank),
+        Err(_) => None,
+    }
+}
+
 /// Returns a copy in empty memory that has room for it, with `part` at the place `at`.
 ///
 /// The bytes that the part takes the place of aren't copied.
@@ -265,7 +337,7 @@ fn copy_into(empty: Large, bytes: &[u8], at: usize, part: &[u8]) -> Large
 /// whether it did.
 ///
 /// If not, the memory is unchanged. If so, the part has what it was.
-fn exchange(memory: &mut Memory, part: &Lent) -> bool
+fn exchange(memory: &mut Memory, part: &Lent, most: usize) -> bool
     requires block { IsBlock memory.old }
     requires room { length part.now ≤ length (bytes_in memory.old) }
     ensures taken { IsTrue result → take (length part.now) (bytes_in memory.new) ≡ part.now }
@@ -281,7 +353,7 @@ fn exchange(memory: &mut Memory, part: &Lent) -> bool
             ..
         } => match part.memory() {
             Some((other, place)) => {
-                if !fits(other.bytes.len(), place, *size) {
+                if !fits(other.bytes.len(), place, *size, most) {
                     return false;
                 }
                 *from = place;
@@ -294,12 +366,12 @@ fn exchange(memory: &mut Memory, part: &Lent) -> bool
     }
 }
 
-/// Returns whether memory of `len` bytes has `size` from a place on, and few others.
-fn fits(len: usize, place: usize, size: usize) -> bool
+/// Returns whether memory of `len` bytes has `size` from a place on, and at most `most` in all.
+fn fits(len: usize, place: usize, size: usize, most: usize) -> bool
     requires { place ≤ len }
-    ensures { IsTrue result ↔ (place + size ≤ len) × (len ≤ size + 512) }
+    ensures { IsTrue result ↔ (place + size ≤ len) × (len ≤ most) }
 {
-    size <= len - place && len - size <= BESIDE
+    size <= len - place && len <= most
 }
 
 /// Lends `size` bytes from a place on.

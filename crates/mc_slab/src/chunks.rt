@@ -18,15 +18,16 @@ ghost use Rattle.mc_slab.specs.Classes.{size_of};
 ghost use Rattle.mc_slab.specs.Helds.{chunks_in};
 ghost use Rattle.mc_slab.specs.declared.held.Held.TheVariants.{Sheets};
 
+use crate::block::BESIDE;
 use crate::class::Class;
-use crate::cut;
 use crate::held::{self, Held};
 use crate::lone::LoneChunk;
 use crate::need::Need;
 use crate::sheet::Sheet;
-use mc_bytes::Lent;
+use mc_bytes::{Large, Lent};
 use std::alloc::{AllocError, Global};
 use std::marker::Model;
+use std::sync::Arc;
 
 /// One chunk of a class, or two to eight chunks of a page each.
 ///
@@ -137,19 +138,31 @@ impl Chunks {
         held::write_head(&mut self.held, at, part);
     }
 
-    /// Takes the memory of a part over as its own: the chunk begins with the part's bytes, and those
-    /// behind them are unspecified. Its former memory is left with the part.
+    /// Takes the memory of a part over as its own: the chunks begin with the part's bytes, and those
+    /// behind them are unspecified. Their former memory is left with the part.
     ///
-    /// It copies nothing, and takes no memory. `false` if it doesn't: below class 27, for several
-    /// chunks, if the chunk can't be lent, and if the part's memory is smaller than the chunk from the
-    /// part's begin on, or more than 512 bytes larger. Then nothing changed.
+    /// It copies nothing, and takes no memory. `false` if it doesn't: below class 27, if the chunk
+    /// can't be lent, and if the part's memory is smaller than the chunk from the part's begin on, or
+    /// more than 512 bytes larger than all chunks. Then nothing changed. Several chunks take over a
+    /// piece each, and one behind the first that can't copies it.
     pub fn take_over(&mut self, part: &Lent) -> bool
         requires { length part.now ≤ length self.old.bytes }
         ensures taken { IsTrue result → TakesOver self.old part.now self.new }
         ensures kept { IsFalse result → self.new ≡ self.old }
         ensures are { AreChunks self.new }
     {
-        held::take_over(&mut self.held, part)
+        let need = held::need(&self.held);
+        held::take_over(&mut self.held, part, memory_of(need))
+    }
+
+    /// Has chunks of the last class whose bytes are pieces of one memory lie in blank memory.
+    ///
+    /// Their bytes are unspecified then. It takes no memory.
+    pub(crate) fn give_up(&mut self, blank: &Arc<Large>)
+        ensures same { self.new ≡ record self.old { bytes = self.new.bytes } }
+        ensures are { AreChunks self.new }
+    {
+        held::give_up(&mut self.held, blank);
     }
 
     /// Cuts one chunk of a class below 27 off the front of memory.
@@ -161,7 +174,8 @@ impl Chunks {
         ensures chunk { AreChunksOf (record { class = class; count = 1 }) result.0 }
         ensures rest { length result.1.now + size_of class ≡ length memory.entry.now }
     {
-        let (held, rest) = cut::cut(class, memory);
+        let (bytes, rest) = memory.split_at_mut(class.size() as usize);
+        let held = held::of_bytes(class, bytes);
         (Chunks { held }, rest)
     }
 
@@ -206,6 +220,13 @@ impl Chunks {
         let (one, behind) = Sheet::taken_off(held::into_sheet(self.held));
         (of_sheets(one), of_sheets(behind))
     }
+}
+
+/// Returns how many bytes memory may have that chunks of a need take over.
+fn memory_of(need: Need) -> usize {
+    let size = need.class().size() as usize;
+    size.saturating_mul(need.count() as usize)
+        .saturating_add(BESIDE)
 }
 
 /// Returns the chunk of a class from 27 to 39 whose memory is given.

@@ -19,39 +19,22 @@ pub(crate) const LENT: u8 = 27;
 /// chunk.
 ///
 /// What else the macro takes stands in front of them. `all` lists each class, `cut` the first 26,
-/// and `lent` the others. Each smaller part is cut by one function of `cut.rt`. The last class of a
-/// part stands behind a semicolon.
+/// and `lent` the others.
 macro_rules! each_class {
-    (tiny $to:ident! $($given:tt)*) => {
+    (cut $to:ident! $($given:tt)*) => {
         $to! { $($given)*
-            1 C1 96, 2 C2 120, 3 C3 152, 4 C4 192,
-            5 C5 240, 6 C6 304, 7 C7 384; 8 C8 480, }
-    };
-    (small $to:ident! $($given:tt)*) => {
-        $to! { $($given)*
-            9 C9 600, 10 C10 752, 11 C11 944, 12 C12 1184,
-            13 C13 1480, 14 C14 1856, 15 C15 2320; 16 C16 2904, }
-    };
-    (middle $to:ident! $($given:tt)*) => {
-        $to! { $($given)*
-            17 C17 3632, 18 C18 4544, 19 C19 5680, 20 C20 7104,
-            21 C21 8880, 22 C22 11104, 23 C23 13880; 24 C24 17352, }
-    };
-    (large $to:ident! $($given:tt)*) => {
-        $to! { $($given)*
-            25 C25 21696; 26 C26 27120, }
+            1 C1 96, 2 C2 120, 3 C3 152, 4 C4 192, 5 C5 240, 6 C6 304, 7 C7 384, 8 C8 480,
+            9 C9 600, 10 C10 752, 11 C11 944, 12 C12 1184, 13 C13 1480, 14 C14 1856,
+            15 C15 2320, 16 C16 2904, 17 C17 3632, 18 C18 4544, 19 C19 5680, 20 C20 7104,
+            21 C21 8880, 22 C22 11104, 23 C23 13880, 24 C24 17352, 25 C25 21696, 26 C26 27120, }
     };
     (lent $to:ident! $($given:tt)*) => {
         $to! { $($given)*
             27 C27 33904, 28 C28 42384, 29 C29 52984, 30 C30 66232,
             31 C31 82792, 32 C32 103496, 33 C33 129376, 34 C34 161720,
-            35 C35 202152, 36 C36 252696, 37 C37 315872, 38 C38 394840; 39 C39 493552, }
+            35 C35 202152, 36 C36 252696, 37 C37 315872, 38 C38 394840, 39 C39 493552, }
     };
-    // Each part is handed back to this macro, which puts the next part behind it.
-    (cut $to:ident! $($given:tt)*) => {
-        each_class! { tiny each_class! small each_class! middle each_class! large
-            $to! $($given)* }
-    };
+    // The first part is handed back to this macro, which puts the next part behind it.
     (all $to:ident! $($given:tt)*) => {
         each_class! { cut each_class! lent $to! $($given)* }
     };
@@ -61,7 +44,7 @@ pub(crate) use each_class;
 
 /// Lists the bytes of a chunk of each class, with those of the last, which is a page.
 macro_rules! sizes {
-    ($($number:literal $variant:ident $size:literal $end:tt)*) => {
+    ($($number:literal $variant:ident $size:literal,)*) => {
         [$($size,)* 1048576]
     };
 }

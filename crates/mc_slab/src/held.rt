@@ -10,21 +10,24 @@
 ghost use Rattle.std.specs.Prelude.{◌≡◌, ◌+◌, ◌-◌, ◌<◌, ◌≤◌, length, take, drop, IfSome, IsTrue, IsFalse};
 ghost use Rattle.mc_slab.specs.Chunks.{
   AreChunks,
+  IsFirst,
   IsHead,
   TakesOver,
   chunk_at,
   need_in,
+  one_chunk,
   with_part,
   written_cut,
 };
 ghost use Rattle.mc_slab.specs.Classes.{size_of};
-ghost use Rattle.mc_slab.specs.Helds.{chunks_in, first_in};
+ghost use Rattle.mc_slab.specs.Helds.{chunks_in};
 
 use crate::class::{CLASSES, Class, LENT, each_class};
 use crate::lone::LoneChunk;
 use crate::need::Need;
 use crate::sheet::Sheet;
-use mc_bytes::Lent;
+use mc_bytes::{Large, Lent};
+use std::sync::Arc;
 
 /// One chunk of a class below the last, or the chunks of the last class.
 ///
@@ -76,7 +79,7 @@ pub(crate) enum Held {
 
 /// Matches on where chunks lie. Each arm gives the class.
 macro_rules! match_class {
-    ($held:ident $($number:literal $variant:ident $size:literal $end:tt)*) => {
+    ($held:ident $($number:literal $variant:ident $size:literal,)*) => {
         match $held {
             $(Held::$variant(_) => Class::of($number),)*
             Held::Sheets(_) => Class::of(CLASSES),
@@ -87,7 +90,7 @@ macro_rules! match_class {
 /// Matches on where one chunk of some classes lies. They share one arm, which sees the pointer.
 macro_rules! match_one {
     ($held:ident { $one:ident => $then:expr, $others:pat => $else:expr, }
-        $($number:literal $variant:ident $size:literal $end:tt)*) => {
+        $($number:literal $variant:ident $size:literal,)*) => {
         match $held {
             $(Held::$variant($one) => $then,)*
             $others => $else,
@@ -98,7 +101,7 @@ macro_rules! match_one {
 /// Matches on where chunks lie that can be lent. Lone ones share one arm.
 macro_rules! match_lent {
     ($held:ident { $lone:ident => $one:expr, $sheet:ident => $last:expr, }
-        $($number:literal $variant:ident $size:literal $end:tt)*) => {
+        $($number:literal $variant:ident $size:literal,)*) => {
         match $held {
             $(Held::$variant($lone) => $one,)*
             Held::Sheets($sheet) => $last,
@@ -107,15 +110,12 @@ macro_rules! match_lent {
     };
 }
 
-/// Returns where a chunk of a class from 27 to 39 lies whose memory is given.
-///
-/// The last of these classes has the default arm.
+/// Matches on the class of one chunk. Each arm gives where it lies, with the same pointer.
 macro_rules! of_class {
-    ($class:ident $lone:ident $($number:literal $variant:ident $size:literal),*;
-        $last:literal $default:ident $greatest:literal,) => {
+    ($class:ident ($pointer:expr) $($number:literal $variant:ident $size:literal,)*) => {
         match $class.number() {
-            $($number => Held::$variant($lone),)*
-            _ => Held::$default($lone),
+            $($number => Held::$variant($pointer),)*
+            _ => unreachable!(),
         }
     };
 }
@@ -154,7 +154,7 @@ pub(crate) fn first(held: &Held) -> &[u8]
 /// Lends the bytes of the first chunk.
 fn whole(held: &Held) -> &[u8]
     requires { 1 ≤ (chunks_in held.now).count }
-    ensures { result.now ≡ first_in held.now }
+    ensures { IsFirst (chunks_in held.now) result.now }
 {
     if class(held).number() < LENT {
         cut_bytes(held)
@@ -166,7 +166,7 @@ fn whole(held: &Held) -> &[u8]
 /// Lends the bytes of a chunk of a class below 27.
 fn cut_bytes(held: &Held) -> &[u8]
     requires { (chunks_in held.now).class < 27 }
-    ensures { result.now ≡ first_in held.now }
+    ensures { result.now ≡ (chunks_in held.now).bytes }
 {
     each_class!(cut match_one! held { bytes => &bytes[..], _ => unreachable!(), })
 }
@@ -176,7 +176,7 @@ fn cut_bytes(held: &Held) -> &[u8]
 fn lent_bytes(held: &Held) -> &[u8]
     requires class { 27 ≤ (chunks_in held.now).class }
     requires some { 1 ≤ (chunks_in held.now).count }
-    ensures { result.now ≡ first_in held.now }
+    ensures { IsFirst (chunks_in held.now) result.now }
 {
     each_class!(lent match_lent! held {
         lone => lone.bytes(),
@@ -270,8 +270,9 @@ pub(crate) fn write_head(held: &mut Held, at: usize, part: &[u8])
 
 /// Takes the memory of a part over as that of the chunk: its bytes begin with the part's.
 ///
-/// `false` if it doesn't, as below class 27 and for several chunks, and nothing changed.
-pub(crate) fn take_over(held: &mut Held, part: &Lent) -> bool
+/// `false` if it doesn't, as below class 27 and for memory of more than `most` bytes, and nothing
+/// changed.
+pub(crate) fn take_over(held: &mut Held, part: &Lent, most: usize) -> bool
     requires { length part.now ≤ length (chunks_in held.old).bytes }
     ensures taken { IsTrue result
         → TakesOver (chunks_in held.old) part.now (chunks_in held.new) }
@@ -280,7 +281,19 @@ pub(crate) fn take_over(held: &mut Held, part: &Lent) -> bool
     if class(held).number() < LENT {
         return false;
     }
-    take_over_lent(held, part)
+    take_over_lent(held, part, most)
+}
+
+/// Has chunks of the last class whose bytes are pieces of one memory lie in blank memory.
+pub(crate) fn give_up(held: &mut Held, blank: &Arc<Large>)
+    ensures size { length (chunks_in held.new).bytes ≡ length (chunks_in held.old).bytes }
+    ensures same { chunks_in held.new
+        ≡ record (chunks_in held.old) { bytes = (chunks_in held.new).bytes } }
+{
+    match held {
+        Held::Sheets(sheet) => sheet.give_up(blank),
+        _ => {}
+    }
 }
 
 /// Copies `part` to the place `at` of a chunk of a class below 27.
@@ -313,7 +326,7 @@ fn write_lent(held: &mut Held, at: usize, part: &[u8])
 
 /// Takes the memory of a part over as that of a chunk that can be lent, and returns whether it did.
 #[inline(never)]
-fn take_over_lent(held: &mut Held, part: &Lent) -> bool
+fn take_over_lent(held: &mut Held, part: &Lent, most: usize) -> bool
     requires class { 27 ≤ (chunks_in held.old).class }
     requires room { length part.now ≤ length (chunks_in held.old).bytes }
     ensures taken { IsTrue result
@@ -321,8 +334,8 @@ fn take_over_lent(held: &mut Held, part: &Lent) -> bool
     ensures kept { IsFalse result → chunks_in held.new ≡ chunks_in held.old }
 {
     each_class!(lent match_lent! held {
-        lone => lone.take_over(part),
-        sheet => sheet.take_over(part),
+        lone => lone.take_over(part, most),
+        sheet => sheet.take_over(part, most),
     })
 }
 
@@ -369,17 +382,31 @@ fn lone(held: &Held) -> &LoneChunk
     each_class!(lent match_one! held { lone => lone, _ => unreachable!(), })
 }
 
+/// Returns where a chunk of a class below 27 lies whose bytes are given.
+#[tactic(auto, using(crate::proofs::ClassLemmas::sizes))]
+pub(crate) fn of_bytes(class: Class, bytes: &'static mut [u8]) -> Held
+    requires class { class < 27 }
+    requires size { length bytes.old ≡ size_of class }
+    ensures { chunks_in result ≡ one_chunk class bytes.entry.now bytes.entry.now }
+{
+    each_class!(cut of_class! class (array_of(bytes)))
+}
+
+/// Returns `N` bytes as an array.
+fn array_of<const N: usize>(bytes: &'static mut [u8]) -> &'static mut [u8; N]
+    requires { length bytes.old ≡ N }
+    ensures { result.now ≡ bytes.entry.now }
+{
+    let (array, _) = bytes.split_first_chunk_mut::<N>().unwrap();
+    array
+}
+
 /// Returns where a chunk of a class from 27 to 39 lies whose memory is given.
 pub(crate) fn of_lone(class: Class, lone: Box<LoneChunk>) -> Held
     requires { (27 ≤ class) × (class < 40) }
-    ensures { chunks_in result ≡ record {
-      class = class;
-      count = 1;
-      bytes = lone.value.bytes;
-      head = lone.value.head;
-    } }
+    ensures { chunks_in result ≡ one_chunk class lone.value.bytes lone.value.head }
 {
-    each_class!(lent of_class! class lone)
+    each_class!(lent of_class! class (lone))
 }
 
 /// Lends the sheet of chunks of the last class.

@@ -31,7 +31,6 @@
 mod block;
 mod chunks;
 mod class;
-mod cut;
 mod head;
 mod held;
 mod laws;

@@ -80,15 +80,15 @@ impl LoneChunk {
     /// Takes the memory of a part over as that of its bytes: they begin with the part's. Their
     /// former memory is left with the part.
     ///
-    /// `false` if it doesn't, and nothing changed.
-    pub(crate) fn take_over(&mut self, part: &Lent) -> bool
+    /// `false` if it doesn't, as for memory of more than `most` bytes, and nothing changed.
+    pub(crate) fn take_over(&mut self, part: &Lent, most: usize) -> bool
         requires { length part.now ≤ length self.old.bytes }
         ensures taken { IsTrue result → take (length part.now) self.new.bytes ≡ part.now }
         ensures size { length self.new.bytes ≡ length self.old.bytes }
         ensures head { self.new.head ≡ self.old.head }
         ensures kept { IsFalse result → self.new ≡ self.old }
     {
-        self.block.take_over(part)
+        self.block.take_over(part, most)
     }
 
     /// Copies `part` to the place `at` of the head. Everything else is unchanged.

@@ -1,4 +1,7 @@
 //! Memory that isn't cut into chunks yet, in runs.
+//!
+//! A page of a class below 27 is reserved in runs of at most 32768 bytes. A run is written and cut
+//! when its first chunk is taken.
 
 ghost use Rattle.std.specs.Prelude.{◌≡◌, ◌+◌, ◌*◌, ◌^◌, ◌<◌, ◌≤◌, [], IfOk, OnOk, OnErr, vec_len, vec_capacity};
 ghost use Rattle.std.specs.List.{All};
@@ -147,6 +150,8 @@ fn zero_memory(memory: Memory, class: Class, count: u32) -> Memory
 }
 
 /// Cuts the memory of `count` chunks of a class below 27.
+///
+/// It stays with the process, because such a chunk is a slice that lives as long as the process.
 fn cut_bytes(mut bytes: Vec<u8>, class: Class, count: u32, chunks: &mut Vec<Chunks>)
     requires class { IsClass class × (class < 27) }
     requires bytes { count * size_of class ≤ vec_capacity bytes }

@@ -6,10 +6,11 @@ ghost use Rattle.mc_slab.specs.Sheets.{sheets_in};
 
 use crate::head::HeadBytes;
 use crate::whole::{WHOLE, Whole};
-use mc_bytes::Lent;
+use mc_bytes::{Large, Lent};
 use std::alloc::{AllocError, Global};
 use std::marker::Model;
 use std::mem;
+use std::sync::Arc;
 
 /// A chunk of a page's size, and the chunks that are linked behind it.
 ///
@@ -201,27 +202,86 @@ impl Sheet {
     {
         match &mut self.node {
             Node::Last(whole) => write_last(whole, at, part),
-            Node::Before(whole, behind) => write_before(whole, &mut **behind, at, part),
+            Node::Before(whole, behind) => {
+                whole.settle();
+                behind.settle();
+                write_before(whole, &mut **behind, at, part);
+            }
             Node::Hollow => {}
         }
     }
 
-    /// Takes the memory of a part over as that of its only chunk: the bytes begin with the part's.
-    /// Its former memory is left with the part.
-    ///
-    /// `false` if it doesn't, as for several chunks, and nothing changed.
+    /// Copies the bytes of chunks that are pieces of larger memory to memory of each chunk.
     #[inline(never)]
-    pub(crate) fn take_over(&mut self, part: &Lent) -> bool
+    fn settle(&mut self)
+        ensures { self.new ≡ self.old }
+    {
+        match &mut self.node {
+            Node::Last(whole) => whole.settle(),
+            Node::Before(whole, behind) => {
+                whole.settle();
+                behind.settle();
+            }
+            Node::Hollow => {}
+        }
+    }
+
+    /// Has chunks whose bytes are pieces of larger memory lie in blank memory.
+    ///
+    /// Their bytes are unspecified then. It takes no memory.
+    #[inline(never)]
+    pub(crate) fn give_up(&mut self, blank: &Arc<Large>)
+        ensures size { length self.new.1.0 ≡ length self.old.1.0 }
+        ensures same { (self.new.0 ≡ self.old.0) × (self.new.1.1 ≡ self.old.1.1) }
+    {
+        match &mut self.node {
+            Node::Last(whole) => {
+                whole.is_whole();
+                whole.give_up(blank);
+            }
+            Node::Before(whole, behind) => {
+                whole.is_whole();
+                whole.give_up(blank);
+                behind.give_up(blank);
+            }
+            Node::Hollow => {}
+        }
+    }
+
+    /// Takes the memory of a part over as that of its chunks: the bytes begin with the part's. Their
+    /// former memory is left with the part.
+    ///
+    /// `false` if the first doesn't, as for memory of more than `most` bytes, and nothing changed. One
+    /// of the others that can't take its piece over copies it.
+    #[inline(never)]
+    pub(crate) fn take_over(&mut self, part: &Lent, most: usize) -> bool
         requires { length part.now ≤ length self.old.1.0 }
-        ensures one { IsTrue result → self.old.0 ≡ 1 }
         ensures taken { IsTrue result → take (length part.now) self.new.1.0 ≡ part.now }
         ensures size { length self.new.1.0 ≡ length self.old.1.0 }
         ensures same { (self.new.0 ≡ self.old.0) × (self.new.1.1 ≡ self.old.1.1) }
         ensures kept { IsFalse result → self.new ≡ self.old }
     {
         match &mut self.node {
-            Node::Last(whole) => take_over_last(whole, part),
-            Node::Before(_, _) | Node::Hollow => false,
+            Node::Last(whole) => take_over_last(whole, part, most),
+            Node::Before(whole, behind) => take_over_all(whole, &mut **behind, part, most),
+            Node::Hollow => false,
+        }
+    }
+
+    /// Has the bytes begin with those of a part from the place `at` on, as `take_over` does.
+    #[cycle(put_from)]
+    #[inline(never)]
+    fn put_from(&mut self, part: &Lent, at: usize, most: usize)
+        requires inside { at ≤ length part.now }
+        requires room { length part.now - at ≤ length self.old.1.0 }
+        ensures begins { take (length part.now - at) self.new.1.0 ≡ drop at part.now }
+        ensures size { length self.new.1.0 ≡ length self.old.1.0 }
+        ensures same { (self.new.0 ≡ self.old.0) × (self.new.1.1 ≡ self.old.1.1) }
+    {
+        match &mut self.node {
+            Node::Last(whole) => put_last(whole, part, at, most),
+            Node::Before(whole, behind) => put_before(whole, &mut **behind, part, at, most),
+            Node::Hollow => {}
         }
     }
 
@@ -278,14 +338,109 @@ fn write_last(whole: &mut Whole, at: usize, part: &[u8])
 }
 
 /// Takes the memory of a part over as that of the last chunk, and returns whether it did.
-fn take_over_last(whole: &mut Whole, part: &Lent) -> bool
+fn take_over_last(whole: &mut Whole, part: &Lent, most: usize) -> bool
     requires { length part.now ≤ length whole.old }
     ensures taken { IsTrue result → take (length part.now) whole.new ≡ part.now }
     ensures size { length whole.new ≡ length whole.old }
     ensures kept { IsFalse result → whole.new ≡ whole.old }
 {
     whole.is_whole();
-    whole.take_over(part)
+    whole.take_over(part, most)
+}
+
+/// Takes the memory of a part over as that of a chunk and those behind it, and returns whether the
+/// first did.
+fn take_over_all(whole: &mut Whole, behind: &mut Sheet, part: &Lent, most: usize) -> bool
+    requires { length part.now ≤ length (whole.old ++ behind.old.1.0) }
+    ensures taken { IsTrue result
+        → take (length part.now) (whole.new ++ behind.new.1.0) ≡ part.now }
+    ensures size { length (whole.new ++ behind.new.1.0)
+        ≡ length (whole.old ++ behind.old.1.0) }
+    ensures count { (behind.new.0 ≡ behind.old.0)
+        × (behind.new.1.1 ≡ behind.old.1.1) }
+    ensures kept { IsFalse result → (whole.new ≡ whole.old) × (behind.new ≡ behind.old) }
+{
+    whole.is_whole();
+    let to = end_of_piece(0, part.len());
+    if !take_piece(whole, part, 0, to, most) {
+        return false;
+    }
+    behind.put_from(part, to, most);
+    true
+}
+
+/// Has a chunk and those behind it begin with the bytes of a part from the place `at` on.
+#[cycle(put_from)]
+fn put_before(whole: &mut Whole, behind: &mut Sheet, part: &Lent, at: usize, most: usize)
+    requires inside { at ≤ length part.now }
+    requires room { length part.now - at ≤ length (whole.old ++ behind.old.1.0) }
+    ensures begins { take (length part.now - at) (whole.new ++ behind.new.1.0)
+        ≡ drop at part.now }
+    ensures size { length (whole.new ++ behind.new.1.0)
+        ≡ length (whole.old ++ behind.old.1.0) }
+    ensures count { (behind.new.0 ≡ behind.old.0)
+        × (behind.new.1.1 ≡ behind.old.1.1) }
+{
+    whole.is_whole();
+    let to = end_of_piece(at, part.len());
+    put_piece(whole, part, at, to, most);
+    behind.put_from(part, to, most);
+}
+
+/// Has the last chunk begin with the bytes of a part from the place `at` on.
+fn put_last(whole: &mut Whole, part: &Lent, at: usize, most: usize)
+    requires inside { at ≤ length part.now }
+    requires room { length part.now - at ≤ length whole.old }
+    ensures begins { take (length part.now - at) whole.new ≡ drop at part.now }
+    ensures size { length whole.new ≡ length whole.old }
+{
+    whole.is_whole();
+    put_piece(whole, part, at, part.len(), most);
+}
+
+/// Returns where the piece of `len` bytes ends that begins at a place and is at most a page long.
+fn end_of_piece(at: usize, len: usize) -> usize
+    requires { at ≤ len }
+    ensures order { (at ≤ result) × (result ≤ len) }
+    ensures page { result - at ≤ 1048576 }
+    ensures full { result < len → result ≡ at + 1048576 }
+{
+    if len - at <= WHOLE { len } else { at + WHOLE }
+}
+
+/// Has a chunk begin with the bytes of a part between two places: it takes their memory over, or
+/// copies them.
+fn put_piece(whole: &mut Whole, part: &Lent, from: usize, to: usize, most: usize)
+    requires order { (from ≤ to) × (to ≤ length part.now) }
+    requires page { to - from ≤ 1048576 }
+    ensures begins { take (to - from) whole.new ≡ take (to - from) (drop from part.now) }
+    ensures whole { length whole.new ≡ 1048576 }
+{
+    if !take_piece(whole, part, from, to, most) {
+        whole.write_at(0, &part.as_slice()[from..to]);
+    }
+}
+
+/// Takes the memory of a part between two places over as that of a chunk, and returns whether it
+/// did. The chunk's former memory is left with the part.
+fn take_piece(whole: &mut Whole, part: &Lent, from: usize, to: usize, most: usize) -> bool
+    requires order { (from ≤ to) × (to ≤ length part.now) }
+    requires page { to - from ≤ 1048576 }
+    ensures taken { IsTrue result
+        → take (to - from) whole.new ≡ take (to - from) (drop from part.now) }
+    ensures whole { length whole.new ≡ 1048576 }
+    ensures kept { IsFalse result → whole.new ≡ whole.old }
+{
+    whole.is_whole();
+    if let Some(piece) = part.part(from, to) {
+        if whole.take_over(&piece, most) {
+            if let Some(left) = piece.take_left() {
+                part.leave(left);
+            }
+            return true;
+        }
+    }
+    false
 }
 
 /// Copies `part` to the place `at` of a chunk and those behind it.

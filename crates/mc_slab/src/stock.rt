@@ -2,16 +2,19 @@
 
 ghost use Rattle.std.specs.Prelude.{◌≡◌, ◌+◌, ◌-◌, ◌*◌, ◌<◌, ◌≤◌, OnOk, OnErr, vec_len, vec_capacity};
 ghost use Rattle.std.specs.List.{All};
-ghost use Rattle.mc_slab.specs.Chunks.{AreChunksOf};
+ghost use Rattle.mc_slab.specs.Chunks.{AreChunks, AreChunksOf, need_in};
 ghost use Rattle.mc_slab.specs.Classes.{chunks_a_page};
 ghost use Rattle.mc_slab.specs.Needs.{IsNeed};
 ghost use Rattle.mc_slab.specs.Stocks.{IsChunkOf, all_chunks};
 
+use crate::block::blank_memory;
 use crate::chunks::Chunks;
-use crate::class::Class;
+use crate::class::{CLASSES, Class};
 use crate::run::{Pages, Runs};
+use mc_bytes::Large;
 use std::alloc::{AllocError, Global};
 use std::marker::Model;
+use std::sync::Arc;
 
 /// The pages of a class, and how many of their chunks are out.
 #[derive(Clone, Copy, Debug, PartialEq, Eq)]
@@ -31,6 +34,8 @@ pub(crate) struct Stock {
     out: u32,
     free: Vec<Chunks>,
     uncut: Runs,
+    /// Memory in which chunks lie that were several pages of one memory, once there are some.
+    blank: Option<Arc<Large>>,
 }
 
 impl Model for Stock {
@@ -61,6 +66,7 @@ impl Stock {
             out: 0,
             free: Vec::new(alloc),
             uncut: Runs::new(alloc, class),
+            blank: None,
         }
     }
 
@@ -118,6 +124,9 @@ impl Stock {
         self.free.reserve_exact(more as usize)?;
         self.uncut.join(runs)?;
         self.pages += count;
+        if self.class.number() == CLASSES && 1 < self.pages && self.blank.is_none() {
+            self.blank = blank_memory(alloc, self.class.size() as usize);
+        }
         Ok(())
     }
 
@@ -139,9 +148,25 @@ impl Stock {
         requires class { AreChunksOf (record { class = self.old.class; count = count }) chunks }
         ensures { self.new ≡ record self.old { out = self.old.out - count } }
     {
+        let chunks = whole_pages(chunks, count, &self.blank);
         give_apart(&mut self.free, chunks, count);
         self.out -= count;
     }
+}
+
+/// Returns the chunks, none of which is a piece of larger memory, if blank memory is there.
+fn whole_pages(chunks: Chunks, count: u32, blank: &Option<Arc<Large>>) -> Chunks
+    requires { AreChunks chunks }
+    ensures same { need_in result ≡ need_in chunks.entry }
+    ensures are { AreChunks result }
+{
+    let mut chunks = chunks;
+    if 1 < count {
+        if let Some(blank) = blank {
+            chunks.give_up(blank);
+        }
+    }
+    chunks
 }
 
 /// Takes `count` free chunks, linked, and cuts a run if too few are free.

@@ -5,9 +5,10 @@ ghost use Rattle.mc_slab.specs.Chunks.{with_part};
 
 use crate::block::Lendable;
 use crate::class::PAGE;
-use mc_bytes::Lent;
+use mc_bytes::{Large, Lent};
 use std::alloc::{AllocError, Global};
 use std::marker::Model;
+use std::sync::Arc;
 
 /// Bytes of a sheet's chunk: a page.
 pub(crate) const WHOLE: usize = PAGE as usize;
@@ -68,14 +69,28 @@ impl Whole {
     /// Takes the memory of a part over as its own: the bytes begin with the part's. Its former
     /// memory is left with the part.
     ///
-    /// `false` if it doesn't, and nothing changed.
-    pub(crate) fn take_over(&mut self, part: &Lent) -> bool
+    /// `false` if it doesn't, as for memory of more than `most` bytes, and nothing changed.
+    pub(crate) fn take_over(&mut self, part: &Lent, most: usize) -> bool
         requires { length part.now ≤ 1048576 }
         ensures taken { IsTrue result → take (length part.now) self.new ≡ part.now }
         ensures whole { length self.new ≡ 1048576 }
         ensures kept { IsFalse result → self.new ≡ self.old }
     {
-        self.block.take_over(part)
+        self.block.take_over(part, most)
+    }
+
+    /// Copies the bytes to memory of their own if they are a piece of larger memory.
+    pub(crate) fn settle(&mut self)
+        ensures { self.new ≡ self.old }
+    {
+        self.block.settle();
+    }
+
+    /// Takes blank memory if the bytes are a piece of larger memory. They are unspecified then.
+    pub(crate) fn give_up(&mut self, blank: &Arc<Large>)
+        ensures { length self.new ≡ 1048576 }
+    {
+        self.block.give_up(blank);
     }
 
     /// Copies `part` to the place `at`. The other bytes are unchanged.

@@ -1,13 +1,19 @@
-use Rattle.std.proofs.Common.{length, take, ℕ, List, sym, ap, ◌∙◌, arith}
-use Rattle.std.proofs.lemmas.List.{length-take-le}
-use Rattle.mc_slab.proofs.HeldLemmas.{first_size, first_cut}
+use Rattle.std.proofs.Common.{◌≡◌, length, ℕ, sym, ap, ◌∙◌, arith}
+use Rattle.std.proofs.lemmas.List.{length-take-le, take_all}
+use Rattle.mc_slab.specs.Classes.{size_of}
+use Rattle.mc_slab.specs.Helds.{chunks_in}
+use Rattle.mc_slab.proofs.HeldLemmas.{first_is, first_length}
 use Rattle.mc_slab.proofs.held.first.Goals as goal
 
+size_is : (c : goal.After-size) → c.size.result ≡ length c.whole.result.now
+size_is c =
+    c.size.ensures.value
+    ∙ ap (λ (k : ℕ). size_of k) c.class.ensures
+    ∙ sym (first_length (chunks_in c.args.held.now) c.whole.result.now c.requires c.whole.ensures)
+
 pub slice_bounds-result-end : goal.slice_bounds-result-end
-slice_bounds-result-end c =
-    let whole = first_size c.args.held.now c.class.result c.size.result c.requires c.class.ensures c.size.ensures.value ∙ ap (λ (l : List ℕ). length l) (sym c.whole.ensures) in
-    sym (length-take-le c.size.result c.whole.result.now (omega (arith, whole)))
+slice_bounds-result-end c = sym (length-take-le c.size.result c.whole.result.now (omega (arith, size_is c)))
 
 pub returns : goal.returns
 returns c =
-    ap (λ (l : List ℕ). take c.size.result l) c.whole.ensures ∙ first_cut c.args.held.now c.class.result c.size.result c.requires c.class.ensures c.size.ensures.value
+    take_all c.size.result c.whole.result.now (omega (arith, size_is c)) ∙ first_is (chunks_in c.args.held.now) c.whole.result.now c.requires c.whole.ensures

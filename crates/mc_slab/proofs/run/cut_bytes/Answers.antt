@@ -1,10 +1,17 @@
-use Rattle.std.proofs.Common.{◌≡◌, ◌+◌, ◌*◌, ◌≤◌, ℕ, length, vec_capacity, sym, ap, subst, ◌∙◌, arith}
+use Rattle.std.proofs.Common.{◌≡◌, ◌+◌, ◌*◌, ◌<◌, ◌≤◌, ℕ, length, vec_capacity, sym, ap, subst, ◌∙◌, arith}
 use Rattle.std.proofs.lemmas.List.Elements.{All-push}
+use Rattle.std.proofs.Math.Nat.{mul-le-mul_right}
 use Rattle.std.specs.List.{All}
 use Rattle.mc_slab.specs.Classes.{size_of}
 use Rattle.mc_slab.specs.Stocks.{IsChunkOf}
-use Rattle.mc_slab.proofs.CutLemmas.{room_left}
 use Rattle.mc_slab.proofs.run.cut_bytes.Goals as goal
+
+-- while chunks are to be cut, there is memory for one
+room_left : (made count size left : ℕ) → made < count → made * size + left ≡ count * size → size ≤ left
+room_left made count size left fewer sum =
+    let more : (made + 1) * size ≤ count * size = mul-le-mul_right size (omega arith) in
+    let one : (made + 1) * size ≡ made * size + size = omega arith in
+    omega arith
 
 pub write_zeros-requires : goal.write_zeros-requires
 write_zeros-requires c = subst (λ (n : ℕ). c.args.count * n ≤ vec_capacity c.args.bytes) (sym c.size.ensures.value) c.requires.bytes
