@@ -1,8 +1,8 @@
 -- Unique numbers are drawn in the history's order.
-use Rattle.std.proofs.Common.{◌≡◌, ⊎_elim, ℕ, ℤ, ◌+◌, ◌≤◌, ◌<◌, Bool, true, false, cond, eqb, List, [], ◌∷◌, ◌++◌, Option, Some, None, sym, refl, ap, ◌∙◌, subst, arith}
+use Rattle.std.proofs.Common.{◌≡◌, ⊎_elim, ℕ, ℤ, ◌≤◌, ◌<◌, Bool, true, false, cond, eqb, List, [], ◌∷◌, ◌++◌, Option, Some, None, sym, refl, ap, ◌∙◌, subst, arith}
 use Rattle.std.proofs.Common.{ne_eqb}
 use Rattle.mc_shared.proofs.Words.{get, get-empty, dite, ℕ_discrete, Expiry, expiry_of, KeyStep, Cas, Flush, Row, Reads, Touches, Deletes, Writes, Reply, Stored, Number}
-use Rattle.mc_shared.proofs.Words.{Hit, key_of, Plain, Outcome, Answered, Spent, plain, stepped, changed, row_of, cas_row, given, written, with_chunk, block_need}
+use Rattle.mc_shared.proofs.Words.{Hit, key_of, Plain, Outcome, Answered, Spent, plain, stepped, changed, row_of, given, written, with_chunk, block_need}
 use Rattle.mc_shared.proofs.Words.{without_dead, expiring, keeps_chunk, write_reply, written_block, block_of, standing, Entry as Item, Beginning, Operation, Stepped}
 use Rattle.mc_shared.proofs.Words.{Purged, HistoryEntry, left_by, next, IsRight, after, IsLegal}
 use Rattle.mc_laws.specs.Laws.{StandsInLog, StandsBefore, HasItem, Wrote, Found, HasDrawnNumbers}
@@ -162,7 +162,7 @@ module _ (key : List ℕ) (flags : ℕ) (exptime : ℤ) (block : List ℕ) (n no
   abbrev step : KeyStep
   step = Cas key flags exptime block n
 
-  cas_meets : (m found : Plain) (o : Option Item) → ((i : Item) → o ≡ Some i → get m.items key ≡ Some i) → Met m key n (changed (cas_row flags (expiry_of exptime now) n o) step o found now)
+  cas_meets : (m found : Plain) (o : Option Item) → ((i : Item) → o ≡ Some i → get m.items key ≡ Some i) → Met m key n (changed (row_of step now o) step o found now)
   cas_meets m found None stands = tt
   cas_meets m found (Some i) stands = dite (ℕ_discrete i.unique n)
       (λ is. met m key n i _ (stands i refl) is)

@@ -16,7 +16,7 @@ use Rattle.std.specs.Str.Parse.{digits_value}
 use Rattle.mc_protocol.specs.Words.{is_space, is_nonempty}
 use Rattle.mc_protocol.specs.Numbers.{number_up_to}
 use Rattle.mc_protocol.specs.declared.step.KeyStep.TheVariants.{Count}
-use Rattle.mc_protocol.specs.Plain.{count_row, number_row, number_of}
+use Rattle.mc_protocol.specs.Plain.{row_of, number_row, number_of}
 use Rattle.mc_laws.specs.Laws.{IsNumber, IsCount, counts_by, counts_up}
 use Rattle.mc_shared.proofs.NamedKept.{same_self, same_is}
 use Rattle.mc_protocol.proofs.NumberLemmas.{own, number-some}
@@ -88,7 +88,7 @@ module _ (key : List ℕ) (by now n : ℕ) where
       wrote_so (CountsTo key sum) (keeps_chunk (Counted sum) key (Some i)) (Number sum) key i.flags i.expiry (decimal sum) found now tt tt
       (written_number found key i.flags i.expiry now sum (omega arith)) (written_number (with_chunk found (block_need key (decimal sum))) key i.flags i.expiry now sum (omega arith)) tt
 
-  row_counts : (o : Option Item) (found : Plain) → ((i : Item) → o ≡ Some i → number_of i.block ≡ Some n) → CountsTo key sum (changed (count_row true by o) (Count key true by) o found now)
+  row_counts : (o : Option Item) (found : Plain) → ((i : Item) → o ≡ Some i → number_of i.block ≡ Some n) → CountsTo key sum (changed (row_of (Count key true by) now o) (Count key true by) o found now)
   row_counts None found is = tt
   row_counts (Some i) found is =
       subst (λ r. CountsTo key sum (changed (number_row i true by r) (Count key true by) (Some i) found now)) (sym (is i refl)) (item_counts i found)

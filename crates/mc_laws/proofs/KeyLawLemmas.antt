@@ -1,7 +1,7 @@
 -- What a step on a key leaves under it.
 use Rattle.std.proofs.Common.{◌≡◌, ◌⊎◌, inl, inr, ℕ, Bool, true, false, cond, eqb, ltb, List, Option, Some, None, sym, refl, ap, ◌∙◌, subst, ℤ}
 use Rattle.mc_shared.proofs.Words.{get, Expiry, expiry_of, is_dead, KeyStep, Cas, Read, Delete, Flush, Row, Reads, Touches, Deletes, Writes, Counted, Reply, Stored, Hit}
-use Rattle.mc_shared.proofs.Words.{key_of, Plain, Outcome, Answered, Spent, plain, stepped, changed, row_of, given, cas_row, read_row, write_reply, written, with_chunk}
+use Rattle.mc_shared.proofs.Words.{key_of, Plain, Outcome, Answered, Spent, plain, stepped, changed, row_of, given, write_reply, written, with_chunk}
 use Rattle.mc_shared.proofs.Words.{block_need, without_dead, expiring, keeps_chunk, written_block, block_of, standing, alive, hit_of, Entry as Item, Stepped}
 use Rattle.mc_laws.specs.Laws.{HasItem}
 use Rattle.mc_shared.proofs.Words.{found-next, get_put, get_gone}
@@ -12,7 +12,7 @@ use Rattle.mc_protocol.specs.declared.row.Row.TheVariants.{Refuses}
 use Rattle.mc_protocol.specs.declared.row.Body.{Body}
 use Rattle.mc_protocol.specs.declared.row.Body.TheVariants.{Given, Appended, Prepended}
 use Rattle.mc_protocol.specs.declared.reply.Reply.TheVariants.{TooLarge, NoChunk}
-use Rattle.mc_protocol.specs.Plain.{store_row, delete_row, wrote, has_room, charge}
+use Rattle.mc_protocol.specs.Plain.{wrote, has_room, charge}
 use Rattle.mc_protocol.specs.declared.row.Refusal.TheVariants as refusal
 
 pub some_is : {A : Type 0} (a b : A) → Some a ≡ Some b → a ≡ b
@@ -151,7 +151,7 @@ abbrev Replies : Reply → Outcome → Type 0
 Replies r (Answered reply new) = reply ≡ r
 Replies r Spent = ⊥
 
-read_replies : (item : Option Item) (key : List ℕ) (m : Plain) (now : ℕ) → Replies (hit_of item) (changed (read_row None item) (Read key) item m now)
+read_replies : (item : Option Item) (key : List ℕ) (m : Plain) (now : ℕ) → Replies (hit_of item) (changed (row_of (Read key) now item) (Read key) item m now)
 read_replies None key m now = refl
 read_replies (Some i) key m now = refl
 
@@ -164,7 +164,7 @@ Leaves old key (Answered (Hit f u b) new) = get new.items key ≡ get old.items 
 Leaves old key (Answered reply new) = Unit {0}
 Leaves old key Spent = Unit {0}
 
-read_leaves : (item : Option Item) (key : List ℕ) (m : Plain) (now : ℕ) → Leaves m key (changed (read_row None item) (Read key) item (without_dead item key m) now)
+read_leaves : (item : Option Item) (key : List ℕ) (m : Plain) (now : ℕ) → Leaves m key (changed (row_of (Read key) now item) (Read key) item (without_dead item key m) now)
 read_leaves None key m now = tt
 read_leaves (Some i) key m now = refl
 
@@ -176,7 +176,7 @@ abbrev Drops : List ℕ → Outcome → Type 0
 Drops key (Answered reply new) = get new.items key ≡ None
 Drops key Spent = Unit {0}
 
-delete_drops : (item : Option Item) (key : List ℕ) (m : Plain) (now : ℕ) → Drops key (changed (delete_row item) (Delete key) item (without_dead item key m) now)
+delete_drops : (item : Option Item) (key : List ℕ) (m : Plain) (now : ℕ) → Drops key (changed (row_of (Delete key) now item) (Delete key) item (without_dead item key m) now)
 delete_drops None key m now = get_gone m.items key
 delete_drops (Some i) key m now = get_gone m.items key
 
@@ -206,13 +206,18 @@ module _ (key : List ℕ) (flags : ℕ) (exptime : ℤ) (block : List ℕ) (now 
   gives : (old : Plain) (o : Option Item) → Gives key (stored old.next_unique) (wrote false Stored key flags (expiry_of exptime now) block (without_dead o key old) now)
   gives old o = given_gives key flags (expiry_of exptime now) block now old o
 
+  set_gives : (old : Plain) (o : Option Item)
+      → Gives key (stored old.next_unique) (changed (row_of (Store Set key flags exptime block) now o) (Store Set key flags exptime block) o (without_dead o key old) now)
+  set_gives old None = gives old None
+  set_gives old (Some i) = gives old (Some i)
+
   add_gives : (old : Plain) (o : Option Item)
-      → Gives key (stored old.next_unique) (changed (store_row Add flags (expiry_of exptime now) o) (Store Add key flags exptime block) o (without_dead o key old) now)
+      → Gives key (stored old.next_unique) (changed (row_of (Store Add key flags exptime block) now o) (Store Add key flags exptime block) o (without_dead o key old) now)
   add_gives old None = gives old None
   add_gives old (Some i) = tt
 
   replace_gives : (old : Plain) (o : Option Item)
-      → Gives key (stored old.next_unique) (changed (store_row Replace flags (expiry_of exptime now) o) (Store Replace key flags exptime block) o (without_dead o key old) now)
+      → Gives key (stored old.next_unique) (changed (row_of (Store Replace key flags exptime block) now o) (Store Replace key flags exptime block) o (without_dead o key old) now)
   replace_gives old None = tt
   replace_gives old (Some i) = gives old (Some i)
 
@@ -222,13 +227,13 @@ module _ (key : List ℕ) (flags : ℕ) (exptime : ℤ) (block : List ℕ) (now 
   cas_test false known old o = tt
 
   cas_gives : (known : ℕ) (old : Plain) (o : Option Item)
-      → Gives key (stored old.next_unique) (changed (cas_row flags (expiry_of exptime now) known o) (Cas key flags exptime block known) o (without_dead o key old) now)
+      → Gives key (stored old.next_unique) (changed (row_of (Cas key flags exptime block known) now o) (Cas key flags exptime block known) o (without_dead o key old) now)
   cas_gives known old None = tt
   cas_gives known old (Some i) = cas_test (eqb i.unique known) known old (Some i)
 
 pub stored_gives : (step : KeyStep) (now : ℕ) (item : Item) (old : Plain) → item_given step now old.next_unique ≡ Some item → Gives (key_of step) item (plain old step now)
 stored_gives (Store Set key flags exptime block) now item old e =
-    subst (λ (x : Item). Gives key x (plain old (Store Set key flags exptime block) now)) (some_is _ _ e) (gives key flags exptime block now old (standing old key now))
+    subst (λ (x : Item). Gives key x (plain old (Store Set key flags exptime block) now)) (some_is _ _ e) (set_gives key flags exptime block now old (standing old key now))
 stored_gives (Store Add key flags exptime block) now item old e =
     subst (λ (x : Item). Gives key x (plain old (Store Add key flags exptime block) now)) (some_is _ _ e) (add_gives key flags exptime block now old (standing old key now))
 stored_gives (Store Replace key flags exptime block) now item old e =

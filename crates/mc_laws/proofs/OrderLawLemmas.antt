@@ -1,5 +1,5 @@
 -- Where a kept past's entries stand.
-use Rattle.std.proofs.Common.{◌≡◌, inl, inr, ⊎_elim, ◌+◌, ◌≤◌, ◌<◌, List, [], ◌∷◌, ◌++◌, sym, refl, ap, ◌∙◌, subst, arith, append_assoc}
+use Rattle.std.proofs.Common.{◌≡◌, inl, inr, ⊎_elim, ◌≤◌, ◌<◌, List, [], ◌∷◌, ◌++◌, sym, refl, ap, ◌∙◌, subst, arith, append_assoc}
 use Rattle.mc_shared.proofs.Words.{append-nil, Name, Operation, HistoryEntry, Past, spent, start, call, made, both, name_of, held, Ordered, called_by, count_calls}
 use Rattle.mc_shared.proofs.Words.{KeptBy, entry_of}
 use Rattle.mc_laws.specs.Laws.{StandsInLog, StandsBefore, Has, CallerKnew}

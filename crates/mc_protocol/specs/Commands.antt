@@ -4,6 +4,8 @@ use Rattle.mc_protocol.specs.declared.command.CommandOf.{CommandOf}
 use Rattle.mc_protocol.specs.declared.command.CommandOf.TheVariants.{Store, Cas, Get, GetTouch, Touch, Delete, Count, FlushAll, Lone as LoneCommand}
 use Rattle.mc_protocol.specs.declared.lone.Lone.{Lone}
 use Rattle.mc_protocol.specs.declared.step.KeyStep.{KeyStep}
+use Rattle.mc_protocol.specs.declared.step.StepKind.{StepKind}
+use Rattle.mc_protocol.specs.declared.step.StepKind.TheVariants as kind
 use Rattle.mc_protocol.specs.declared.step.KeyStep.TheVariants.{Store as StoreStep, Cas as CasStep, Read as ReadStep, ReadTouch as ReadTouchStep, Touch as TouchStep, Delete as DeleteStep, Count as CountStep, Flush as FlushStep}
 
 -- a command as it is lent
@@ -24,6 +26,21 @@ mapped f g h (Delete key quiet) = Delete (f key) quiet
 mapped f g h (Count key up by quiet) = Count (f key) up by quiet
 mapped f g h (FlushAll delay quiet) = FlushAll delay quiet
 mapped f g h (LoneCommand lone) = LoneCommand lone
+
+-- a command that is kept otherwise twice
+pub mapped-twice : {K L B M N C P Q D : Type 0} (f : K → M) (g : L → N) (h : B → C)
+    (i : M → P) (j : N → Q) (k : C → D) (command : CommandOf K L B)
+    → mapped i j k (mapped f g h command)
+    ≡ mapped (λ x. i (f x)) (λ x. j (g x)) (λ x. k (h x)) command
+mapped-twice f g h i j k (Store verb key flags exptime block quiet) = refl
+mapped-twice f g h i j k (Cas key flags exptime block unique quiet) = refl
+mapped-twice f g h i j k (Get keys with_unique) = refl
+mapped-twice f g h i j k (GetTouch exptime keys with_unique) = refl
+mapped-twice f g h i j k (Touch key exptime quiet) = refl
+mapped-twice f g h i j k (Delete key quiet) = refl
+mapped-twice f g h i j k (Count key up by quiet) = refl
+mapped-twice f g h i j k (FlushAll delay quiet) = refl
+mapped-twice f g h i j k (LoneCommand lone) = refl
 
 -- the block of a command that brings one
 abbrev pub block_in : {K L B : Type 0} → CommandOf K L B → Option B
@@ -169,6 +186,51 @@ key_seen (OnAll delay) = []
 -- the key of a step
 abbrev pub key_of : KeyStep → List ℕ
 key_of step = key_seen (view step)
+
+-- the command that a step is counted as
+abbrev pub kind_of : KeyStep → StepKind
+kind_of (StoreStep verb key flags exptime block) = kind.Set
+kind_of (CasStep key flags exptime block unique) = kind.Cas
+kind_of (ReadStep key) = kind.Get
+kind_of (ReadTouchStep key exptime) = kind.Touch
+kind_of (TouchStep key exptime) = kind.Touch
+kind_of (DeleteStep key) = kind.Delete
+kind_of (CountStep key true by) = kind.Incr
+kind_of (CountStep key false by) = kind.Decr
+kind_of (FlushStep delay) = kind.Flush
+
+-- a step with this view is on this key, or on all
+abbrev pub IsOnOrAll : List ℕ → View → Type 0
+IsOnOrAll key (OnKey own block) = own ≡ key
+IsOnOrAll key (OnAll delay) = Unit {0}
+
+-- a command of a shape asks of this key alone, or of none
+abbrev pub AsksOnly : List ℕ → Shape → Type 0
+AsksOnly key (Single step has_block quiet) = IsOnOrAll key (view step)
+AsksOnly key (Retrieval exptime keys with_unique) = ⊥
+AsksOnly key (Alone lone) = Unit {0}
+
+-- a command whose key is still to come; no retrieval is one
+abbrev pub Keyless : Type 0 → Type 0
+Keyless B = CommandOf (Unit {0}) ⊥ B
+
+-- the command of this key
+abbrev pub with_key : {L B C : Type 0} → (key : List ℕ) → (B → C) → Keyless B
+    → CommandOf (List ℕ) L C
+with_key key block_of command = mapped (λ _. key) (λ none. absurd none) block_of command
+
+-- it asks of that key alone
+pub asks-only : {B : Type 0} (key block : List ℕ) (command : Keyless B)
+    → AsksOnly key (shape (with_key key (λ _. block) command))
+asks-only key block (Store verb none flags exptime brought quiet) = refl
+asks-only key block (Cas none flags exptime brought unique quiet) = refl
+asks-only key block (Get none with_unique) = absurd none
+asks-only key block (GetTouch exptime none with_unique) = absurd none
+asks-only key block (Touch none exptime quiet) = refl
+asks-only key block (Delete none quiet) = refl
+asks-only key block (Count none up by quiet) = refl
+asks-only key block (FlushAll delay quiet) = tt
+asks-only key block (LoneCommand lone) = tt
 
 -- how many bytes a key has at most
 abbrev pub longest_key : ℕ

@@ -146,62 +146,71 @@ given flags expiry = Writes (record { flags = flags; expiry = expiry; body = Giv
 abbrev pub joined : Entry → Body → Row
 joined old body = Writes (record { flags = old.flags; expiry = old.expiry; body = body })
 
--- set, add, replace, append, prepend
-abbrev pub store_row : Verb → (flags : ℕ) → Expiry → Option Entry → Row
-store_row Set flags expiry item = given flags expiry
-store_row Add flags expiry None = given flags expiry
-store_row Add flags expiry (Some old) = Refuses refusal.NotStored
-store_row Replace flags expiry None = Refuses refusal.NotStored
-store_row Replace flags expiry (Some old) = given flags expiry
-store_row Append flags expiry None = Refuses refusal.NotStored
-store_row Append flags expiry (Some old) = joined old Appended
-store_row Prepend flags expiry None = Refuses refusal.NotStored
-store_row Prepend flags expiry (Some old) = joined old Prepended
+-- what a step does whose key has no item: it refuses, or stores its own block
+pub data Absent : Type 0 where
+  Lacks : Refusal → Absent
+  Stores : (flags : ℕ) → Expiry → Absent
 
--- cas
-abbrev pub cas_row : (flags : ℕ) → Expiry → (unique : ℕ) → Option Entry → Row
-cas_row flags expiry unique None = Refuses refusal.NotFound
-cas_row flags expiry unique (Some old) =
-    if old.unique == unique then given flags expiry else Refuses refusal.Exists
+-- set, add, replace, append and prepend of a key without an item
+abbrev pub stored_anew : Verb → (flags : ℕ) → Expiry → Absent
+stored_anew Set flags expiry = Stores flags expiry
+stored_anew Add flags expiry = Stores flags expiry
+stored_anew Replace flags expiry = Lacks refusal.NotStored
+stored_anew Append flags expiry = Lacks refusal.NotStored
+stored_anew Prepend flags expiry = Lacks refusal.NotStored
 
--- get, gets, and with an expiry gat, gats
-abbrev pub read_row : Option Expiry → Option Entry → Row
-read_row expiry None = Refuses refusal.Miss
-read_row expiry (Some old) = Reads expiry
+-- the same of a key with an item
+abbrev pub stored_over : Verb → (flags : ℕ) → Expiry → Entry → Row
+stored_over Set flags expiry old = given flags expiry
+stored_over Add flags expiry old = Refuses refusal.NotStored
+stored_over Replace flags expiry old = given flags expiry
+stored_over Append flags expiry old = joined old Appended
+stored_over Prepend flags expiry old = joined old Prepended
 
--- touch
-abbrev pub touch_row : Expiry → Option Entry → Row
-touch_row expiry None = Refuses refusal.NotFound
-touch_row expiry (Some old) = Touches expiry
-
--- delete
-abbrev pub delete_row : Option Entry → Row
-delete_row None = Refuses refusal.NotFound
-delete_row (Some old) = Deletes
+-- this row for the item with this unique number alone
+abbrev pub if_unique : Entry → (unique : ℕ) → Row → Row
+if_unique old unique row = if old.unique == unique then row else Refuses refusal.Exists
 
 -- incr and decr of an item, by the number that its block is
 abbrev pub number_row : Entry → Bool → ℕ → Option ℕ → Row
 number_row old up by None = Refuses refusal.NotNumeric
 number_row old up by (Some number) = joined old (Counted (counted up by number))
 
--- incr, decr
-abbrev pub count_row : Bool → ℕ → Option Entry → Row
-count_row up by None = Refuses refusal.NotFound
-count_row up by (Some old) = number_row old up by (number_of old.block)
+-- The protocol's table, its first column: what a step does whose key has no item. A flush has no
+-- key, so its key has none.
+abbrev pub if_absent : KeyStep → ℕ → Absent
+if_absent (Store verb key flags exptime block) now =
+    stored_anew verb flags (expiry_of exptime now)
+if_absent (Cas key flags exptime block unique) now = Lacks refusal.NotFound
+if_absent (Read key) now = Lacks refusal.Miss
+if_absent (ReadTouch key exptime) now = Lacks refusal.Miss
+if_absent (Touch key exptime) now = Lacks refusal.NotFound
+if_absent (Delete key) now = Lacks refusal.NotFound
+if_absent (Count key up by) now = Lacks refusal.NotFound
+if_absent (Flush delay) now = Lacks refusal.NotFound
 
--- The protocol's table: the row of a step on a key, given the item under it. A flush has no key,
--- and its row is that of a missing item.
+-- its second column: what a step does whose key has this item
+abbrev pub if_present : KeyStep → ℕ → Entry → Row
+if_present (Store verb key flags exptime block) now old =
+    stored_over verb flags (expiry_of exptime now) old
+if_present (Cas key flags exptime block unique) now old =
+    if_unique old unique (given flags (expiry_of exptime now))
+if_present (Read key) now old = Reads None
+if_present (ReadTouch key exptime) now old = Reads (Some (expiry_of exptime now))
+if_present (Touch key exptime) now old = Touches (expiry_of exptime now)
+if_present (Delete key) now old = Deletes
+if_present (Count key up by) now old = number_row old up by (number_of old.block)
+if_present (Flush delay) now old = Refuses refusal.NotFound
+
+-- a row of the first column
+abbrev pub absent_row : Absent → Row
+absent_row (Lacks refusal) = Refuses refusal
+absent_row (Stores flags expiry) = given flags expiry
+
+-- the row of a step on a key, given the item under it
 abbrev pub row_of : KeyStep → ℕ → Option Entry → Row
-row_of (Store verb key flags exptime block) now item =
-    store_row verb flags (expiry_of exptime now) item
-row_of (Cas key flags exptime block unique) now item =
-    cas_row flags (expiry_of exptime now) unique item
-row_of (Read key) now item = read_row None item
-row_of (ReadTouch key exptime) now item = read_row (Some (expiry_of exptime now)) item
-row_of (Touch key exptime) now item = touch_row (expiry_of exptime now) item
-row_of (Delete key) now item = delete_row item
-row_of (Count key up by) now item = count_row up by item
-row_of (Flush delay) now item = Refuses refusal.NotFound
+row_of step now None = absent_row (if_absent step now)
+row_of step now (Some old) = if_present step now old
 
 -- the reply of a refusal
 abbrev pub refusal_reply : Refusal → Reply

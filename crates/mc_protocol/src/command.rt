@@ -86,6 +86,126 @@ impl<K: Copy, L: Copy, B: Copy> Clone for CommandOf<K, L, B> {
 
 impl<K: Copy, L: Copy, B: Copy> Copy for CommandOf<K, L, B> {}
 
+/// A key's place in a text.
+pub trait KeyPlace {
+    ghost use Rattle.std.specs.Prelude.{◌≡◌, ℕ, List};
+
+    /// The bytes at the place in a text.
+    ghost bytes: { Self → (text : List ℕ) → List ℕ };
+
+    /// Lends the bytes, as far as the text has them.
+    fn lend<'a>(&self, text: &'a [u8]) -> Bytes<'a>
+        ensures { result ≡ bytes self.now text.now };
+}
+
+/// The place of a retrieval's keys in a text.
+pub trait KeysPlace {
+    ghost use Rattle.std.specs.Prelude.{◌≡◌, ℕ, List};
+
+    /// The keys at the place in a text.
+    ghost keys: { Self → (text : List ℕ) → List (List ℕ) };
+    /// The text has the place, and the keys there are counted right.
+    ghost fits: { Self → (text : List ℕ) → Type 0 };
+
+    /// Lends the keys. It reads none of them.
+    fn lend<'a>(&self, text: &'a [u8]) -> Keys<'a>
+        requires { fits self.now text.now }
+        ensures { result ≡ keys self.now text.now };
+}
+
+impl<K: KeyPlace + Copy, L: KeysPlace + Copy, B: Copy> CommandOf<K, L, B> {
+    ghost use Rattle.std.specs.Prelude.{◌≡◌, None, IfSome};
+    ghost use Rattle.mc_protocol.specs.Commands.{block_in, mapped, retrieval_in};
+
+    /// Returns the command with the keys of a text, and with a block if it has one.
+    #[inline]
+    pub fn lend<'a>(&self, text: &'a [u8], block: Bytes<'a>) -> Command<'a>
+        requires { IfSome (retrieval_in self.now) (λ asked. L.fits asked.1 text.now) }
+        ensures { result ≡ mapped (λ key. K.bytes key text.now) (λ keys. L.keys keys text.now)
+            (λ _. block.entry) self.now }
+    {
+        match *self {
+            CommandOf::Store { .. } | CommandOf::Cas { .. } => self.lend_stored(text, block),
+            CommandOf::Get { keys, with_unique } => CommandOf::Get {
+                keys: keys.lend(text),
+                with_unique,
+            },
+            CommandOf::GetTouch {
+                exptime,
+                keys,
+                with_unique,
+            } => CommandOf::GetTouch {
+                exptime,
+                keys: keys.lend(text),
+                with_unique,
+            },
+            CommandOf::Touch {
+                key,
+                exptime,
+                quiet,
+            } => CommandOf::Touch {
+                key: key.lend(text),
+                exptime,
+                quiet,
+            },
+            CommandOf::Delete { key, quiet } => CommandOf::Delete {
+                key: key.lend(text),
+                quiet,
+            },
+            CommandOf::Count { key, up, by, quiet } => CommandOf::Count {
+                key: key.lend(text),
+                up,
+                by,
+                quiet,
+            },
+            CommandOf::FlushAll { delay, quiet } => CommandOf::FlushAll { delay, quiet },
+            CommandOf::Lone(lone) => CommandOf::Lone(lone),
+        }
+    }
+
+    /// Returns a command with a block as `lend` does.
+    #[inline]
+    fn lend_stored<'a>(&self, text: &'a [u8], block: Bytes<'a>) -> Command<'a>
+        requires { block_in self.now ≡ None → ⊥ }
+        ensures { result ≡ mapped (λ key. K.bytes key text.now) (λ keys. L.keys keys text.now)
+            (λ _. block.entry) self.now }
+    {
+        match *self {
+            CommandOf::Store {
+                verb,
+                key,
+                flags,
+                exptime,
+                quiet,
+                ..
+            } => CommandOf::Store {
+                verb,
+                key: key.lend(text),
+                flags,
+                exptime,
+                block,
+                quiet,
+            },
+            CommandOf::Cas {
+                key,
+                flags,
+                exptime,
+                unique,
+                quiet,
+                ..
+            } => CommandOf::Cas {
+                key: key.lend(text),
+                flags,
+                exptime,
+                block,
+                unique,
+                quiet,
+            },
+            _ => unreachable!(),
+        }
+    }
+}
+
 /// A command whose keys and block are slices of the input.
 pub type Command<'a> = CommandOf<Bytes<'a>, Keys<'a>, Bytes<'a>>;
 

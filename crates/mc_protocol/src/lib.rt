@@ -42,7 +42,7 @@ mod words;
 pub use answer::{Answer, Unanswered};
 pub use block::Block;
 pub use bytes::Bytes;
-pub use command::{Command, CommandOf, is_quiet, step_at, steps_of};
+pub use command::{Command, CommandOf, KeyPlace, KeysPlace, is_quiet, step_at, steps_of};
 pub use fault::LineFault;
 pub use keys::Keys;
 pub use laws::{
@@ -54,5 +54,5 @@ pub use lone::Lone;
 pub use number::{count_up_or_down, number_of, number_up_to};
 pub use reply::Reply;
 pub use row::{Body, Draft, Refusal, Row, Standing, row_of};
-pub use step::{KeyStep, StepFault, Steps, Verb};
+pub use step::{KeyStep, StepFault, StepKind, Steps, Verb};
 pub use words::{Words, first_key, first_word, first_word_len, spaces_len};

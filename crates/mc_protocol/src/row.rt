@@ -126,24 +126,55 @@ pub trait Standing {
 pub fn row_of<T: Standing>(step: &KeyStep<'_>, item: Option<&T>, now: Moment) -> Row
     ensures { result ≡ machine.row_of step.now now (standing_in T.entry_of item.entry) }
 {
+    match item {
+        None => if_absent(step, now),
+        Some(old) => if_present(step, old, now),
+    }
+}
+
+/// Returns the row of a step whose key has no item.
+fn if_absent(step: &KeyStep<'_>, now: Moment) -> Row
+    ensures { result ≡ machine.absent_row (machine.if_absent step.now now) }
+{
+    match step {
+        KeyStep::Store {
+            verb: Verb::Set | Verb::Add,
+            flags,
+            exptime,
+            ..
+        } => draft_own(*flags, expiry_of(*exptime, now)),
+        KeyStep::Store { .. } => Row::Refuses(Refusal::NotStored),
+        KeyStep::Read { .. } | KeyStep::ReadTouch { .. } => Row::Refuses(Refusal::Miss),
+        KeyStep::Cas { .. }
+        | KeyStep::Touch { .. }
+        | KeyStep::Delete { .. }
+        | KeyStep::Count { .. }
+        | KeyStep::Flush { .. } => Row::Refuses(Refusal::NotFound),
+    }
+}
+
+/// Returns the row of a step whose key has this item.
+fn if_present<T: Standing>(step: &KeyStep<'_>, old: &T, now: Moment) -> Row
+    ensures { result ≡ machine.if_present step.now now (T.entry_of old.now) }
+{
     match step {
         KeyStep::Store {
             verb,
             flags,
             exptime,
             ..
-        } => store_row(*verb, *flags, expiry_of(*exptime, now), item),
+        } => stored_over(*verb, *flags, expiry_of(*exptime, now), old),
         KeyStep::Cas {
             flags,
             exptime,
             unique,
             ..
-        } => cas_row(*flags, expiry_of(*exptime, now), *unique, item),
-        KeyStep::Read { .. } => read_row(None, item),
-        KeyStep::ReadTouch { exptime, .. } => read_row(Some(expiry_of(*exptime, now)), item),
-        KeyStep::Touch { exptime, .. } => touch_row(expiry_of(*exptime, now), item),
-        KeyStep::Delete { .. } => delete_row(item),
-        KeyStep::Count { up, by, .. } => count_row(*up, *by, item),
+        } => if_unique(old, *unique, draft_own(*flags, expiry_of(*exptime, now))),
+        KeyStep::Read { .. } => Row::Reads(None),
+        KeyStep::ReadTouch { exptime, .. } => Row::Reads(Some(expiry_of(*exptime, now))),
+        KeyStep::Touch { exptime, .. } => Row::Touches(expiry_of(*exptime, now)),
+        KeyStep::Delete { .. } => Row::Deletes,
+        KeyStep::Count { up, by, .. } => number_row(*up, *by, old),
         KeyStep::Flush { .. } => Row::Refuses(Refusal::NotFound),
     }
 }
@@ -170,79 +201,36 @@ fn draft_joined<T: Standing>(old: &T, body: Body) -> Row
     })
 }
 
-/// Returns the row of set, add, replace, append or prepend.
-fn store_row<T: Standing>(verb: Verb, flags: u32, expiry: Expiry, item: Option<&T>) -> Row
-    ensures { result ≡ machine.store_row verb flags expiry (standing_in T.entry_of item.entry) }
+/// Returns the row of set, add, replace, append or prepend of a key with this item.
+fn stored_over<T: Standing>(verb: Verb, flags: u32, expiry: Expiry, old: &T) -> Row
+    ensures { result ≡ machine.stored_over verb flags expiry (T.entry_of old.now) }
 {
-    match item {
-        None => match verb {
-            Verb::Set | Verb::Add => draft_own(flags, expiry),
-            Verb::Replace | Verb::Append | Verb::Prepend => Row::Refuses(Refusal::NotStored),
-        },
-        Some(old) => match verb {
-            Verb::Set | Verb::Replace => draft_own(flags, expiry),
-            Verb::Add => Row::Refuses(Refusal::NotStored),
-            Verb::Append => draft_joined(old, Body::Appended),
-            Verb::Prepend => draft_joined(old, Body::Prepended),
-        },
+    match verb {
+        Verb::Set | Verb::Replace => draft_own(flags, expiry),
+        Verb::Add => Row::Refuses(Refusal::NotStored),
+        Verb::Append => draft_joined(old, Body::Appended),
+        Verb::Prepend => draft_joined(old, Body::Prepended),
     }
 }
 
-/// Returns the row of cas.
-fn cas_row<T: Standing>(flags: u32, expiry: Expiry, unique: u64, item: Option<&T>) -> Row
-    ensures { result ≡ machine.cas_row flags expiry unique (standing_in T.entry_of item.entry) }
+/// Returns a row for the item with this unique number, and a refusal for another one.
+fn if_unique<T: Standing>(old: &T, unique: u64, row: Row) -> Row
+    ensures { result ≡ machine.if_unique (T.entry_of old.now) unique row }
 {
-    match item {
-        None => Row::Refuses(Refusal::NotFound),
-        Some(old) => {
-            if old.unique() == unique {
-                draft_own(flags, expiry)
-            } else {
-                Row::Refuses(Refusal::Exists)
-            }
-        }
+    if old.unique() == unique {
+        row
+    } else {
+        Row::Refuses(Refusal::Exists)
     }
 }
 
-/// Returns the row of a retrieval, which sets the item's expiry if one is given.
-fn read_row<T: Standing>(expiry: Option<Expiry>, item: Option<&T>) -> Row
-    ensures { result ≡ machine.read_row expiry (standing_in T.entry_of item.entry) }
+/// Returns the row of incr or decr of this item.
+fn number_row<T: Standing>(up: bool, by: u64, old: &T) -> Row
+    ensures { result ≡ machine.number_row (T.entry_of old.now) up by
+        (machine.number_of (T.entry_of old.now).block) }
 {
-    match item {
-        None => Row::Refuses(Refusal::Miss),
-        Some(_) => Row::Reads(expiry),
-    }
-}
-
-/// Returns the row of touch.
-fn touch_row<T: Standing>(expiry: Expiry, item: Option<&T>) -> Row
-    ensures { result ≡ machine.touch_row expiry (standing_in T.entry_of item.entry) }
-{
-    match item {
-        None => Row::Refuses(Refusal::NotFound),
-        Some(_) => Row::Touches(expiry),
-    }
-}
-
-/// Returns the row of delete.
-fn delete_row<T: Standing>(item: Option<&T>) -> Row
-    ensures { result ≡ machine.delete_row (standing_in T.entry_of item.entry) }
-{
-    match item {
-        None => Row::Refuses(Refusal::NotFound),
-        Some(_) => Row::Deletes,
-    }
-}
-
-/// Returns the row of incr or decr.
-fn count_row<T: Standing>(up: bool, by: u64, item: Option<&T>) -> Row
-    ensures { result ≡ machine.count_row up by (standing_in T.entry_of item.entry) }
-{
-    match item {
-        None => Row::Refuses(Refusal::NotFound),
-        Some(old) => match old.number() {
-            None => Row::Refuses(Refusal::NotNumeric),
-            Some(number) => draft_joined(old, Body::Counted(count_up_or_down(up, by, number))),
-        },
+    match old.number() {
+        None => Row::Refuses(Refusal::NotNumeric),
+        Some(number) => draft_joined(old, Body::Counted(count_up_or_down(up, by, number))),
     }
 }

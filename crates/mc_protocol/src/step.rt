@@ -4,7 +4,7 @@
 //! delay. Lemmas about any step use this view, so a new step needs a row there and no new lemma.
 
 ghost use Rattle.std.specs.Prelude.{◌≡◌};
-ghost use Rattle.mc_protocol.specs.Commands.{key_of};
+ghost use Rattle.mc_protocol.specs.Commands.{key_of, kind_of};
 ghost use Rattle.mc_protocol.specs.Plain.{block_of};
 ghost use Rattle.mc_protocol.specs.declared.step.StepFault.TheVariants.{NoMemory};
 
@@ -28,6 +28,22 @@ pub enum Verb {
     Append,
     /// Puts the block before the item's.
     Prepend,
+}
+
+/// The commands that steps are counted as.
+#[derive(Clone, Copy)]
+pub enum StepKind {
+    /// set, add, replace, append, prepend
+    Set,
+    Cas,
+    /// get, gets
+    Get,
+    /// touch, gat, gats
+    Touch,
+    Delete,
+    Incr,
+    Decr,
+    Flush,
 }
 
 /// What a command does at one key.
@@ -85,6 +101,22 @@ impl<'a> KeyStep<'a> {
             | KeyStep::Delete { key }
             | KeyStep::Count { key, .. } => key.as_slice(),
             KeyStep::Flush { .. } => &[],
+        }
+    }
+
+    /// Returns the command that the step is counted as.
+    pub fn kind(&self) -> StepKind
+        ensures { result ≡ kind_of self.now }
+    {
+        match self {
+            KeyStep::Store { .. } => StepKind::Set,
+            KeyStep::Cas { .. } => StepKind::Cas,
+            KeyStep::Read { .. } => StepKind::Get,
+            KeyStep::ReadTouch { .. } | KeyStep::Touch { .. } => StepKind::Touch,
+            KeyStep::Delete { .. } => StepKind::Delete,
+            KeyStep::Count { up: true, .. } => StepKind::Incr,
+            KeyStep::Count { up: false, .. } => StepKind::Decr,
+            KeyStep::Flush { .. } => StepKind::Flush,
         }
     }
 
