@@ -1,5 +1,5 @@
 -- The keys of a command that a line spells are keys.
-use Rattle.std.proofs.Common.{◌≡◌, ◌≢◌, ◌≤◌, ℕ, Bool, true, false, cond, ◌&&◌, List, [], ◌∷◌, Result, Ok, Err, Some, None, length, arith, leb, ◌+◌, ◌-◌, ◌^◌, refl}
+use Rattle.std.proofs.Common.{◌≡◌, ◌≢◌, ◌≤◌, ℕ, Bool, true, false, cond, ◌&&◌, List, [], ◌∷◌, Result, Ok, Err, Some, None, length, arith, leb, ◌+◌, ◌-◌, ◌^◌, refl, sym, subst}
 use Rattle.std.specs.Prelude.{codes}
 use Rattle.std.specs.Result.{IfOk}
 use Rattle.std.specs.List.{All, AllByRecursion, list_all}
@@ -12,20 +12,15 @@ use Rattle.mc_protocol.specs.Words.{words, is_nonempty}
 use Rattle.mc_protocol.specs.Numbers.{number_up_to, is_numeral}
 use Rattle.mc_protocol.specs.Commands.{HasShortKeys, key_of}
 use Rattle.mc_protocol.specs.declared.step.KeyStep.{KeyStep}
-use Rattle.mc_protocol.specs.declared.step.KeyStep.TheVariants.{Store as StoreStep, Cas as CasStep, Read as ReadStep, ReadTouch as ReadTouchStep, Touch as TouchStep}
-use Rattle.mc_protocol.specs.declared.step.KeyStep.TheVariants.{Delete as DeleteStep, Count as CountStep, Flush as FlushStep}
+use Rattle.mc_protocol.specs.declared.step.KeyStep.TheVariants.{Read as ReadStep, ReadTouch as ReadTouchStep, Flush as FlushStep}
 use Rattle.mc_protocol.specs.declared.lone.Lone.{Lone}
-use Rattle.mc_protocol.specs.declared.step.Verb.{Verb}
-use Rattle.mc_protocol.specs.Commands.{Command}
+use Rattle.mc_protocol.specs.Commands.{Command, Keyless, View, OnKey, OnAll, Shape, Single, Retrieval, Alone, IsOnOrAll, AsksOnly, asks-only, mapped-twice, shape, steps_by, view, with_key}
 use Rattle.mc_protocol.specs.declared.command.CommandOf.TheVariants.{FlushAll}
 use Rattle.mc_protocol.specs.declared.fault.LineFault.{LineFault}
 use Rattle.mc_protocol.specs.declared.fault.LineFault.TheVariants.{Unknown, BadFormat, BadDelta, TooLarge}
-use Rattle.mc_parse.specs.declared.name.Name.{Name}
-use Rattle.mc_parse.specs.declared.name.Name.TheVariants.{Store as StoreName, Cas as CasName, Get as GetName, GetTouch as GetTouchName, Touch as TouchName, Delete as DeleteName}
-use Rattle.mc_parse.specs.declared.name.Name.TheVariants.{Count as CountName, FlushAll as FlushName, Lone as LoneName}
 use Rattle.mc_parse.specs.Exptimes.{exptime_of, delay_of}
-use Rattle.mc_parse.specs.Lines.{Line, ◌>>=◌, formed, is_key, key_formed, keys_formed, ending, delete_ending, delayed, fitting, name_of, store_line, cas_line, get_line}
-use Rattle.mc_parse.specs.Lines.{get_touch_line, touch_line, delete_line, count_line, flush_line, lone_line, named_line, meaning, IsWord, IsKey, IsKeyed, HasKeys}
+use Rattle.mc_parse.specs.Lines.{Line, ◌>>=◌, formed, is_key, key_formed, keys_formed, ending, delayed, name_of, Behind, keyed_line, get_line, get_touch_line}
+use Rattle.mc_parse.specs.Lines.{flush_line, lone_line, Form, OfKey, OfKeys, OfTouchedKeys, OfAll, OfName, form_of, formed_line, meaning, IsWord, IsKey, IsKeyed, IsKeyedSeen, HasKeys}
 use Rattle.mc_parse.specs.Units.{with_block}
 use Rattle.mc_parse.proofs.LineWords.{words_are_words}
 
@@ -82,33 +77,28 @@ module _ (P : List ℕ → Type 0) where
   single : (step : KeyStep) → IsKeyed P step → All (IsKeyed P) (step ∷ [])
   single step held = All-cons (IsKeyed P) step [] held (All-nil (IsKeyed P))
 
-  store_line-of : (greatest : ℕ) (verb : Verb) (args : List (List ℕ)) → Holds args → IfOk (store_line greatest verb args) IsLineOf
-  store_line-of greatest verb [] held = tt
-  store_line-of greatest verb (key ∷ []) held = tt
-  store_line-of greatest verb (key ∷ flags ∷ []) held = tt
-  store_line-of greatest verb (key ∷ flags ∷ exptime ∷ []) held = tt
-  store_line-of greatest verb (key ∷ flags ∷ exptime ∷ bytes ∷ rest) held =
-      after IsLineOf (ending rest) _ (λ quiet.
-      next P IsLineOf (key_formed key) _ (key-of key held.0) (λ k keyed.
-      after IsLineOf (formed BadFormat (number_up_to (2 ^ 32 - 1) flags)) _ (λ f.
-      after IsLineOf (formed BadFormat (exptime_of exptime)) _ (λ e.
-      after IsLineOf (formed BadFormat (number_up_to 2147483645 bytes)) _ (λ n.
-      after IsLineOf (fitting greatest k n) _ (λ len block. single (StoreStep verb k f e block) keyed))))))
+  -- a command that asks of one key
+  seen-of : (key : List ℕ) (seen : View) → IsOnOrAll key seen → P key → IsKeyedSeen P seen
+  seen-of key (OnKey own block) is held = subst P (sym is) held
+  seen-of key (OnAll delay) is held = tt
 
-  cas_line-of : (greatest : ℕ) (args : List (List ℕ)) → Holds args → IfOk (cas_line greatest args) IsLineOf
-  cas_line-of greatest [] held = tt
-  cas_line-of greatest (key ∷ []) held = tt
-  cas_line-of greatest (key ∷ flags ∷ []) held = tt
-  cas_line-of greatest (key ∷ flags ∷ exptime ∷ []) held = tt
-  cas_line-of greatest (key ∷ flags ∷ exptime ∷ bytes ∷ []) held = tt
-  cas_line-of greatest (key ∷ flags ∷ exptime ∷ bytes ∷ unique ∷ rest) held =
-      after IsLineOf (ending rest) _ (λ quiet.
+  asked-of : (key : List ℕ) (its : Shape) → AsksOnly key its → P key → All (IsKeyed P) (steps_by its)
+  asked-of key (Single step has_block quiet) only held = single step (seen-of key (view step) only held)
+  asked-of key (Retrieval exptime keys with_unique) only held = absurd only
+  asked-of key (Alone lone) only held = All-nil (IsKeyed P)
+
+  command-of : (key : List ℕ) (command : Keyless ℕ) → P key → IsLineOf (with_key key (λ len. len) command)
+  command-of key command held = λ block.
+      subst (HasKeys P)
+      (sym (mapped-twice (λ _. key) (λ none. absurd none) (λ len. len) (λ k. k) (λ keys. keys) (λ _. block) command))
+      (asked-of key (shape (with_key key (λ _. block) command)) (asks-only key block command) held)
+
+  keyed_line-of : (behind : List ℕ → List (List ℕ) → Behind) (args : List (List ℕ)) → Holds args → IfOk (keyed_line behind args) IsLineOf
+  keyed_line-of behind [] held = tt
+  keyed_line-of behind (key ∷ rest) held =
+      after IsLineOf (behind key rest).0 _ (λ quiet.
       next P IsLineOf (key_formed key) _ (key-of key held.0) (λ k keyed.
-      after IsLineOf (formed BadFormat (number_up_to (2 ^ 32 - 1) flags)) _ (λ f.
-      after IsLineOf (formed BadFormat (exptime_of exptime)) _ (λ e.
-      after IsLineOf (formed BadFormat (number_up_to 2147483645 bytes)) _ (λ n.
-      after IsLineOf (formed BadFormat (number_up_to (2 ^ 64 - 1) unique)) _ (λ u.
-      after IsLineOf (fitting greatest k n) _ (λ len block. single (CasStep k f e block u) keyed)))))))
+      after IsLineOf ((behind key rest).1 quiet) _ (λ command. command-of k command keyed)))
 
   get_line-of : (with_unique : Bool) (args : List (List ℕ)) → Holds args → IfOk (get_line with_unique args) IsLineOf
   get_line-of with_unique args held = next (All P) IsLineOf (keys_formed args) _ (keys-of args held) (λ keys keyed block. All-map (IsKeyed P) ReadStep keys keyed)
@@ -119,31 +109,6 @@ module _ (P : List ℕ → Type 0) where
       next (All P) IsLineOf (keys_formed args) _ (keys-of args held.1) (λ keys keyed.
       after IsLineOf (formed BadFormat (exptime_of exptime)) _ (λ e block.
       All-map (IsKeyed P) (λ key. ReadTouchStep key e) keys keyed))
-
-  touch_line-of : (args : List (List ℕ)) → Holds args → IfOk (touch_line args) IsLineOf
-  touch_line-of [] held = tt
-  touch_line-of (key ∷ []) held = tt
-  touch_line-of (key ∷ exptime ∷ rest) held =
-      after IsLineOf (ending rest) _ (λ quiet.
-      next P IsLineOf (key_formed key) _ (key-of key held.0) (λ k keyed.
-      after IsLineOf (formed BadFormat (exptime_of exptime)) _ (λ e block.
-      single (TouchStep k e) keyed)))
-
-  delete_line-of : (args : List (List ℕ)) → Holds args → IfOk (delete_line args) IsLineOf
-  delete_line-of [] held = tt
-  delete_line-of (key ∷ rest) held =
-      after IsLineOf (delete_ending rest) _ (λ quiet.
-      next P IsLineOf (key_formed key) _ (key-of key held.0) (λ k keyed block.
-      single (DeleteStep k) keyed))
-
-  count_line-of : (up : Bool) (args : List (List ℕ)) → Holds args → IfOk (count_line up args) IsLineOf
-  count_line-of up [] held = tt
-  count_line-of up (key ∷ []) held = tt
-  count_line-of up (key ∷ value ∷ rest) held =
-      after IsLineOf (ending rest) _ (λ quiet.
-      next P IsLineOf (key_formed key) _ (key-of key held.0) (λ k keyed.
-      after IsLineOf (formed BadDelta (number_up_to (2 ^ 64 - 1) value)) _ (λ by block.
-      single (CountStep k up by) keyed)))
 
   -- a flush has no key
   flush-of : (delay : ℕ) (quiet : Bool) → IsLineOf (FlushAll delay quiet)
@@ -162,21 +127,17 @@ module _ (P : List ℕ → Type 0) where
   lone_line-of lone [] = λ block. All-nil (IsKeyed P)
   lone_line-of lone (word ∷ args) = tt
 
-  named_line-of : (greatest : ℕ) (name : Name) (args : List (List ℕ)) → Holds args → IfOk (named_line greatest name args) IsLineOf
-  named_line-of greatest (StoreName verb) args held = store_line-of greatest verb args held
-  named_line-of greatest CasName args held = cas_line-of greatest args held
-  named_line-of greatest (GetName with_unique) args held = get_line-of with_unique args held
-  named_line-of greatest (GetTouchName with_unique) args held = get_touch_line-of with_unique args held
-  named_line-of greatest TouchName args held = touch_line-of args held
-  named_line-of greatest DeleteName args held = delete_line-of args held
-  named_line-of greatest (CountName up) args held = count_line-of up args held
-  named_line-of greatest FlushName args held = flush_line-of args
-  named_line-of greatest (LoneName lone) args held = lone_line-of lone args
+  formed_line-of : (form : Form) (args : List (List ℕ)) → Holds args → IfOk (formed_line form args) IsLineOf
+  formed_line-of (OfKey behind) args held = keyed_line-of behind args held
+  formed_line-of (OfKeys with_unique) args held = get_line-of with_unique args held
+  formed_line-of (OfTouchedKeys with_unique) args held = get_touch_line-of with_unique args held
+  formed_line-of OfAll args held = flush_line-of args
+  formed_line-of (OfName lone) args held = lone_line-of lone args
 
   -- what any line says
   pub meaning-of : (greatest : ℕ) (ws : List (List ℕ)) → Holds ws → IfOk (meaning greatest ws) IsLineOf
   meaning-of greatest [] held = tt
-  meaning-of greatest (word ∷ args) held = after IsLineOf (formed Unknown (name_of word)) _ (λ name. named_line-of greatest name args held.1)
+  meaning-of greatest (word ∷ args) held = after IsLineOf (formed Unknown (name_of word)) _ (λ name. formed_line-of (form_of greatest name) args held.1)
 
 abbrev IsShort : List ℕ → Type 0
 IsShort key = length key ≤ 250

@@ -4,7 +4,7 @@ use Rattle.std.specs.Str.{bytes_eq}
 use Rattle.std.specs.List.{list_all}
 use Rattle.mc_protocol.specs.Words.{is_nonempty}
 use Rattle.mc_protocol.specs.Numbers.{number_up_to}
-use Rattle.mc_protocol.specs.Commands.{Command, View, OnKey, OnAll, longest_key, steps, view}
+use Rattle.mc_protocol.specs.Commands.{Command, Keyless, View, OnKey, OnAll, longest_key, steps, view, with_key}
 use Rattle.mc_protocol.specs.Plain.{chunk_head}
 use Rattle.mc_protocol.specs.declared.command.CommandOf.{CommandOf}
 use Rattle.mc_protocol.specs.declared.command.CommandOf.TheVariants.{Store, Cas, Get, GetTouch, Touch, Delete, Count, FlushAll, Lone as LoneCommand}
@@ -61,30 +61,59 @@ ending (word ∷ more ∷ rest) = Err Unknown
 abbrev pub fitting : ℕ → List ℕ → ℕ → Result ℕ LineFault
 fitting greatest key len = if nat_le (chunk_head + length key + len) greatest then Ok len else Err (TooLarge (len + 2))
 
+-- What comes behind a line's key: whether it ends in noreply, and the command by that. Where a word
+-- is missing, the ending is at fault.
+abbrev pub Behind : Type 0
+Behind = Result Bool LineFault × (Bool → Result (Keyless ℕ) LineFault)
+
+-- a word is missing
+abbrev pub too_few : Behind
+too_few = (Err Unknown, λ quiet. Err Unknown)
+
+-- <key> and what comes behind it; the ending's fault comes first, and then the key's
+abbrev pub keyed_line : (behind : List ℕ → List (List ℕ) → Behind) → List (List ℕ)
+    → Result Line LineFault
+keyed_line behind [] = Err Unknown
+keyed_line behind (key ∷ rest) = do
+  quiet ← (behind key rest).0
+  k ← key_formed key
+  command ← (behind key rest).1 quiet
+  Ok (with_key k (λ len. len) command)
+
+-- <flags> <exptime> <bytes> [noreply]
+abbrev pub store_behind : ℕ → Verb → List ℕ → List (List ℕ) → Behind
+store_behind greatest verb key (flags ∷ exptime ∷ bytes ∷ rest) = (
+  ending rest,
+  λ quiet. do
+    f ← formed BadFormat (number_up_to (2 ^ 32 - 1) flags)
+    e ← formed BadFormat (exptime_of exptime)
+    n ← formed BadFormat (number_up_to 2147483645 bytes)
+    len ← fitting greatest key n
+    Ok (Store verb tt f e len quiet),
+)
+store_behind greatest verb key words = too_few
+
 -- <key> <flags> <exptime> <bytes> [noreply]
 abbrev pub store_line : ℕ → Verb → List (List ℕ) → Result Line LineFault
-store_line greatest verb (key ∷ flags ∷ exptime ∷ bytes ∷ rest) = do
-  quiet ← ending rest
-  k ← key_formed key
-  f ← formed BadFormat (number_up_to (2 ^ 32 - 1) flags)
-  e ← formed BadFormat (exptime_of exptime)
-  n ← formed BadFormat (number_up_to 2147483645 bytes)
-  len ← fitting greatest k n
-  Ok (Store verb k f e len quiet)
-store_line greatest verb args = Err Unknown
+store_line greatest verb args = keyed_line (store_behind greatest verb) args
+
+-- <flags> <exptime> <bytes> <cas unique> [noreply]
+abbrev pub cas_behind : ℕ → List ℕ → List (List ℕ) → Behind
+cas_behind greatest key (flags ∷ exptime ∷ bytes ∷ unique ∷ rest) = (
+  ending rest,
+  λ quiet. do
+    f ← formed BadFormat (number_up_to (2 ^ 32 - 1) flags)
+    e ← formed BadFormat (exptime_of exptime)
+    n ← formed BadFormat (number_up_to 2147483645 bytes)
+    u ← formed BadFormat (number_up_to (2 ^ 64 - 1) unique)
+    len ← fitting greatest key n
+    Ok (Cas tt f e len u quiet),
+)
+cas_behind greatest key words = too_few
 
 -- <key> <flags> <exptime> <bytes> <cas unique> [noreply]
 abbrev pub cas_line : ℕ → List (List ℕ) → Result Line LineFault
-cas_line greatest (key ∷ flags ∷ exptime ∷ bytes ∷ unique ∷ rest) = do
-  quiet ← ending rest
-  k ← key_formed key
-  f ← formed BadFormat (number_up_to (2 ^ 32 - 1) flags)
-  e ← formed BadFormat (exptime_of exptime)
-  n ← formed BadFormat (number_up_to 2147483645 bytes)
-  u ← formed BadFormat (number_up_to (2 ^ 64 - 1) unique)
-  len ← fitting greatest k n
-  Ok (Cas k f e len u quiet)
-cas_line greatest args = Err Unknown
+cas_line greatest args = keyed_line (cas_behind greatest) args
 
 -- <key>*, at least one
 abbrev pub keys_formed : List (List ℕ) → Result (List (List ℕ)) LineFault
@@ -105,36 +134,46 @@ get_touch_line with_unique (exptime ∷ args) = do
   e ← formed BadFormat (exptime_of exptime)
   Ok (GetTouch e keys with_unique)
 
+-- <exptime> [noreply]
+abbrev pub touch_behind : List ℕ → List (List ℕ) → Behind
+touch_behind key (exptime ∷ rest) = (
+  ending rest,
+  λ quiet. do
+    e ← formed BadFormat (exptime_of exptime)
+    Ok (Touch tt e quiet),
+)
+touch_behind key words = too_few
+
 -- <key> <exptime> [noreply]
 abbrev pub touch_line : List (List ℕ) → Result Line LineFault
-touch_line (key ∷ exptime ∷ rest) = do
-  quiet ← ending rest
-  k ← key_formed key
-  e ← formed BadFormat (exptime_of exptime)
-  Ok (Touch k e quiet)
-touch_line args = Err Unknown
+touch_line args = keyed_line touch_behind args
 
 -- [0] [noreply]
 abbrev pub delete_ending : List (List ℕ) → Result Bool LineFault
 delete_ending [] = Ok false
 delete_ending (word ∷ rest) = if bytes_eq word (codes "0") then ending rest else ending (word ∷ rest)
 
+-- [0] [noreply]
+abbrev pub delete_behind : List ℕ → List (List ℕ) → Behind
+delete_behind key rest = (delete_ending rest, λ quiet. Ok (Delete tt quiet))
+
 -- <key> [0] [noreply]
 abbrev pub delete_line : List (List ℕ) → Result Line LineFault
-delete_line [] = Err Unknown
-delete_line (key ∷ rest) = do
-  quiet ← delete_ending rest
-  k ← key_formed key
-  Ok (Delete k quiet)
+delete_line args = keyed_line delete_behind args
+
+-- <value> [noreply]
+abbrev pub count_behind : Bool → List ℕ → List (List ℕ) → Behind
+count_behind up key (value ∷ rest) = (
+  ending rest,
+  λ quiet. do
+    by ← formed BadDelta (number_up_to (2 ^ 64 - 1) value)
+    Ok (Count tt up by quiet),
+)
+count_behind up key words = too_few
 
 -- <key> <value> [noreply]
 abbrev pub count_line : Bool → List (List ℕ) → Result Line LineFault
-count_line up (key ∷ value ∷ rest) = do
-  quiet ← ending rest
-  k ← key_formed key
-  by ← formed BadDelta (number_up_to (2 ^ 64 - 1) value)
-  Ok (Count k up by quiet)
-count_line up args = Err Unknown
+count_line up args = keyed_line (count_behind up) args
 
 -- flush_all with the delay of a word, which is malformed if it isn't a delay
 abbrev pub delayed : List ℕ → Bool → Result Line LineFault
@@ -155,24 +194,41 @@ abbrev pub lone_line : Lone → List (List ℕ) → Result Line LineFault
 lone_line lone [] = Ok (LoneCommand lone)
 lone_line lone (word ∷ args) = Err Unknown
 
--- the meaning of a line with this name
-abbrev pub named_line : ℕ → Name → List (List ℕ) → Result Line LineFault
-named_line greatest (StoreName verb) args = store_line greatest verb args
-named_line greatest CasName args = cas_line greatest args
-named_line greatest (GetName with_unique) args = get_line with_unique args
-named_line greatest (GetTouchName with_unique) args = get_touch_line with_unique args
-named_line greatest TouchName args = touch_line args
-named_line greatest DeleteName args = delete_line args
-named_line greatest (CountName up) args = count_line up args
-named_line greatest FlushName args = flush_line args
-named_line greatest (LoneName lone) args = lone_line lone args
+-- The form of a line: it begins with its key, has several keys, with an exptime before them or not,
+-- is on all keys, or is only a name.
+pub data Form : Type 0 where
+  OfKey : (List ℕ → List (List ℕ) → Behind) → Form
+  OfKeys : (with_unique : Bool) → Form
+  OfTouchedKeys : (with_unique : Bool) → Form
+  OfAll : Form
+  OfName : Lone → Form
+
+-- the form of a line with this name
+abbrev pub form_of : ℕ → Name → Form
+form_of greatest (StoreName verb) = OfKey (store_behind greatest verb)
+form_of greatest CasName = OfKey (cas_behind greatest)
+form_of greatest (GetName with_unique) = OfKeys with_unique
+form_of greatest (GetTouchName with_unique) = OfTouchedKeys with_unique
+form_of greatest TouchName = OfKey touch_behind
+form_of greatest DeleteName = OfKey delete_behind
+form_of greatest (CountName up) = OfKey (count_behind up)
+form_of greatest FlushName = OfAll
+form_of greatest (LoneName lone) = OfName lone
+
+-- the meaning of a line of this form
+abbrev pub formed_line : Form → List (List ℕ) → Result Line LineFault
+formed_line (OfKey behind) args = keyed_line behind args
+formed_line (OfKeys with_unique) args = get_line with_unique args
+formed_line (OfTouchedKeys with_unique) args = get_touch_line with_unique args
+formed_line OfAll args = flush_line args
+formed_line (OfName lone) args = lone_line lone args
 
 -- the meaning of a line's words; a charge is at most greatest
 abbrev pub meaning : ℕ → List (List ℕ) → Result Line LineFault
 meaning greatest [] = Err Unknown
 meaning greatest (word ∷ args) = do
   name ← formed Unknown (name_of word)
-  named_line greatest name args
+  formed_line (form_of greatest name) args
 
 -- a run of bytes other than the space and the line feed
 abbrev pub IsWord : List ℕ → Type 0

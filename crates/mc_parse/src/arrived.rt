@@ -1,8 +1,8 @@
 //! The bytes of a stream that have arrived and aren't read.
 //!
 //! They are in a queue. A unit with a large block is read into memory of its own, which has the
-//! size of the block's chunk and a little more. Once the unit is whole, and nothing is behind it,
-//! that memory is shared and offered: the block's chunk may take it over, and leaves its former
+//! size of the block's chunks and a little more. Once the unit is whole, and nothing is behind it,
+//! that memory is shared and offered: the block's chunks may take it over, and leave their former
 //! memory in exchange. The next unit is read into that memory.
 
 ghost use Rattle.std.specs.Prelude.{◌≡◌, ◌≤◌, ◌++◌, [], length, drop, None, IfSome, OnOk, OnErr, IfOk};

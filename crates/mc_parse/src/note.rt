@@ -4,7 +4,7 @@
 //! can't be kept beside the buffer that it borrows from.
 
 ghost use Rattle.std.specs.Prelude.{◌≡◌, ◌+◌, ◌<◌, ℕ, List, length, take, IfSome};
-ghost use Rattle.mc_protocol.specs.Commands.{block_in, retrieval_in, HasBlock};
+ghost use Rattle.mc_protocol.specs.Commands.{block_in, retrieval_in};
 ghost use Rattle.mc_parse.specs.Units.{with_block, IsLine};
 ghost use Rattle.mc_parse.specs.Peeks.{unit_of, FindsSpelled, MissesNone, StaysWhole};
 ghost use Rattle.mc_parse.specs.Cursors.{IsFirstCursor};
@@ -14,8 +14,8 @@ use crate::cursor::Cursor;
 use crate::line::line_of;
 use crate::offer::Offer;
 use crate::peek::{Peek, block_peeked, without_carriage_return};
-use mc_protocol::{Bytes, CHUNK_HEAD, Command, CommandOf, Keys, LineFault};
-use mc_slab::{BESIDE, class_of};
+use mc_protocol::{Bytes, CHUNK_HEAD, Command, CommandOf, KeyPlace, Keys, KeysPlace, LineFault};
+use mc_slab::{BESIDE, need_of};
 
 /// The place of a key in the text of a line.
 #[derive(Clone, Copy)]
@@ -32,12 +32,13 @@ impl Span {
     {
         Span { from, len }
     }
+}
 
-    /// Lends the bytes of the span, as far as the text has them.
+impl KeyPlace for Span {
+    ghost bytes = { λ span text. at text span };
+
     #[inline]
-    pub fn lend<'a>(&self, text: &'a [u8]) -> Bytes<'a>
-        ensures { result ≡ at text.now self.now }
-    {
+    fn lend<'a>(&self, text: &'a [u8]) -> Bytes<'a> {
         let (_, behind) = text.split_at(self.from.min(text.len()));
         let (bytes, _) = behind.split_at(self.len.min(behind.len()));
         Bytes::of(bytes)
@@ -59,13 +60,15 @@ impl KeySpan {
     {
         KeySpan { from, count }
     }
+}
 
-    /// Lends the keys. It reads none of them.
+impl KeysPlace for KeySpan {
+    ghost keys = { λ span text. keys_at text span };
+
+    ghost fits = { λ span text. FitIn span text };
+
     #[inline]
-    pub fn lend<'a>(&self, text: &'a [u8]) -> Keys<'a>
-        requires { FitIn self.now text.now }
-        ensures { result ≡ keys_at text.now self.now }
-    {
+    fn lend<'a>(&self, text: &'a [u8]) -> Keys<'a> {
         let (_, behind) = text.split_at(self.from);
         Keys::with_count(behind, self.count)
     }
@@ -80,84 +83,7 @@ pub fn lend<'a>(noted: &Noted, text: &'a [u8], block: Bytes<'a>) -> Command<'a>
     requires { Fits noted.now text.now }
     ensures { result ≡ with_block (read text.now noted.now) block.entry }
 {
-    match *noted {
-        CommandOf::Store { .. } | CommandOf::Cas { .. } => lend_stored(noted, text, block),
-        CommandOf::Get { keys, with_unique } => CommandOf::Get {
-            keys: keys.lend(text),
-            with_unique,
-        },
-        CommandOf::GetTouch {
-            exptime,
-            keys,
-            with_unique,
-        } => CommandOf::GetTouch {
-            exptime,
-            keys: keys.lend(text),
-            with_unique,
-        },
-        CommandOf::Touch {
-            key,
-            exptime,
-            quiet,
-        } => CommandOf::Touch {
-            key: key.lend(text),
-            exptime,
-            quiet,
-        },
-        CommandOf::Delete { key, quiet } => CommandOf::Delete {
-            key: key.lend(text),
-            quiet,
-        },
-        CommandOf::Count { key, up, by, quiet } => CommandOf::Count {
-            key: key.lend(text),
-            up,
-            by,
-            quiet,
-        },
-        CommandOf::FlushAll { delay, quiet } => CommandOf::FlushAll { delay, quiet },
-        CommandOf::Lone(lone) => CommandOf::Lone(lone),
-    }
-}
-
-/// Returns a command with a block as `lend` does.
-#[inline]
-fn lend_stored<'a>(noted: &Noted, text: &'a [u8], block: Bytes<'a>) -> Command<'a>
-    requires { HasBlock (with_block (read text.now noted.now) block) }
-    ensures { result ≡ with_block (read text.now noted.now) block.entry }
-{
-    match *noted {
-        CommandOf::Store {
-            verb,
-            key,
-            flags,
-            exptime,
-            quiet,
-            ..
-        } => CommandOf::Store {
-            verb,
-            key: key.lend(text),
-            flags,
-            exptime,
-            block,
-            quiet,
-        },
-        CommandOf::Cas {
-            key,
-            flags,
-            exptime,
-            unique,
-            quiet,
-            ..
-        } => CommandOf::Cas {
-            key: key.lend(text),
-            flags,
-            exptime,
-            block,
-            unique,
-            quiet,
-        },
-        _ => unreachable!(),
-    }
+    noted.lend(text, block)
 }
 
 /// Returns the length of the block that a command announces, or `None`.
@@ -300,7 +226,7 @@ impl Note {
 
     /// Returns the block that the line announces, if its chunk can take memory over.
     ///
-    /// That is a chunk of 66232 to 1048576 bytes, and the line must be short.
+    /// That is a chunk of 66232 to 1048576 bytes, or several pages, and the line must be short.
     #[inline(never)]
     pub fn large_block(&self) -> Option<Announced> {
         let Ok(noted) = &self.said else {
@@ -308,12 +234,12 @@ impl Note {
         };
         let len = announced_block(noted)?;
         let key = key_length(noted);
-        let size = class_of(
+        let need = need_of(
             CHUNK_HEAD
                 .saturating_add(key)
                 .saturating_add(u64::from(len)),
-        )?
-        .size() as usize;
+        )?;
+        let size = need.class().size() as usize;
         let from = self.end.saturating_add(1);
         if size < LEAST || from > BESIDE {
             return None;
@@ -321,7 +247,9 @@ impl Note {
         Some(Announced {
             from,
             len: len as usize,
-            memory: size + BESIDE,
+            memory: size
+                .saturating_mul(need.count() as usize)
+                .saturating_add(BESIDE),
         })
     }
 
