@@ -1,14 +1,16 @@
 -- Steps are shown as they came out.
-use Rattle.std.proofs.Common.{◌≡◌, refl, ℕ, true, false, List, Option, Some, None}
+use Rattle.std.proofs.Common.{◌≡◌, refl, ℕ, List, Option, Some, None}
 use Rattle.std.specs.Prelude.{codes}
 use Rattle.std.specs.Option.{option_and_then}
 use Rattle.mc_protocol.specs.declared.step.KeyStep.{KeyStep}
-use Rattle.mc_protocol.specs.declared.step.KeyStep.TheVariants as step
+use Rattle.mc_protocol.specs.declared.step.StepKind.{StepKind}
+use Rattle.mc_protocol.specs.declared.step.StepKind.TheVariants as kind
+use Rattle.mc_protocol.specs.Commands.{kind_of}
 use Rattle.mc_guests.specs.declared.tally.Outcome.{Outcome}
 use Rattle.mc_guests.specs.declared.tally.Outcome.TheVariants as outcome
 use Rattle.mc_metrics.specs.declared.counts.Counted.{Counted}
 use Rattle.mc_telemetry.specs.Counting.{badval_of, counted_as, counted_by, ways_of}
-use Rattle.mc_telemetry.specs.Labels.{Label, label_of, shown_as, shown_by}
+use Rattle.mc_telemetry.specs.Labels.{Label, clash_of, command_of, label_of, shown_as, shown_by, vain_of}
 
 -- a step with these two ways to count, and what it counts on a changed item, whose labels are these
 by_outcome : (ways : Counted × Counted) (badval : Option Counted) (command vain : List ℕ) (clash : Option Label) (out : Outcome)
@@ -29,31 +31,15 @@ by_outcome ways badval command vain clash outcome.NoChunk hit miss changed = ref
 by_outcome ways badval command vain clash outcome.NotNumeric hit miss changed = refl
 by_outcome ways badval command vain clash outcome.TooLarge hit miss changed = refl
 
+of_kind : (of : StepKind) (out : Outcome) → option_and_then label_of (counted_by (ways_of of) (badval_of of) out) ≡ shown_by (command_of of) (vain_of of) (clash_of of) out
+of_kind kind.Set out = by_outcome (ways_of kind.Set) (badval_of kind.Set) (codes "set") (codes "hit") None out refl refl refl
+of_kind kind.Cas out = by_outcome (ways_of kind.Cas) (badval_of kind.Cas) (codes "cas") (codes "miss") (Some (codes "cas", codes "badval")) out refl refl refl
+of_kind kind.Get out = by_outcome (ways_of kind.Get) (badval_of kind.Get) (codes "get") (codes "miss") None out refl refl refl
+of_kind kind.Touch out = by_outcome (ways_of kind.Touch) (badval_of kind.Touch) (codes "touch") (codes "miss") None out refl refl refl
+of_kind kind.Delete out = by_outcome (ways_of kind.Delete) (badval_of kind.Delete) (codes "delete") (codes "miss") None out refl refl refl
+of_kind kind.Incr out = by_outcome (ways_of kind.Incr) (badval_of kind.Incr) (codes "incr") (codes "miss") None out refl refl refl
+of_kind kind.Decr out = by_outcome (ways_of kind.Decr) (badval_of kind.Decr) (codes "decr") (codes "miss") None out refl refl refl
+of_kind kind.Flush out = by_outcome (ways_of kind.Flush) (badval_of kind.Flush) (codes "flush") (codes "hit") None out refl refl refl
+
 pub steps_shown : (taken : KeyStep) (out : Outcome) → option_and_then label_of (counted_as taken out) ≡ shown_as taken out
-steps_shown (step.Store verb key flags exptime block) out =
-    let taken = step.Store verb key flags exptime block in
-    by_outcome (ways_of taken) (badval_of taken) (codes "set") (codes "hit") None out refl refl refl
-steps_shown (step.Cas key flags exptime block unique) out =
-    let taken = step.Cas key flags exptime block unique in
-    by_outcome (ways_of taken) (badval_of taken) (codes "cas") (codes "miss") (Some (codes "cas", codes "badval")) out refl refl refl
-steps_shown (step.Read key) out =
-    let taken = step.Read key in
-    by_outcome (ways_of taken) (badval_of taken) (codes "get") (codes "miss") None out refl refl refl
-steps_shown (step.ReadTouch key exptime) out =
-    let taken = step.ReadTouch key exptime in
-    by_outcome (ways_of taken) (badval_of taken) (codes "touch") (codes "miss") None out refl refl refl
-steps_shown (step.Touch key exptime) out =
-    let taken = step.Touch key exptime in
-    by_outcome (ways_of taken) (badval_of taken) (codes "touch") (codes "miss") None out refl refl refl
-steps_shown (step.Delete key) out =
-    let taken = step.Delete key in
-    by_outcome (ways_of taken) (badval_of taken) (codes "delete") (codes "miss") None out refl refl refl
-steps_shown (step.Count key true by) out =
-    let taken = step.Count key true by in
-    by_outcome (ways_of taken) (badval_of taken) (codes "incr") (codes "miss") None out refl refl refl
-steps_shown (step.Count key false by) out =
-    let taken = step.Count key false by in
-    by_outcome (ways_of taken) (badval_of taken) (codes "decr") (codes "miss") None out refl refl refl
-steps_shown (step.Flush delay) out =
-    let taken = step.Flush delay in
-    by_outcome (ways_of taken) (badval_of taken) (codes "flush") (codes "hit") None out refl refl refl
+steps_shown taken out = of_kind (kind_of taken) out

@@ -1,39 +1,30 @@
 -- Which counter a step raises.
-use Rattle.std.specs.Prelude.{Bool, true, false, Option, Some, None}
+use Rattle.std.specs.Prelude.{Option, Some, None}
 use Rattle.mc_protocol.specs.declared.step.KeyStep.{KeyStep}
-use Rattle.mc_protocol.specs.declared.step.KeyStep.TheVariants.{Store, Cas, Read, ReadTouch, Touch, Delete, Count, Flush as FlushStep}
+use Rattle.mc_protocol.specs.declared.step.StepKind.{StepKind}
+use Rattle.mc_protocol.specs.declared.step.StepKind.TheVariants as kind
+use Rattle.mc_protocol.specs.Commands.{kind_of}
 use Rattle.mc_guests.specs.declared.tally.Outcome.{Outcome}
 use Rattle.mc_guests.specs.declared.tally.Outcome.TheVariants as outcome
 use Rattle.mc_metrics.specs.declared.counts.Counted.{Counted}
 use Rattle.mc_metrics.specs.declared.counts.Counted.TheVariants.{GetHit, GetMiss, SetStored, SetNotStored, CasHit, CasMiss, CasBadval, DeleteHit, DeleteMiss, IncrHit, IncrMiss, DecrHit, DecrMiss, TouchHit, TouchMiss, Flush, Refused}
 
--- as what incr and decr count that find a number, and that find no item
-abbrev pub ways_of_count : (up : Bool) → Counted × Counted
-ways_of_count true = (IncrHit, IncrMiss)
-ways_of_count false = (DecrHit, DecrMiss)
+-- as what a step of this kind counts that did what it asked for, and as what one for which there was no
+-- item, or one in its way; a flush is never in vain
+abbrev pub ways_of : StepKind → Counted × Counted
+ways_of kind.Set = (SetStored, SetNotStored)
+ways_of kind.Cas = (CasHit, CasMiss)
+ways_of kind.Get = (GetHit, GetMiss)
+ways_of kind.Touch = (TouchHit, TouchMiss)
+ways_of kind.Delete = (DeleteHit, DeleteMiss)
+ways_of kind.Incr = (IncrHit, IncrMiss)
+ways_of kind.Decr = (DecrHit, DecrMiss)
+ways_of kind.Flush = (Flush, Flush)
 
--- as what a step counts that did what it asked for, and as what one for which there was no item, or one
--- in its way; a flush is never in vain
-abbrev pub ways_of : KeyStep → Counted × Counted
-ways_of (Store verb key flags exptime block) = (SetStored, SetNotStored)
-ways_of (Cas key flags exptime block unique) = (CasHit, CasMiss)
-ways_of (Read key) = (GetHit, GetMiss)
-ways_of (ReadTouch key exptime) = (TouchHit, TouchMiss)
-ways_of (Touch key exptime) = (TouchHit, TouchMiss)
-ways_of (Delete key) = (DeleteHit, DeleteMiss)
-ways_of (Count key up by) = ways_of_count up
-ways_of (FlushStep delay) = (Flush, Flush)
-
--- as what a step counts that found its item changed; a cas alone asks for that
-abbrev pub badval_of : KeyStep → Option Counted
-badval_of (Store verb key flags exptime block) = None
-badval_of (Cas key flags exptime block unique) = Some CasBadval
-badval_of (Read key) = None
-badval_of (ReadTouch key exptime) = None
-badval_of (Touch key exptime) = None
-badval_of (Delete key) = None
-badval_of (Count key up by) = None
-badval_of (FlushStep delay) = None
+-- as what a step counts that found its item changed; only a cas has such a counter
+abbrev pub badval_of : StepKind → Option Counted
+badval_of kind.Cas = Some CasBadval
+badval_of other = None
 
 -- as what counts what came out so, by the two ways and as what it counts on a changed item; too large a step,
 -- and one on what is no number, count as nothing
@@ -54,4 +45,4 @@ counted_by ways badval outcome.TooLarge = None
 
 -- as what a step counts that came out so
 abbrev pub counted_as : KeyStep → Outcome → Option Counted
-counted_as step out = counted_by (ways_of step) (badval_of step) out
+counted_as step out = counted_by (ways_of (kind_of step)) (badval_of (kind_of step)) out

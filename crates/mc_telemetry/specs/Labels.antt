@@ -1,8 +1,10 @@
 -- What the page says of commands: under which command and result it shows each step.
-use Rattle.std.specs.Prelude.{◌≡◌, ℕ, true, false, List, [], ◌∷◌, ◌++◌, Option, Some, None, slice_get, codes}
+use Rattle.std.specs.Prelude.{◌≡◌, ℕ, List, [], ◌∷◌, ◌++◌, Option, Some, None, slice_get, codes}
 use Rattle.std.specs.List.{flat_map}
 use Rattle.mc_protocol.specs.declared.step.KeyStep.{KeyStep}
-use Rattle.mc_protocol.specs.declared.step.KeyStep.TheVariants as step
+use Rattle.mc_protocol.specs.declared.step.StepKind.{StepKind}
+use Rattle.mc_protocol.specs.declared.step.StepKind.TheVariants as kind
+use Rattle.mc_protocol.specs.Commands.{kind_of}
 use Rattle.mc_guests.specs.declared.tally.Outcome.{Outcome}
 use Rattle.mc_guests.specs.declared.tally.Outcome.TheVariants as outcome
 use Rattle.mc_metrics.specs.declared.counts.Counted.{Counted}
@@ -17,27 +19,26 @@ use Rattle.mc_metrics.specs.Pages.{figure_of, sample_text, samples_text}
 abbrev pub Label : Type 0
 Label = List ℕ × List ℕ
 
--- the command of a step: a gat is a touch, and set stands for each storage command but cas
-abbrev pub command_of : KeyStep → List ℕ
-command_of (step.Store verb key flags exptime block) = codes "set"
-command_of (step.Cas key flags exptime block unique) = codes "cas"
-command_of (step.Read key) = codes "get"
-command_of (step.ReadTouch key exptime) = codes "touch"
-command_of (step.Touch key exptime) = codes "touch"
-command_of (step.Delete key) = codes "delete"
-command_of (step.Count key true by) = codes "incr"
-command_of (step.Count key false by) = codes "decr"
-command_of (step.Flush delay) = codes "flush"
+-- the command of a step of this kind: a gat is a touch, and set stands for each storage command but cas
+abbrev pub command_of : StepKind → List ℕ
+command_of kind.Set = codes "set"
+command_of kind.Cas = codes "cas"
+command_of kind.Get = codes "get"
+command_of kind.Touch = codes "touch"
+command_of kind.Delete = codes "delete"
+command_of kind.Incr = codes "incr"
+command_of kind.Decr = codes "decr"
+command_of kind.Flush = codes "flush"
 
 -- the result of a step that found no item, or one in its way; a set is a hit all the same, and a flush is never in vain
-abbrev pub vain_of : KeyStep → List ℕ
-vain_of (step.Store verb key flags exptime block) = codes "hit"
-vain_of (step.Flush delay) = codes "hit"
+abbrev pub vain_of : StepKind → List ℕ
+vain_of kind.Set = codes "hit"
+vain_of kind.Flush = codes "hit"
 vain_of other = codes "miss"
 
--- what is shown of a step that found its item changed; a cas alone asks for that
-abbrev pub clash_of : KeyStep → Option Label
-clash_of (step.Cas key flags exptime block unique) = Some (codes "cas", codes "badval")
+-- what is shown of a step that found its item changed; only a cas is shown then
+abbrev pub clash_of : StepKind → Option Label
+clash_of kind.Cas = Some (codes "cas", codes "badval")
 clash_of other = None
 
 -- what is shown of a step of this command, which may have been in vain, or have found its item changed
@@ -58,7 +59,8 @@ shown_by command vain clash outcome.TooLarge = None
 
 -- the command and the result under which a step is shown that came out so
 abbrev pub shown_as : KeyStep → Outcome → Option Label
-shown_as taken out = shown_by (command_of taken) (vain_of taken) (clash_of taken) out
+shown_as taken out =
+    shown_by (command_of (kind_of taken)) (vain_of (kind_of taken)) (clash_of (kind_of taken)) out
 
 -- the command and the result of the steps that a counter counts
 abbrev pub label_of : Counted → Option Label
