@@ -65,16 +65,7 @@ impl<'a> Append for HitBack<'a> {
 pub fn is_retrieval(command: &Command<'_>) -> bool
     ensures { IsTrue result ↔ IsRetrieval command.now }
 {
-    match command {
-        Command::Get { .. } | Command::GetTouch { .. } => true,
-        Command::Store { .. }
-        | Command::Cas { .. }
-        | Command::Touch { .. }
-        | Command::Delete { .. }
-        | Command::Count { .. }
-        | Command::FlushAll { .. }
-        | Command::Lone(_) => false,
-    }
+    matches!(command, Command::Get { .. } | Command::GetTouch { .. })
 }
 
 /// Appends the text in front of the block of the first key. An error leaves the old text.
