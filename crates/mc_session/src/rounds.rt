@@ -1,6 +1,6 @@
 //! The loop that serves an endpoint: turns, and the writes and reads that they require.
 
-ghost use Rattle.std.specs.Prelude.{◌≡◌, ◌≢◌, ◌<◌, ◌^◌, [], true, Ok, Err, OnOk, IfOk, IfErr, IsFalse, length};
+ghost use Rattle.std.specs.Prelude.{◌≡◌, ◌≢◌, ◌<◌, ◌↔◌, ◌^◌, [], true, Ok, Err, OnOk, IfOk, IfErr, IsFalse, length};
 ghost use Rattle.std.specs.Io.KnownBytes.{IsAtEnd};
 ghost use Rattle.mc_session.specs.Exchanges.{longest_piece, most_waiting};
 ghost use Rattle.mc_session.specs.Exchanges.{scene, Wrote, Exchanges, FallsShort, HasEnded};
@@ -135,7 +135,7 @@ fn write_much<W: Write, S, E: Endpoint<S>>(
 
 /// Returns whether the output must be written before the next turn.
 fn is_full<S, E: Endpoint<S>>(endpoint: &E, store: &S) -> bool
-    ensures { IsFalse result → length (E.waits endpoint.now store.now) < most_waiting }
+    ensures { IsFalse result ↔ (length (E.waits endpoint.now store.now) < most_waiting) }
 {
     endpoint.output(store).len() >= WRITE_AT
 }
