@@ -1,6 +1,6 @@
 -- Which decisions are the plain machine's: those that take a state on by one shelf and the desk.
 use Rattle.std.proofs.Common.{◌≡◌, ◌≢◌, inl, inr, Bool, true, false, true≢false, Option, Some, None, ℕ, ◌<◌, List, [], ◌∷◌, Result, Err, sym, refl, ap, ◌∙◌, subst, arith}
-use Rattle.mc_shared.proofs.Words.{expiry_of, Expiry, Plain, Entry as Item, Outcome, MayFail, alive, changed, hit_of, plain, read_row, row_of, standing, stepped}
+use Rattle.mc_shared.proofs.Words.{expiry_of, Expiry, Plain, Entry as Item, Outcome, MayFail, alive, changed, hit_of, plain, row_of, standing, stepped}
 use Rattle.mc_shared.proofs.Words.{without_dead, KeyStep, Read, ReadTouch, Reply, Miss, ShelfContent, DeskState, StandsAt, CanStandAt, key_of, get, Reads, is_gone, next_of}
 use Rattle.mc_shared.proofs.Words.{writes, IsShelfOf, IsDeskOf, GoesTo, Content, OfShelf, OfDesk, Beginning, start_of, Operation, Stepped, shelf_in, left_by, next, after}
 use Rattle.mc_shared.proofs.Words.{IsRight, FitsBay, AllFit, KeepsLimits, holds_bay, SeatView, Decides, Fitted, Mine, Sitter, SharedState, HoldsShelf, IsAsked, StepFault}
@@ -231,21 +231,19 @@ tells_only : (dead : Bool) (reply : Reply) → writes (answered dead reply) ≡ 
 tells_only true reply e = true≢false (sym e)
 tells_only false reply e = true≢false (sym e)
 
-reads_only : (dead : Bool) (greatest : ℕ) (step : KeyStep) (expiry : Option Expiry)
-    (item : Option Item) → writes (next_by dead greatest step item (read_row expiry item)) ≡ true → ⊥
-reads_only dead greatest step expiry None e = tells_only dead Miss e
-reads_only dead greatest step None (Some old) e = tells_only dead (hit_of (Some old)) e
-reads_only dead greatest step (Some expiry) (Some old) e = true≢false (sym e)
+reads_only : (dead : Bool) (greatest : ℕ) (step : KeyStep) (now : ℕ) (item : Option Item) → is_read step ≡ true
+    → writes (next_by dead greatest step item (row_of step now item)) ≡ true → ⊥
+reads_only dead greatest (Read key) now None is e = tells_only dead Miss e
+reads_only dead greatest (Read key) now (Some old) is e = tells_only dead (hit_of (Some old)) e
+reads_only dead greatest (ReadTouch key exptime) now None is e = tells_only dead Miss e
+reads_only dead greatest (ReadTouch key exptime) now (Some old) is e = true≢false (sym e)
+reads_only dead greatest step now item is e = absurd (cc is)
 
 pub read_writes : (f : ShelfContent) (step : KeyStep) (now : ℕ) → is_read step ≡ true
     → writes (next_of f step now) ≡ true → ⊥
-read_writes f (Read key) now is e =
-    reads_only (is_gone f.cut now (get f.items key)) f.greatest (Read key) None
-    (alive f.cut now (get f.items key)) e
-read_writes f (ReadTouch key exptime) now is e =
-    reads_only (is_gone f.cut now (get f.items key)) f.greatest (ReadTouch key exptime)
-    (Some (expiry_of exptime now)) (alive f.cut now (get f.items key)) e
-read_writes f step now is e = absurd (cc is)
+read_writes f step now is e =
+    let found : Option Item = get f.items (key_of step) in
+    reads_only (is_gone f.cut now found) f.greatest step now (alive f.cut now found) is e
 
 -- a look that is refused memory for a read found an item
 pub look_reads : (f : ShelfContent) (step : KeyStep) (now : ℕ) → is_read step ≡ true

@@ -11,7 +11,7 @@ use Rattle.mc_shelf.specs.States.{stored}
 use Rattle.mc_shelf.specs.Hits.{found_of, is_read}
 use Rattle.mc_protocol.specs.Laws.{IsOnKey}
 use Rattle.mc_protocol.specs.declared.step.KeyStep.{KeyStep}
-use Rattle.mc_protocol.specs.declared.step.KeyStep.TheVariants.{Read, ReadTouch, Store, Cas, Touch, Delete, Count, Flush}
+use Rattle.mc_protocol.specs.declared.step.KeyStep.TheVariants.{Read, ReadTouch}
 use Rattle.mc_shared.specs.Telling.{AreLentParts, IsLentPart}
 use Rattle.mc_shelf.specs.declared.hit.Found.{Found}
 use Rattle.mc_shelf.specs.declared.hit.Found.TheVariants.{Nothing, Dead, Standing}
@@ -20,12 +20,7 @@ use Rattle.mc_shelf.specs.declared.hit.Found.TheVariants.{Nothing, Dead, Standin
 pub read_on_key : (step : KeyStep) → is_read step ≡ true → IsOnKey step
 read_on_key (Read key) is = tt
 read_on_key (ReadTouch key exptime) is = tt
-read_on_key (Store verb key flags exptime block) is = tt
-read_on_key (Cas key flags exptime block unique) is = tt
-read_on_key (Touch key exptime) is = tt
-read_on_key (Delete key) is = tt
-read_on_key (Count key up by) is = tt
-read_on_key (Flush delay) is = cc
+read_on_key other is = absurd (cc)
 
 -- the item that was found standing, if one was
 item_found : Found → Option Item

@@ -1,7 +1,7 @@
 -- The words that most proofs here speak in, passed on under one name.
 pub use Rattle.mc_shared.specs.History.{start_of, Beginning, Stepped, HistoryEntry, after, Operation, next, IsLegal, left_by, IsRight, Purged, Name, shelf_in}
 pub use Rattle.mc_protocol.specs.Plain.{Plain, Entry, plain, Answered, flushed, alive, Outcome, changed, without_dead, Items, Spent, stepped, row_of, standing, hit_of}
-pub use Rattle.mc_protocol.specs.Plain.{written, with_chunk, block_need, keeps_chunk, cas_row, given, expiring, write_reply, written_block, block_of, MayFail, read_row}
+pub use Rattle.mc_protocol.specs.Plain.{written, with_chunk, block_need, keeps_chunk, given, expiring, write_reply, written_block, block_of, MayFail}
 pub use Rattle.mc_protocol.specs.Plain.{living}
 pub use Rattle.mc_shared.specs.Past.{Past, KeptBy, Whole, call, spent, held, start, made, both, same, Lives, callers, name_of, makes, Ordered, numbered, called_by}
 pub use Rattle.mc_shared.specs.Past.{count_calls, Sound}
