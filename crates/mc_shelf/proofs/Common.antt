@@ -3,9 +3,9 @@ pub use Rattle.mc_protocol.proofs.CountLemmas.{count-empty, count-insert, count-
 pub use Rattle.mc_protocol.proofs.LawLemmas.{on_key, other_keys}
 pub use Rattle.mc_protocol.specs.Commands.{key_of}
 pub use Rattle.mc_protocol.specs.Laws.{IsOnKey, of_class}
-pub use Rattle.mc_protocol.specs.Plain.{alive, Answered, block_need, block_of, cas_row, changed, charge, chunks_in, CopiesBlock, count_of, count_row, Entry}
-pub use Rattle.mc_protocol.specs.Plain.{expiring, flushed, has_room, hit_of, item_need, Items, keeps_chunk, living, MayFail, number_of, number_row, Outcome, plain}
-pub use Rattle.mc_protocol.specs.Plain.{Plain, read_row, refusal_reply, row_of, Spent, starting, store_row, with_chunk, without_dead, write_reply, written}
+pub use Rattle.mc_protocol.specs.Plain.{alive, Answered, block_need, block_of, changed, charge, chunks_in, CopiesBlock, count_of, Entry}
+pub use Rattle.mc_protocol.specs.Plain.{expiring, flushed, has_room, hit_of, item_need, Items, keeps_chunk, living, MayFail, number_of, Outcome, plain}
+pub use Rattle.mc_protocol.specs.Plain.{Plain, refusal_reply, row_of, Spent, starting, with_chunk, without_dead, write_reply, written}
 pub use Rattle.mc_protocol.specs.Plain.{written_block, wrote}
 pub use Rattle.mc_protocol.specs.declared.reply.Reply.{Reply}
 pub use Rattle.mc_protocol.specs.declared.reply.Reply.TheVariants.{Deleted, Flushed, NoChunk, TooLarge, Touched}

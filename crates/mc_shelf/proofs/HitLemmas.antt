@@ -1,6 +1,6 @@
 -- A read of a key that has no dead item is the plain machine's.
 use Rattle.std.proofs.Common.{◌≡◌, ℕ, true, false, Option, Some, None, is_some, is_none, refl, sym, ap, subst, ◌∙◌, true≢false}
-use Rattle.mc_shelf.proofs.Common.{alive, cond_both, Entry, Expiry, get, hit_of, is_dead, IsOnKey, key_of, KeyStep, Place, read_row, row_of, ShelfContent}
+use Rattle.mc_shelf.proofs.Common.{alive, cond_both, Entry, Expiry, get, hit_of, is_dead, IsOnKey, key_of, KeyStep, Place, row_of, ShelfContent}
 use Rattle.mc_protocol.specs.declared.step.KeyStep.TheVariants.{Read, ReadTouch}
 use Rattle.mc_shelf.specs.declared.plan.Action.{Action}
 use Rattle.mc_shelf.specs.declared.plan.Action.TheVariants.{Answer, Expire}
@@ -16,24 +16,19 @@ on_key (Read key) is = tt
 on_key (ReadTouch key exptime) is = tt
 on_key step is = absurd (cc is)
 
-row_read : (step : KeyStep) (now : ℕ) (item : Option Entry) → is_read step ≡ true
-    → row_of step now item ≡ read_row (read_expiry step now) item
-row_read (Read key) now item is = refl
-row_read (ReadTouch key exptime) now item is = refl
-row_read step now item is = absurd (cc is)
-
 -- what comes next where no dead item is found, by the item that stands
 abbrev reading : Option Expiry → Option Entry → Action
 reading None item = Answer (hit_of item)
 reading (Some expiry) None = Answer (hit_of None)
 reading (Some expiry) (Some item) = Expire expiry (hit_of (Some item))
 
-next_by_read : (greatest : ℕ) (step : KeyStep) (expiry : Option Expiry) (item : Option Entry)
-    → next_by false greatest step item (read_row expiry item) ≡ reading expiry item
-next_by_read greatest step None None = refl
-next_by_read greatest step None (Some item) = refl
-next_by_read greatest step (Some expiry) None = refl
-next_by_read greatest step (Some expiry) (Some item) = refl
+next_by_read : (greatest : ℕ) (step : KeyStep) (now : ℕ) (item : Option Entry) → is_read step ≡ true
+    → next_by false greatest step item (row_of step now item) ≡ reading (read_expiry step now) item
+next_by_read greatest (Read key) now None is = refl
+next_by_read greatest (Read key) now (Some item) is = refl
+next_by_read greatest (ReadTouch key exptime) now None is = refl
+next_by_read greatest (ReadTouch key exptime) now (Some item) is = refl
+next_by_read greatest step now item is = absurd (cc is)
 
 -- an item that is found and isn't dead stands
 stands_found : (cut : Option ℕ) (now : ℕ) (item : Entry) → is_gone cut now (Some item) ≡ false
@@ -48,8 +43,8 @@ module _ (step : KeyStep) (now own : ℕ) (old : ShelfContent) (place : Option P
 
   next_is : next_of old step now ≡ reading (read_expiry step now) stands
   next_is =
-      (λ i. next_by (lives i) old.greatest step stands (row_read step now stands read i))
-      ∙ next_by_read old.greatest step (read_expiry step now) stands
+      (λ i. next_by (lives i) old.greatest step stands (row_of step now stands))
+      ∙ next_by_read old.greatest step now stands read
 
   answers_so : reading (read_expiry step now) stands ≡ Answer (hit_of stands) → PlanIsSettled step now own old (hit_of stands) old
   answers_so is = record {

@@ -1,7 +1,7 @@
 -- A block in parts, and which of them are blank.
 use Rattle.std.proofs.Common.{◌≡◌, ℕ, zero, suc, ◌+◌, ◌-◌, ◌<◌, ◌≤◌, ◌&&◌, Bool, true, false, List, [], ◌∷◌, length, take, drop, Some, None, slice_get, if◌then◌else◌, refl}
 use Rattle.std.proofs.Common.{sym, ap, subst, ◌∙◌, arith}
-use Rattle.mc_shelf.proofs.Common.{charge, concat, drop-nil, drop_more, Entry, get_or_from_slice_get, item_need, length-take-le, list_all, need_for, number_of}
+use Rattle.mc_shelf.proofs.Common.{charge, concat, drop-nil, drop_more, Entry, get_or_from_slice_get, item_need, list_all, need_for, number_of}
 use Rattle.mc_shelf.proofs.Common.{parts_of, pieces, same_Some, size_of, size_of-last, slice_get_within}
 use Rattle.std.proofs.Common.{min}
 use Rattle.std.proofs.lemmas.List.{length-take}

@@ -1,15 +1,11 @@
 -- What the plan of a step says of the plain machine at the key.
-use Rattle.std.proofs.Common.{◌≡◌, ℕ, ◌≤◌, Bool, true, false, ◌&&◌, List, append-nil, Option, Some, None, is_some, is_none, eqb, ltb, if◌then◌else◌, refl, sym, ap, subst, ◌∙◌}
+use Rattle.std.proofs.Common.{◌≡◌, ℕ, ◌≤◌, true, false, ◌&&◌, List, append-nil, Option, Some, None, is_some, is_none, ltb, if◌then◌else◌, refl, sym, ap, subst, ◌∙◌}
 use Rattle.std.proofs.Common.{ltb-true, ltb-false, true≢false}
-use Rattle.mc_shelf.proofs.Common.{alive, Answered, Appended, block_of, Body, cas_row, changed, charge, cond_both, count_row, Deleted, Deletes, DeskState}
-use Rattle.mc_shelf.proofs.Common.{Draft, Entry, expiring, Expiry, get, Given, hit_of, insert, is_dead, StandsAt, IsOnKey, keeps_chunk, key_of, KeyStep, number_of}
-use Rattle.mc_shelf.proofs.Common.{number_row, Outcome, Plain, Prepended, Reads, refusal_reply, Refuses, remove, Reply, Row, row_of, ShelfContent, store_row}
+use Rattle.mc_shelf.proofs.Common.{alive, Answered, Appended, block_of, Body, changed, charge, cond_both, Deleted, Deletes, DeskState}
+use Rattle.mc_shelf.proofs.Common.{Draft, Entry, expiring, Expiry, get, Given, hit_of, insert, is_dead, StandsAt, IsOnKey, keeps_chunk, key_of, KeyStep}
+use Rattle.mc_shelf.proofs.Common.{Outcome, Plain, Prepended, Reads, refusal_reply, Refuses, remove, Reply, Row, row_of, ShelfContent}
 use Rattle.mc_shelf.proofs.Common.{TooLarge, Touched, Touches, write_reply, Writes, written_block, wrote}
-use Rattle.mc_protocol.specs.declared.step.Verb.{Verb}
-use Rattle.mc_protocol.specs.declared.step.Verb.TheVariants.{Set, Add, Replace, Append, Prepend}
-use Rattle.mc_protocol.specs.declared.step.KeyStep.TheVariants.{Store, Cas, Count, Flush}
-use Rattle.mc_protocol.specs.declared.row.Refusal.TheVariants as refusal
-use Rattle.mc_protocol.specs.Plain.{given}
+use Rattle.mc_protocol.specs.Plain.{Absent, Lacks, Stores, absent_row, if_absent, if_present}
 use Rattle.mc_shelf.specs.declared.plan.Action.{Action}
 use Rattle.mc_shelf.specs.declared.plan.Action.TheVariants.{Answer, Expire, Discard, Write}
 use Rattle.mc_shelf.specs.Plans.{answered, block_in, charge_of, is_gone, made_block, next_by, next_of, row_at, stood}
@@ -23,36 +19,18 @@ SpeaksOf stands (Refuses refusal) = Unit {0}
 SpeaksOf stands (Writes draft) = stands ≡ None → draft.body ≡ Given
 SpeaksOf stands row = (item : Entry) × (stands ≡ Some item)
 
-no_item : (old : Entry) (body : Body) → Some old ≡ None → body ≡ Given
-no_item old body e = cc
+absent_speaks : (does : Absent) → SpeaksOf None (absent_row does)
+absent_speaks (Lacks why) = tt
+absent_speaks (Stores flags expiry) = λ e. refl
 
-store_speaks : (verb : Verb) (flags : ℕ) (expiry : Expiry) (stands : Option Entry) → SpeaksOf stands (store_row verb flags expiry stands)
-store_speaks Set flags expiry None = λ e. refl
-store_speaks Set flags expiry (Some old) = λ e. refl
-store_speaks Add flags expiry None = λ e. refl
-store_speaks Add flags expiry (Some old) = tt
-store_speaks Replace flags expiry None = tt
-store_speaks Replace flags expiry (Some old) = λ e. refl
-store_speaks Append flags expiry None = tt
-store_speaks Append flags expiry (Some old) = λ e. no_item old Appended e
-store_speaks Prepend flags expiry None = tt
-store_speaks Prepend flags expiry (Some old) = λ e. no_item old Prepended e
-
-cas_speaks : (flags : ℕ) (expiry : Expiry) (unique : ℕ) (stands : Option Entry) → SpeaksOf stands (cas_row flags expiry unique stands)
-cas_speaks flags expiry unique None = tt
-cas_speaks flags expiry unique (Some old) = elim (eqb old.unique unique) as (λ b. SpeaksOf (Some old) (if b then given flags expiry else Refuses refusal.Exists)) [ true ↦ λ e. refl | false ↦ tt ]
-
-count_speaks : (up : Bool) (by : ℕ) (stands : Option Entry) → SpeaksOf stands (count_row up by stands)
-count_speaks up by None = tt
-count_speaks up by (Some old) = elim (number_of old.block) as (λ n. SpeaksOf (Some old) (number_row old up by n)) [ None ↦ tt | Some n ↦ λ e. no_item old _ e ]
+present_speaks : (old : Entry) (row : Row) → SpeaksOf (Some old) row
+present_speaks old (Refuses why) = tt
+present_speaks old (Writes draft) = λ e. cc
+present_speaks old row = (old, refl)
 
 pub row_speaks : (step : KeyStep) (now : ℕ) (stands : Option Entry) → SpeaksOf stands (row_of step now stands)
-row_speaks (Store verb key flags exptime block) now stands = store_speaks verb flags _ stands
-row_speaks (Cas key flags exptime block unique) now stands = cas_speaks flags _ unique stands
-row_speaks (Count key up by) now stands = count_speaks up by stands
-row_speaks (Flush delay) now stands = tt
-row_speaks step now None = tt
-row_speaks step now (Some old) = (old, refl)
+row_speaks step now None = absent_speaks (if_absent step now)
+row_speaks step now (Some old) = present_speaks old (if_present step now old)
 
 -- an item that stands is the key's
 pub alive_found : (cut : Option ℕ) (now : ℕ) (found : Option Entry) (item : Entry) → alive cut now found ≡ Some item → found ≡ Some item

@@ -1,17 +1,18 @@
 -- What a shelf and a desk make of a plan is what the plain machine makes of the step.
-use Rattle.std.proofs.Common.{◌≡◌, ◌≢◌, ℕ, ◌+◌, ◌-◌, ◌<◌, ◌≤◌, ◌^◌, Bool, true, false, ◌&&◌, ◌||◌, List, [], decimal, Option, Some, None}
+use Rattle.std.proofs.Common.{◌≡◌, ◌≢◌, ℕ, ◌+◌, ◌-◌, ◌<◌, ◌≤◌, ◌^◌, Bool, true, false, ◌&&◌, ◌||◌, List, [], decimal, Option, Some, None, inl, inr}
 use Rattle.std.proofs.Common.{is_some, is_none, ◌*◌, ◌==◌, eqb, eqb-true, if◌then◌else◌, refl, sym, ap, subst, ◌∙◌, arith, le-leb, lt-ltb, not, true≢false}
-use Rattle.mc_shelf.proofs.Common.{alive, and_parts, and_right, Answered, block_need, block_of, Body, CanStandAt, changed, charge, chunks_a_page, chunks_in}
+use Rattle.mc_shelf.proofs.Common.{alive, and_parts, and_right, Answered, Appended, block_need, block_of, Body, CanStandAt, changed, charge, chunks_a_page, chunks_in}
 use Rattle.mc_shelf.proofs.Common.{count-remove, count_of, Counted, DeskState, Draft, empty, Entry, Expiry, get, Given, given, has_room, insert, StandsAt, IsClass}
-use Rattle.mc_shelf.proofs.Common.{IsHash, IsNeed, IsOnKey, IsSlab, item_need, keeps_chunk, key_of, KeyStep, made_ready, need_for, NeedState, NoChunk, of_class}
-use Rattle.mc_shelf.proofs.Common.{or_right, out_of, Plain, plain, remove, Reply, same_need, same_Some, ShelfContent, SlabState, taken, with_chunk, write_reply}
+use Rattle.mc_shelf.proofs.Common.{IsHash, IsNeed, IsOnKey, IsSlab, item_need, keeps_chunk, key_of, KeyStep, need_for, NeedState, NoChunk, of_class}
+use Rattle.mc_shelf.proofs.Common.{or_right, out_of, Plain, plain, Prepended, remove, Reply, same_need, same_Some, ShelfContent, SlabState, taken, with_chunk, write_reply}
 use Rattle.mc_shelf.proofs.Common.{written, written_block, wrote}
 use Rattle.mc_slab.specs.Slabs as slabs
 use Rattle.mc_protocol.specs.Plain as machine
 use Rattle.mc_shelf.specs.declared.plan.Action.{Action}
 use Rattle.mc_shelf.specs.declared.plan.Action.TheVariants.{Answer, Expire, Discard, Write}
 use Rattle.mc_shelf.specs.declared.write.Write.{Write as Writing}
-use Rattle.mc_shelf.specs.Plans.{GivesBack, GivesChunks, gives_way, IsDropped, IsOut, IsPut, IsSpent, StepTaken, IsWriteOf, TakesStepAtKey, back_at}
+use Rattle.mc_shelf.specs.Overs.{GoesOver}
+use Rattle.mc_shelf.specs.Plans.{GivesBack, GivesChunks, MayBeLeft, gives_way, IsDropped, IsOut, IsPut, IsSpent, StepTaken, IsWriteOf, TakesStepAtKey, back_at}
 use Rattle.mc_shelf.specs.Plans.{block_beside, block_in, counts, dead_chunks, drafted, made_block, has_need, is_gone, next_of, readied, reuses, row_at, stood, way_given}
 use Rattle.mc_shelf.proofs.StandLemmas.{base, step_is, at_none, at_dropped, at_put_again, counts_put, given_taken, out-given, out-taken, out-way}
 use Rattle.mc_shelf.proofs.StandLemmas.{out_found, out_some, pages-way, pages_after, pages_are, pages_stay, room_by_free, room_is, taken_is_slab, weight, weight_here}
@@ -105,6 +106,17 @@ module _ (step : KeyStep) (now : ℕ) (shelf : ShelfContent) (desk : DeskState) 
       (record s { items = remove s.items key }, d.2, dropped_at s at d.0 own new desk' d.1 (dropped d.0 d.1) back)
 
 -- ---- which chunks a write goes to
+
+-- a body that counts, and one that may be left, may go into the item's own chunks
+pub goes_counted : (body : Body) → counts body ≡ true → GoesOver body
+goes_counted Given e = tt
+goes_counted Appended e = tt
+goes_counted Prepended e = absurd (true≢false (sym e))
+goes_counted (Counted number) e = tt
+
+pub goes_left : (body : Body) → MayBeLeft body → GoesOver body
+goes_left body (inl given) = subst GoesOver (sym given) tt
+goes_left body (inr appended) = subst GoesOver (sym appended) tt
 
 same_needs : (a b : NeedState) → same_need a b ≡ true → a ≡ b
 same_needs a b e =
@@ -240,11 +252,14 @@ module _ {step : KeyStep} {now : ℕ} {shelf : ShelfContent} {desk : DeskState} 
   need_charge = w.need_is ∙ ap need_for drafted_is.size_is
 
   -- how the chunks of the item under the key suit it, where the key is known by another name
-  pub reuses_by : {key : List ℕ} {told b : Bool} → key ≡ its_key → told ≡ reuses shelf.cut now key (get shelf.items key) need draft.body → told ≡ b → Reuses b
-  reuses_by same is e = sym (is ∙ ap (λ (k : List ℕ). reuses shelf.cut now k (get shelf.items k) need draft.body) same) ∙ e
+  pub reuses_by : {key : List ℕ} {b : Bool} → key ≡ its_key → reuses shelf.cut now key (get shelf.items key) need draft.body ≡ b → Reuses b
+  reuses_by {key} {b} = subst (λ (k : List ℕ). reuses shelf.cut now k (get shelf.items k) need draft.body ≡ b)
 
-  pub has_by : {key : List ℕ} {told : Bool} → key ≡ its_key → told ≡ has_need key (get shelf.items key) need → told ≡ true → has_need its_key its_found need ≡ true
-  has_by same is e = sym (is ∙ ap (λ (k : List ℕ). has_need k (get shelf.items k) need) same) ∙ e
+  pub has_by : {key : List ℕ} → key ≡ its_key → has_need key (get shelf.items key) need ≡ true → has_need its_key its_found need ≡ true
+  has_by = subst (λ (k : List ℕ). has_need k (get shelf.items k) need ≡ true)
+
+  pub free_by : {key : List ℕ} {Is : Type 0} → key ≡ its_key → (reuses shelf.cut now key (get shelf.items key) need draft.body ≡ false → Is) → Reuses false → Is
+  free_by {key} {Is} = subst (λ (k : List ℕ). reuses shelf.cut now k (get shelf.items k) need draft.body ≡ false → Is)
 
   pub back_by : {key : List ℕ} {told : ℕ} → key ≡ its_key → told ≡ back_at shelf key now need → told ≡ back
   back_by same is = is ∙ ap (λ (k : List ℕ). back_at shelf k now need) same
@@ -283,6 +298,13 @@ module _ {step : KeyStep} {now : ℕ} {shelf : ShelfContent} {desk : DeskState} 
       by : (st : Option Entry) → its_stands ≡ st → draft.body ≡ Given
       by None is = drafted_is.given is
       by (Some old) is = absurd (true≢false (sym (counted_is e old is) ∙ none))
+
+  -- or it may be left
+  pub left_over : (Reuses false → MayBeLeft draft.body) → counts draft.body ≡ false → MayBeLeft draft.body
+  left_over left none = elim (reuses shelf.cut now its_key its_found need draft.body) as (λ b. Reuses b → MayBeLeft draft.body) [
+    | true ↦ λ e. inl (own_is e none)
+    | false ↦ left
+  ] refl
 
   -- where the key's item has the chunks of the need, they are those of the block that is made beside it
   pub need_beside : (item : Entry) → item_need its_key item ≡ need → item_need its_key item ≡ block_need its_key (block_beside shelf step draft)
@@ -401,7 +423,7 @@ module _ {step : KeyStep} {now : ℕ} {shelf : ShelfContent} {desk : DeskState} 
           )
 
       -- it goes into the chunks of the key's item
-      pub takes_again : {reply : Reply} {desk' : DeskState} → Reuses true → reply ≡ write_reply draft.body → desk' ≡ record desk { next_unique = desk.next_unique + 1 }
+      takes_again : {reply : Reply} {desk' : DeskState} → Reuses true → reply ≡ write_reply draft.body → desk' ≡ record desk { next_unique = desk.next_unique + 1 }
           → StepTaken step now own shelf desk reply new desk'
       takes_again e told same = its_taken told same (λ s at. by s at its_stands refl)
         where
@@ -493,7 +515,7 @@ module _ {step : KeyStep} {now : ℕ} {shelf : ShelfContent} {desk : DeskState} 
           omega (arith, out, had, of other)) s at)
 
       -- it goes into the chunks of the key's item, which isn't dead, where as many others are unused
-      pub takes_in_place : {reply : Reply} {desk' : DeskState} → Reuses false → has_need its_key its_found need ≡ true → need.count ≤ slabs.unused desk.slab need.class
+      takes_in_place : {reply : Reply} {desk' : DeskState} → Reuses false → has_need its_key its_found need ≡ true → need.count ≤ slabs.unused desk.slab need.class
           → reply ≡ write_reply draft.body → desk' ≡ record desk { next_unique = desk.next_unique + 1 } → StepTaken step now own shelf desk reply new desk'
       takes_in_place {reply} {desk'} e has free told same =
           let there = need_of_found its_key its_found need has in
@@ -506,6 +528,15 @@ module _ {step : KeyStep} {now : ℕ} {shelf : ShelfContent} {desk : DeskState} 
           } in
           takes_anew e none (ap (slabs.has_room_with desk.slab need) none ∙ room_by_free desk.slab need free) told refl
           (subst (λ (o : Option Entry). GivesBack its_key o mid desk') (sym there.1) (subst (λ (k : NeedState). GivesChunks k mid desk') (sym there.2) gives))
+
+      -- it goes into the chunks of the key's item
+      pub takes_over : {reply : Reply} {desk' : DeskState} → has_need its_key its_found need ≡ true → (Reuses false → need.count ≤ slabs.unused desk.slab need.class)
+          → reply ≡ write_reply draft.body → desk' ≡ record desk { next_unique = desk.next_unique + 1 } → StepTaken step now own shelf desk reply new desk'
+      takes_over {reply} {desk'} has free told same =
+          elim (reuses shelf.cut now its_key its_found need draft.body) as (λ b. Reuses b → StepTaken step now own shelf desk reply new desk') [
+            | true ↦ λ e. takes_again e told same
+            | false ↦ λ e. takes_in_place e has (free e) told same
+          ] refl
 
 -- ---- a dead item that gives way
 

@@ -4,20 +4,13 @@
 //! are decided; `finish` copies. A block under 4096 bytes is copied at the desk, since coming back
 //! costs about 400 instructions.
 
-ghost use Rattle.std.specs.Prelude.{◌≡◌, ◌≤◌, length, Some, None};
-ghost use Rattle.mc_protocol.specs.Commands.{key_of};
+ghost use Rattle.std.specs.Prelude.{◌≡◌, Some};
 ghost use Rattle.mc_shelf.specs.Counts.{KeepsTable, counts_of};
 ghost use Rattle.mc_shelf.specs.Plans.{
   CanFinish,
   CanWriteBlock,
-  IsSought,
-  LiesInNeed,
-  MayBeLeft,
-  block_beside,
-  drafted,
   finished,
   told_next,
-  with_item,
   write_told,
   written,
 };
@@ -70,8 +63,6 @@ impl Begun {
 }
 
 impl Shelf {
-    ghost use Rattle.mc_protocol.specs.Commands.{longest_key};
-
     /// Finishes a planned step that was begun at this shelf, and returns its reply.
     ///
     /// No other step may come between, and the plan has no reply afterwards. It copies the step's
@@ -120,26 +111,6 @@ impl Shelf {
                 let _old = self.put_into(write, unique, chunks, step);
             }
             None => self.write_over(write, unique, step),
-        }
-    }
-
-    /// Writes the step's block over the block of the key's item, or behind it, in its chunks.
-    fn write_over(&mut self, write: &Write, unique: u64, step: &KeyStep<'_>)
-        requires short { length (key_of step.now) ≤ longest_key }
-        requires sought { IsSought self.old.content (key_of step.now)
-            write.now.hash write.now.place }
-        requires body { MayBeLeft write.now.draft.body }
-        requires there { LiesInNeed (key_of step.now)
-            (block_beside self.old.content step.now write.now.draft) self.old }
-        ensures table { KeepsTable 0 (counts_of self.old) (counts_of self.new) }
-        ensures content { self.new.content ≡ with_item None (key_of step.now) write.now.hash
-            (drafted write.now.draft (block_beside self.old.content step.now write.now.draft)
-            unique write.now.moment) self.old.content }
-    {
-        if write.appends() {
-            self.extend(write, unique, step.key(), step.block());
-        } else {
-            self.overwrite(write, unique, step.key(), &step.block_bytes());
         }
     }
 }

@@ -4,12 +4,13 @@
 //! shelf that alone receives new keys still finishes its growth. No closure of a caller is passed
 //! on: an entry holds a chunk with a lifetime, and such a closure can't cross a crate.
 
-ghost use Rattle.std.specs.Prelude.{◌≡◌, ℕ, ◌+◌, ◌-◌, ◌^◌, ◌<◌, ◌≤◌, ◌++◌, List, length, min};
+ghost use Rattle.std.specs.Prelude.{◌≡◌, ℕ, ◌+◌, ◌-◌, ◌^◌, ◌<◌, ◌≤◌, List, length, min};
 ghost use Rattle.std.specs.Prelude.{Some, None, IfOk, IfSome, OnOk, nat_lt, option_copied, true, false};
 ghost use Rattle.std.specs.FinMap.{empty, get, len};
 ghost use Rattle.mc_slab.specs.Needs.{need_for};
 ghost use Rattle.mc_protocol.specs.Plain.{charge, item_need};
-ghost use Rattle.mc_shelf.specs.Plans.{drafted};
+ghost use Rattle.mc_shelf.specs.Overs.{GoesOver};
+ghost use Rattle.mc_shelf.specs.Plans.{drafted, made_block};
 ghost use Rattle.mc_grow.specs.Indexes.{IsFilled, IsNext, KeepsLower, count, entry_at, left};
 ghost use Rattle.mc_shelf.specs.Counts.{CatchesUp, CaughtUp, FitTogether, KeepsTable, MovesFew, counts_in};
 ghost use Rattle.mc_shelf.specs.Deaths.{DieNoSooner, NoneIsDead};
@@ -32,7 +33,6 @@ use crate::counts::ShelfCounts;
 use crate::entry::Entry;
 use crate::soonest::Soonest;
 use crate::write::Write;
-use mc_bytes::Lent;
 pub(crate) use mc_grow::Place;
 use mc_hop::Keyed;
 use mc_protocol::{Bytes, Standing};
@@ -203,10 +203,11 @@ impl EntryIndex {
         self.entries.update(place, |before| (entry, before))
     }
 
-    /// Writes another block, and the fields of a write, into the chunks of the item at a place.
+    /// Writes the item of a write into the chunks of the item at a place: over its block, or behind
+    /// it.
     ///
     /// They must be the chunks that the new charge needs. It takes no memory.
-    pub(crate) fn rewrite<'a>(
+    pub(crate) fn write_over<'a>(
         &mut self,
         place: Place,
         write: &Write,
@@ -214,84 +215,30 @@ impl EntryIndex {
         key: &'a [u8],
         block: &Bytes<'a>,
     )
+        requires body { GoesOver write.now.draft.body }
         requires key { IsKeyAt self.old key.now place }
         requires short { length key.now ≤ longest_key }
         requires need { (at : IsKeyAt self.old key.now place) →
-            item_need key.now at.entry.item ≡ need_for (charge key.now block.now) }
-        ensures { ItemIsChanged self.old self.new key.now
-            (drafted write.now.draft block.now unique write.now.moment) }
+            item_need key.now at.entry.item ≡ need_for (charge key.now
+            (made_block write.now.draft.body block.now at.entry.item.block)) }
+        ensures { (at : IsKeyAt self.old key.now place) → ItemIsChanged self.old self.new key.now
+            (drafted write.now.draft
+            (made_block write.now.draft.body block.now at.entry.item.block)
+            unique write.now.moment) }
     {
+        self.soonest.note(write.draft.expiry, write.moment);
+        let bytes = block.as_slice();
+        // A closure captures plain references alone, so that its contract is known.
         match block.lent() {
-            Some(lent) => self.rewrite_lent(place, write, unique, key, lent),
-            None => self.rewrite_copied(place, write, unique, key, block.as_slice()),
+            Some(lent) => self.entries.update(place, |mut entry| {
+                write.write_over(&mut entry, unique, key, bytes, Some(lent));
+                (entry, ())
+            }),
+            None => self.entries.update(place, |mut entry| {
+                write.write_over(&mut entry, unique, key, bytes, None);
+                (entry, ())
+            }),
         }
-    }
-
-    /// Does what `rewrite` does with a block that its chunk may take over.
-    fn rewrite_lent<'a>(
-        &mut self,
-        place: Place,
-        write: &Write,
-        unique: u64,
-        key: &'a [u8],
-        block: &'a Lent,
-    )
-        requires key { IsKeyAt self.old key.now place }
-        requires short { length key.now ≤ longest_key }
-        requires need { (at : IsKeyAt self.old key.now place) →
-            item_need key.now at.entry.item ≡ need_for (charge key.now block.now) }
-        ensures { ItemIsChanged self.old self.new key.now
-            (drafted write.now.draft block.now unique write.now.moment) }
-    {
-        self.soonest.note(write.draft.expiry, write.moment);
-        self.entries.update(place, |mut entry| {
-            write.rewrite_lent(&mut entry, unique, key, block);
-            (entry, ())
-        });
-    }
-
-    /// Does what `rewrite` does with a block that is copied.
-    fn rewrite_copied<'a>(
-        &mut self,
-        place: Place,
-        write: &Write,
-        unique: u64,
-        key: &'a [u8],
-        block: &'a [u8],
-    )
-        requires key { IsKeyAt self.old key.now place }
-        requires short { length key.now ≤ longest_key }
-        requires need { (at : IsKeyAt self.old key.now place) →
-            item_need key.now at.entry.item ≡ need_for (charge key.now block.now) }
-        ensures { ItemIsChanged self.old self.new key.now
-            (drafted write.now.draft block.now unique write.now.moment) }
-    {
-        self.soonest.note(write.draft.expiry, write.moment);
-        self.entries.update(place, |mut entry| {
-            write.rewrite_copied(&mut entry, unique, key, block);
-            (entry, ())
-        });
-    }
-
-    /// Appends a block to that of the item at a place, and sets the fields of a write.
-    ///
-    /// The chunks must be those that the new charge needs. It copies only the new block, and takes
-    /// no memory.
-    pub(crate) fn extend<'a>(&mut self, place: Place, write: &Write, unique: u64, block: &'a [u8])
-        requires filled { (key : List ℕ) × IsKeyAt self.old key place }
-        requires need { (entry : EntryState) → entry_at self.old place ≡ Some entry →
-            item_need entry.key entry.item
-            ≡ need_for (charge entry.key (entry.item.block ++ block.now)) }
-        ensures { (key : List ℕ) (at : IsKeyAt self.old key place) →
-            ItemIsChanged self.old self.new key (drafted write.now.draft
-            (at.entry.item.block ++ block.now) unique write.now.moment) }
-    {
-        let Write { moment, draft, .. } = *write;
-        self.soonest.note(draft.expiry, moment);
-        self.entries.update(place, |mut entry| {
-            entry.extend(block, draft.flags, draft.expiry, unique, moment);
-            (entry, ())
-        });
     }
 
     /// Removes the entry at a place and returns it. It takes no memory.

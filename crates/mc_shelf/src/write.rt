@@ -4,7 +4,7 @@
 //! because taking some and giving the item's back leaves the slab unchanged. An append goes behind
 //! the existing block under the same rule, so the existing block isn't copied.
 
-ghost use Rattle.std.specs.Prelude.{◌≡◌, ◌↔◌, ◌++◌, ℕ, ◌+◌, ◌≤◌, ◌<◌, ◌-◌, ◌^◌, List, length};
+ghost use Rattle.std.specs.Prelude.{◌≡◌, ◌↔◌, ◌||◌, ◌++◌, ℕ, ◌+◌, ◌≤◌, ◌<◌, ◌-◌, ◌^◌, List, length};
 ghost use Rattle.std.specs.Prelude.{Option, Some, None, Err, IfOk, IfSome, OnErr, true, false};
 ghost use Rattle.std.specs.FinMap.{get};
 ghost use Rattle.mc_slab.specs.Needs.{need_for, same_need};
@@ -14,6 +14,7 @@ ghost use Rattle.mc_protocol.specs.Commands.{key_of};
 ghost use Rattle.mc_protocol.specs.Plain.{Entry as Item, block_of, charge, item_need, write_reply};
 ghost use Rattle.mc_shelf.specs.Counts.{KeepsTable, counts_of};
 ghost use Rattle.mc_shelf.specs.States.{CanStandAt};
+ghost use Rattle.mc_shelf.specs.Overs.{GoesOver};
 ghost use Rattle.mc_shelf.specs.Plans as plans;
 ghost use Rattle.mc_shelf.specs.Plans.{
   CanGiveWay,
@@ -99,29 +100,23 @@ impl Write {
         }
     }
 
-    /// Returns whether the item may also go into the chunks of the key's item.
+    /// Returns whether the item goes into the chunks of the key's item, which are those that it
+    /// needs.
     ///
-    /// It may if they are those that it needs, as many others are unused, and the block is the
-    /// step's own or comes behind the present one.
-    fn goes_over(&self, same: bool, need: Need, desk: &Desk) -> bool
-        ensures same { result ≡ true → same ≡ true }
-        ensures body { result ≡ true → MayBeLeft self.now.draft.body }
-        ensures unused { result ≡ true → need.count ≤ unused desk.now.slab need.class }
+    /// It does if the key's item is dead or a number is counted. It also does if as many others are
+    /// unused, and the block is the step's own or comes behind the present one: taking them and
+    /// giving the item's back would leave the slab unchanged.
+    fn goes_over(&self, gone: bool, need: Need, desk: &Desk) -> bool
+        ensures left { result ≡ true → plans.counts self.now.draft.body || gone ≡ false →
+            MayBeLeft self.now.draft.body }
+        ensures unused { result ≡ true → plans.counts self.now.draft.body || gone ≡ false →
+            need.count ≤ unused desk.now.slab need.class }
+        ensures other { result ≡ false → plans.counts self.now.draft.body || gone ≡ false }
     {
         match self.draft.body {
-            Body::Given | Body::Appended => same && desk.has_unused(need),
-            Body::Prepended | Body::Counted(_) => false,
-        }
-    }
-
-    /// Returns whether the step's block comes behind the present one.
-    pub(crate) fn appends(&self) -> bool
-        ensures yes { result ≡ true → self.now.draft.body ≡ Body.Appended }
-        ensures no { result ≡ false → self.now.draft.body ≡ Body.Appended → ⊥ }
-    {
-        match self.draft.body {
-            Body::Appended => true,
-            Body::Given | Body::Prepended | Body::Counted(_) => false,
+            Body::Given | Body::Appended => gone || desk.has_unused(need),
+            Body::Prepended => gone,
+            Body::Counted(_) => true,
         }
     }
 
@@ -261,49 +256,61 @@ impl Write {
         )
     }
 
-    /// Writes this block, which its chunk may take over, into the chunks of the key's item.
+    /// Writes the item of the write into an entry's chunks: over the block there, or behind it.
     ///
-    /// They must be the chunks that the new charge needs.
-    pub(crate) fn rewrite_lent<'a>(
-        &self,
-        entry: &mut Entry,
-        unique: u64,
-        key: &'a [u8],
-        block: &'a Lent,
-    )
-        requires key { key.now ≡ entry.old.key }
-        requires short { length key.now ≤ longest_key }
-        requires need { need_for (charge key.now block.now)
-            ≡ item_need entry.old.key entry.old.item }
-        ensures { entry.new ≡ record entry.old {
-          item = drafted self.now.draft block.now unique self.now.moment;
-        } }
-    {
-        entry.rewrite(Parts {
-            hash: self.hash,
-            key,
-            first: &[],
-            second: block.as_slice(),
-            lent: Some(block),
-            flags: self.draft.flags,
-            expiry: self.draft.expiry,
-            unique,
-            updated: self.moment,
-        });
-    }
-
-    /// Copies this block into the chunks of the key's item, and sets the fields of the write.
-    ///
-    /// They must be the chunks that the new charge needs.
-    pub(crate) fn rewrite_copied<'a>(
+    /// They must be the chunks that the new charge needs. `lent` is the memory of the step's block,
+    /// if a chunk may take it over.
+    pub(crate) fn write_over<'a>(
         &self,
         entry: &mut Entry,
         unique: u64,
         key: &'a [u8],
         block: &'a [u8],
+        lent: Option<&'a Lent>,
+    )
+        requires body { GoesOver self.now.draft.body }
+        requires key { key.now ≡ entry.old.key }
+        requires short { length key.now ≤ longest_key }
+        requires lent { IfSome lent (λ lent. lent.now ≡ block.now) }
+        requires need { need_for (charge key.now
+            (made_block self.now.draft.body block.now entry.old.item.block))
+            ≡ item_need entry.old.key entry.old.item }
+        ensures { entry.new ≡ record entry.old {
+          item = drafted self.now.draft
+              (made_block self.now.draft.body block.now entry.old.item.block)
+              unique self.now.moment;
+        } }
+    {
+        let Draft {
+            flags,
+            expiry,
+            body,
+        } = self.draft;
+        match body {
+            Body::Given => self.rewrite(entry, unique, key, block, lent),
+            Body::Appended => entry.extend(block, flags, expiry, unique, self.moment),
+            Body::Counted(number) => {
+                let mut buffer = Buffer::new();
+                let digits = buffer.format(number).as_bytes();
+                self.rewrite(entry, unique, key, digits, None);
+            }
+            // No block comes before the present one in its chunks, by what this call requires.
+            Body::Prepended => unreachable!(),
+        }
+    }
+
+    /// Writes the item with this block into an entry's chunks.
+    fn rewrite<'a>(
+        &self,
+        entry: &mut Entry,
+        unique: u64,
+        key: &'a [u8],
+        block: &'a [u8],
+        lent: Option<&'a Lent>,
     )
         requires key { key.now ≡ entry.old.key }
         requires short { length key.now ≤ longest_key }
+        requires lent { IfSome lent (λ lent. lent.now ≡ block.now) }
         requires need { need_for (charge key.now block.now)
             ≡ item_need entry.old.key entry.old.item }
         ensures { entry.new ≡ record entry.old {
@@ -315,7 +322,7 @@ impl Write {
             key,
             first: &[],
             second: block,
-            lent: None,
+            lent,
             flags: self.draft.flags,
             expiry: self.draft.expiry,
             unique,
@@ -359,10 +366,8 @@ impl Write {
 
 /// How the chunks of a key's item suit a write.
 struct Fit {
-    /// They are those that the write needs.
-    same: bool,
-    /// They are also used in any case: the item is dead, or the write is a counted number.
-    reused: bool,
+    /// The write goes into them.
+    over: bool,
     /// Otherwise, how many chunks of the write's class a dead item gives back.
     back: u64,
 }
@@ -450,15 +455,13 @@ impl Shelf {
             return Err(StepFault::NumbersSpent);
         }
         let need = self.need_for(write.charge);
-        let Fit { same, reused, back } = self.fit(write, need, step.key());
-        if reused {
+        let Fit { over, back } = self.fit(write, need, step.key(), desk);
+        if over {
             let unique = desk.draw();
-            return Ok(self.rewrite(write, unique, step));
-        }
-        if write.goes_over(same, need, desk) {
-            // Taking as many unused chunks and giving the item's back would leave the slab
-            // unchanged.
-            let unique = desk.draw();
+            if write.counts() {
+                self.write_over(write, unique, step);
+                return Ok(Begun::Done);
+            }
             return Ok(Begun::Left(Unwritten {
                 unique,
                 chunks: None,
@@ -479,25 +482,32 @@ impl Shelf {
 
     /// Returns how the chunks of the key's item suit a write. It searches first where it was found
     /// before.
-    fn fit(&self, write: &Write, need: Need, key: &[u8]) -> Fit
+    fn fit(&self, write: &Write, need: Need, key: &[u8], desk: &Desk) -> Fit
         requires { IsKnown self.now.content key.now write.now.hash write.now.place }
-        ensures same { result.same
-            ≡ plans.has_need key.now (get self.now.content.items key.now) need }
-        ensures reused { result.reused ≡ reuses self.now.content.cut write.now.moment key.now
-            (get self.now.content.items key.now) need write.now.draft.body }
-        ensures back { result.reused ≡ false →
+        ensures has { result.over ≡ true →
+            plans.has_need key.now (get self.now.content.items key.now) need ≡ true }
+        ensures left { result.over ≡ true → reuses self.now.content.cut write.now.moment key.now
+            (get self.now.content.items key.now) need write.now.draft.body ≡ false →
+            MayBeLeft write.now.draft.body }
+        ensures unused { result.over ≡ true → reuses self.now.content.cut write.now.moment key.now
+            (get self.now.content.items key.now) need write.now.draft.body ≡ false →
+            need.count ≤ unused desk.now.slab need.class }
+        ensures other { result.over ≡ false → reuses self.now.content.cut write.now.moment key.now
+            (get self.now.content.items key.now) need write.now.draft.body ≡ false }
+        ensures back { result.over ≡ false →
             result.back ≡ back_at self.now.content key.now write.now.moment need }
         ensures most { result.back ≤ 8 }
     {
         let found = self.entry(write.place, write.hash, key);
-        let same = has_need(found, need);
-        let reused = same && (write.counts() || is_gone(found, self.cut, write.moment));
-        let back = if same {
-            0
-        } else {
-            dead_chunks(found, need, self.cut, write.moment)
-        };
-        Fit { same, reused, back }
+        if !has_need(found, need) {
+            let back = dead_chunks(found, need, self.cut, write.moment);
+            return Fit { over: false, back };
+        }
+        let gone = is_gone(found, self.cut, write.moment);
+        Fit {
+            over: write.goes_over(gone, need, desk),
+            back: 0,
+        }
     }
 
     /// Replaces a dead item of the write's key, whose chunks go back before the write takes some.
@@ -544,74 +554,24 @@ impl Shelf {
         self.put(&write, chunks, None, step, desk)
     }
 
-    /// Writes a number into the chunks of the key's item. A step's own block is left to be written
-    /// there.
+    /// Writes the item of a write into the chunks of the key's item: over its block, or behind it.
     #[tactic(auto, using(crate::proofs::CountLemmas::table_rules))]
-    fn rewrite(&mut self, write: &Write, unique: u64, step: &KeyStep<'_>) -> Begun
-        requires key { length (key_of step.now) ≤ longest_key }
-        requires known { IsKnown self.old.content (key_of step.now) write.now.hash write.now.place }
-        requires own { plans.counts write.now.draft.body ≡ false →
-            write.now.draft.body ≡ Body.Given }
+    pub(crate) fn write_over(&mut self, write: &Write, unique: u64, step: &KeyStep<'_>)
+        requires short { length (key_of step.now) ≤ longest_key }
+        requires sought { IsSought self.old.content (key_of step.now)
+            write.now.hash write.now.place }
+        requires body { GoesOver write.now.draft.body }
         requires there { LiesInNeed (key_of step.now)
             (block_beside self.old.content step.now write.now.draft) self.old }
-        ensures told { write_told write.now.draft.body result ≡ write_reply write.now.draft.body }
-        ensures put { IsPut (key_of step.now) write.now.hash self.old.content
-            (written write.now (left_of result) step.now self.new.content)
+        ensures content { self.new.content ≡ with_item None (key_of step.now) write.now.hash
             (drafted write.now.draft (block_beside self.old.content step.now write.now.draft)
-            unique write.now.moment) }
-        ensures left { IfSome (left_of result) (λ rest.
-            CanWriteBlock write.now rest step.now self.new) }
-        ensures table { KeepsTable 0 (counts_of self.old) (counts_of self.new) }
-    {
-        match write.draft.body {
-            Body::Given | Body::Appended | Body::Prepended => Begun::Left(Unwritten {
-                unique,
-                chunks: None,
-            }),
-            Body::Counted(number) => {
-                let mut buffer = Buffer::new();
-                let digits = buffer.format(number).as_bytes();
-                self.overwrite(write, unique, step.key(), &Bytes::of(digits));
-                Begun::Done
-            }
-        }
-    }
-
-    /// Writes a block into the chunks of a key's item.
-    #[tactic(auto, using(crate::proofs::CountLemmas::table_rules))]
-    pub(crate) fn overwrite<'a>(
-        &mut self,
-        write: &Write,
-        unique: u64,
-        key: &'a [u8],
-        block: &Bytes<'a>,
-    )
-        requires key { length key.now ≤ longest_key }
-        requires sought { IsSought self.old.content key.now write.now.hash write.now.place }
-        requires there { LiesInNeed key.now block.now self.old }
-        ensures content { self.new.content ≡ with_item None key.now write.now.hash
-            (drafted write.now.draft block.now unique write.now.moment) self.old.content }
-        ensures table { KeepsTable 0 (counts_of self.old) (counts_of self.new) }
-    {
-        if let Some(place) = self.index.find_again(write.place, write.hash, key) {
-            self.index.rewrite(place, write, unique, key, block);
-        }
-    }
-
-    /// Appends a block to that of a key's item, in its chunks.
-    #[tactic(auto, using(crate::proofs::CountLemmas::table_rules))]
-    pub(crate) fn extend<'a>(&mut self, write: &Write, unique: u64, key: &[u8], block: &'a [u8])
-        requires sought { IsSought self.old.content key.now write.now.hash write.now.place }
-        requires there { LiesInNeed key.now
-            (block_in (get self.old.content.items key.now) ++ block.now) self.old }
-        ensures table { KeepsTable 0 (counts_of self.old) (counts_of self.new) }
-        ensures content { self.new.content ≡ with_item None key.now write.now.hash
-            (drafted write.now.draft
-            (block_in (get self.old.content.items key.now) ++ block.now)
             unique write.now.moment) self.old.content }
+        ensures table { KeepsTable 0 (counts_of self.old) (counts_of self.new) }
     {
+        let key = step.key();
         if let Some(place) = self.index.find_again(write.place, write.hash, key) {
-            self.index.extend(place, write, unique, block);
+            self.index
+                .write_over(place, write, unique, key, &step.block_bytes());
         }
     }
 

@@ -1,6 +1,6 @@
-use Rattle.std.proofs.Common.{◌≡◌, ◌<◌, ◌≤◌, ◌-◌, ◌^◌, List, ℕ, Option, None, is_some, sym, ap, subst, ◌∙◌, arith}
-use Rattle.mc_shelf.proofs.Common.{block_of, Body, DeskState, Entry, get, given, item_need, key_of, none-some, same_Some, taken, unused}
-use Rattle.mc_shelf.specs.Plans.{GivesBack, IsDropped, IsOut, IsPut, block_beside, block_in, drafted, drawn, left_of, made_block, way_given, written}
+use Rattle.std.proofs.Common.{◌≡◌, ◌<◌, ◌≤◌, ◌-◌, ◌^◌, List, ℕ, Option, is_some, sym, ap, subst, ◌∙◌, arith}
+use Rattle.mc_shelf.proofs.Common.{block_of, Body, DeskState, Entry, get, item_need, key_of, none-some, same_Some, taken, unused}
+use Rattle.mc_shelf.specs.Plans.{GivesBack, IsOut, IsPut, block_beside, block_in, drafted, drawn, left_of, made_block, way_given, written}
 use Rattle.mc_shelf.proofs.TakesLemmas.{put_after_drop, way_desk, way_gone}
 use Rattle.mc_shelf.specs.Counts.{counts_of}
 use Rattle.mc_shelf.proofs.CountLemmas.{kept_then}

@@ -1,51 +1,43 @@
-use Rattle.std.proofs.Common.{◌≡◌, ◌++◌, inl, inr, List, ℕ, None, ap, subst, sym, ◌∙◌}
-use Rattle.mc_shelf.proofs.Common.{Appended, Body, Draft, get, Given, key_of, KeyStep, ShelfContent}
-use Rattle.mc_shelf.specs.Plans.{LiesInNeed, MayBeLeft, block_beside, block_in, drafted, with_item}
+use Rattle.std.proofs.Common.{◌≡◌, List, ℕ, Option, None, Some, sym, ap, ◌∙◌, subst}
+use Rattle.mc_shelf.proofs.Common.{block_need, block_of, Entry, get, item_need, items_of, key_of, ShelfState}
+use Rattle.mc_shelf.specs.Plans.{block_in, drafted, made_block, with_item}
+use Rattle.mc_shelf.specs.Counts.{KeepsTable, counts_in, counts_of}
+use Rattle.mc_shelf.proofs.CountLemmas.{changed_kept}
+use Rattle.mc_shelf.proofs.PlaceLemmas.{there_item}
+use Rattle.mc_shelf.proofs.ShelfLemmas.{changed_is}
 use Rattle.mc_shelf.proofs.shelf.Shelf.write_over.Goals as goal
 
--- the block that a body makes beside the key's item, where it is this body
-beside : (shelf : ShelfContent) (step : KeyStep) (draft : Draft) (body : Body) → draft.body ≡ body → block_beside shelf step draft ≡ block_beside shelf step (record draft { body = body })
-beside shelf step draft body = ap (λ (b : Body). block_beside shelf step (record draft { body = b }))
+pub write_over-requires-clause-need : goal.write_over-requires-clause-need
+write_over-requires-clause-need c at =
+    let there = c.requires.there in
+    let body = c.args.write.now.draft.body in
+    let key = key_of c.args.step.now in
+    let block = block_of c.args.step.now in
+    let found : get (items_of c.self.inside.index) c.key-key.result.now ≡ Some there.item = ap (λ (s : ShelfState). get s.content.items c.key-key.result.now) c.self.view_is
+    ∙ ap (λ (k : List ℕ). get c.args.self.now.content.items k) c.key-key.ensures ∙ there.there in
+    let item = there_item c.self.inside.index c.key-key.result.now c.in-Some.place at there.item found in
+    let need : item_need key there.item ≡ block_need key (made_block body block there.item.block) =
+    there.need ∙ ap (λ (f : Option Entry). block_need key (made_block body block (block_in f))) there.there in
+    subst (λ (t : List ℕ × List ℕ × Entry). item_need t.0 t.2 ≡ block_need t.0 (made_block body t.1 t.2.block))
+    (λ i. (sym c.key-key.ensures i, sym c.block_bytes.ensures i, sym item i)) need
 
-given_else : (body : Body) → MayBeLeft body → (body ≡ Appended → ⊥) → body ≡ Given
-given_else body (inl given) other = given
-given_else body (inr appended) other = absurd (other appended)
-
-pub extend-requires-clause-there : goal.extend-requires-clause-there
-extend-requires-clause-there c =
-    let old = c.args.self.now.content in
-    let step = c.args.step.now in
-    let joined = beside old step c.args.write.now.draft Appended (c.appends.ensures.yes c.if-appends.true) in
-    subst (λ (k : List ℕ). LiesInNeed k (block_in (get old.items k) ++ c.block.result.now) c.args.self.now) (sym c.key.ensures)
-    (subst (λ (l : List ℕ). LiesInNeed (key_of step) (block_in (get old.items (key_of step)) ++ l) c.args.self.now) (sym c.block.ensures)
-    (subst (λ (l : List ℕ). LiesInNeed (key_of step) l c.args.self.now) joined c.requires.there))
-
-pub returns-then-appends-clause-content : goal.returns-then-appends-clause-content
-returns-then-appends-clause-content c =
-    let old = c.args.self.now.content in
-    let step = c.args.step.now in
+pub returns-in-Some-clause-content : goal.returns-in-Some-clause-content
+returns-in-Some-clause-content c =
+    let inside = c.self.inside in
     let write = c.args.write.now in
-    let joined = beside old step write.draft Appended (c.appends.ensures.yes c.if-appends.true) in
-    c.extend.ensures.content
-    ∙ ap (λ (k : List ℕ). with_item None k write.hash (drafted write.draft (block_in (get old.items k) ++ c.block.result.now) c.args.unique write.moment) old) c.key.ensures
-    ∙ ap (λ (l : List ℕ). with_item None (key_of step) write.hash (drafted write.draft (block_in (get old.items (key_of step)) ++ l) c.args.unique write.moment) old) c.block.ensures
-    ∙ ap (λ (l : List ℕ). with_item None (key_of step) write.hash (drafted write.draft l c.args.unique write.moment) old) (sym joined)
-
-pub overwrite-requires-clause-there : goal.overwrite-requires-clause-there
-overwrite-requires-clause-there c =
     let old = c.args.self.now.content in
-    let step = c.args.step.now in
-    let draft = c.args.write.now.draft in
-    let own = beside old step draft Given (given_else draft.body c.requires.body (c.appends.ensures.no c.if-appends.false)) in
-    subst (λ (k : List ℕ). LiesInNeed k c.block_bytes.result c.args.self.now) (sym c.key-else-appends.ensures)
-    (subst (λ (l : List ℕ). LiesInNeed (key_of step) l c.args.self.now) (own ∙ sym c.block_bytes.ensures) c.requires.there)
+    let at = c.in-Some.ensures in
+    let made : (block beside : List ℕ) → Entry = λ block beside. drafted write.draft (made_block write.draft.body block beside) c.args.unique write.moment in
+    let stood : at.entry.item.block ≡ block_in (get old.items (key_of c.args.step.now)) = ap block_in (sym at.item ∙ ap (λ (s : ShelfState). get s.content.items c.key-key.result.now) c.self.view_is
+    ∙ ap (λ (k : List ℕ). get old.items k) c.key-key.ensures) in
+    changed_is inside.greatest inside.cut old inside.index (ap (λ (s : ShelfState). s.content) c.self.view_is) c.key-key.result.now write.hash c.write_over.new.self
+    (made c.block_bytes.result at.entry.item.block) (c.write_over.ensures at)
+    ∙ (λ i. with_item None (c.key-key.ensures i) write.hash (made (c.block_bytes.ensures i) (stood i)) old)
 
-pub returns-else-appends-clause-content : goal.returns-else-appends-clause-content
-returns-else-appends-clause-content c =
-    let old = c.args.self.now.content in
-    let step = c.args.step.now in
+pub returns-in-Some-clause-table : goal.returns-in-Some-clause-table
+returns-in-Some-clause-table c =
     let write = c.args.write.now in
-    let own = beside old step write.draft Given (given_else write.draft.body c.requires.body (c.appends.ensures.no c.if-appends.false)) in
-    c.overwrite.ensures.content
-    ∙ ap (λ (k : List ℕ). with_item None k write.hash (drafted write.draft c.block_bytes.result c.args.unique write.moment) old) c.key-else-appends.ensures
-    ∙ ap (λ (l : List ℕ). with_item None (key_of step) write.hash (drafted write.draft l c.args.unique write.moment) old) (c.block_bytes.ensures ∙ sym own)
+    let at = c.in-Some.ensures in
+    subst (λ (s : ShelfState). KeepsTable 0 (counts_of s) (counts_in c.write_over.new.self)) c.self.view_is
+    (changed_kept c.self.inside.index c.write_over.new.self c.key-key.result.now
+    (drafted write.draft (made_block write.draft.body c.block_bytes.result at.entry.item.block) c.args.unique write.moment) (c.write_over.ensures at))
