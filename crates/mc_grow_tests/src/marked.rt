@@ -51,8 +51,8 @@ pub(crate) fn take(index: &mut Index<Mark>, hash: u64, key: [u8; 2]) -> bool {
     }
 }
 
-/// Returns a mark counted once more, and its hash.
-pub(crate) fn counted(mark: Mark) -> (Mark, u64)
+/// Returns a mark counted once more, and its hash and count before.
+pub(crate) fn counted(mark: Mark) -> (Mark, (u64, u32))
     ensures hash { result.0.hash ≡ mark.hash }
     ensures key { result.0.key ≡ mark.key }
 {
@@ -62,7 +62,7 @@ pub(crate) fn counted(mark: Mark) -> (Mark, u64)
         key,
         count: count.saturating_add(1),
     };
-    (more, hash)
+    (more, (hash, count))
 }
 
 /// Counts the mark of this hash and key once more, and returns whether there was one.

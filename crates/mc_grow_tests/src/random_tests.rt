@@ -9,6 +9,7 @@ use mc_hop::{Fnv, KeyHash};
 use mc_testing::{Dice, Mark};
 use std::alloc::{AllocError, Global};
 use std::collections::BTreeMap;
+use std::process::Abort;
 use std::test::*;
 
 /// How many hashes the keys have.
@@ -143,25 +144,52 @@ fn put(map: &mut BTreeMap<u16, u32>, key: u16) -> Result<(), AllocError> {
     Ok(())
 }
 
+/// Takes a random step in both, and checks that they had the same before.
+fn step_alike(
+    rt: &impl Abort,
+    alloc: Global,
+    pair: &mut Pair,
+    dice: &mut Dice,
+    turn: u32,
+) -> Result<(), AllocError> {
+    let act = ACTS[dice.roll(8) as usize];
+    let key = dice.roll(u64::from(KEYS)) as u16;
+    let alike = pair.step(alloc, act, key)?;
+    let hashes = pair.hashes;
+    assert!(rt;
+        alike,
+        "turn {turn} of {hashes:?}: key {key} stood in one alone"
+    );
+    Ok(())
+}
+
+/// Checks that both have the same.
+fn is_alike(rt: &impl Abort, pair: &Pair, turn: u32) {
+    let hashes = pair.hashes;
+    let unlike = pair.first_unlike();
+    let right = unlike.is_none() && pair.index.len() == pair.map.len();
+    assert!(rt; right, "turn {turn} of {hashes:?}: {unlike:?} differs");
+}
+
+/// Takes 800 steps in both, moves up to two entries after each, and checks that both have the same.
+///
+/// Returns whether an entry was moved.
+fn steps_alike(rt: &impl Abort, alloc: Global, pair: &mut Pair) -> Result<bool, AllocError> {
+    let mut dice = Dice::new(1);
+    let mut moves = false;
+    for turn in 0..800 {
+        step_alike(rt, alloc, pair, &mut dice, turn)?;
+        moves |= pair.index.move_some(dice.roll(3) as usize) > 0;
+        is_alike(rt, pair, turn);
+    }
+    Ok(moves)
+}
+
 #[test]
 fn random_steps_leave_what_a_map_has(rt: HostRuntime) -> Result<(), Fail> {
     for hashes in [Hashes::Spread, Hashes::Eight, Hashes::Home, Hashes::One] {
         let mut pair = Pair::open(rt.alloc(), hashes)?;
-        let mut dice = Dice::new(1);
-        let mut moves = false;
-        for turn in 0..800 {
-            let act = ACTS[dice.roll(8) as usize];
-            let key = dice.roll(u64::from(KEYS)) as u16;
-            let alike = pair.step(rt.alloc(), act, key)?;
-            assert!(rt;
-                alike,
-                "turn {turn} of {hashes:?}: key {key} stood in one alone"
-            );
-            moves |= pair.index.move_some(dice.roll(3) as usize) > 0;
-            let unlike = pair.first_unlike();
-            let right = unlike.is_none() && pair.index.len() == pair.map.len();
-            assert!(rt; right, "turn {turn} of {hashes:?}: {unlike:?} differs");
-        }
+        let moves = steps_alike(&rt, rt.alloc(), &mut pair)?;
         assert!(rt; moves, "no entry was moved with {hashes:?}");
     }
     Ok(())

@@ -1,5 +1,7 @@
 //! A store that counts its steps.
 
+ghost use Rattle.std.specs.Prelude.{◌≡◌, refl};
+
 use mc_command::PlainStore;
 use mc_guests::Reports;
 use mc_protocol::{KeyStep, Reply, StepFault, Steps};
@@ -30,8 +32,6 @@ impl Counting {
 }
 
 impl Steps for Counting {
-    ghost use Rattle.std.specs.Prelude.{◌≡◌, refl};
-
     ghost took = { λ old step now reply new. old ≡ old };
 
     ghost spent = { λ old step now. old ≡ old };

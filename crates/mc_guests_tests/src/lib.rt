@@ -3,8 +3,8 @@
 //! They are apart from the tests of sessions because both crates are proved side by side. Tests use
 //! only public calls. No program uses this crate.
 //!
-//! What several files share is a store that counts its steps (`src/counting.rt`) and lines that
-//! announce blocks (`src/lines.rt`).
+//! What several files share is a store that counts its steps (`src/counting.rt`), lines that
+//! announce blocks (`src/lines.rt`), and guests with their store (`src/halls.rt`).
 #![tactic(auto)]
 
 #[cfg(test)]
@@ -14,6 +14,8 @@ mod counting;
 mod door_tests;
 #[cfg(test)]
 mod gathering_tests;
+#[cfg(test)]
+mod halls;
 #[cfg(test)]
 mod lines;
 #[cfg(test)]

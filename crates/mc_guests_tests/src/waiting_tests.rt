@@ -3,20 +3,15 @@
 //! What a budget counts is seen by which further guests wait.
 
 use crate::counting::Counting;
-use crate::lines::{BEGUN, GREATEST, OF_131073, OF_380000, OF_600000, OF_9000000};
-use mc_guests::{Budget, Got, Guests, Link, LinkFault, Took, WorkEnd};
-use mc_protocol::Verb;
-use mc_testing::{Ask, ask_step, filled_block, step_of};
-use mc_time::Moment;
+use crate::halls::{Arrivals, HallOf, store_with};
+use crate::lines::{BEGUN, OF_131073, OF_380000, OF_600000, OF_9000000};
+use mc_guests::{Got, Link, LinkFault, Took, WorkEnd};
 use std::alloc::{AllocError, Global};
 use std::cell::Cell;
 use std::test::*;
 
 /// The bytes that the guests of a hall may hold.
 const SHARE: usize = 1_000_000;
-
-/// More rounds than any guest is awake in.
-const ROUNDS: u64 = 100;
 
 /// The ticks for which a waiting guest is watched, and the rounds in each.
 const TICKS: u64 = 20;
@@ -44,21 +39,53 @@ impl Peer {
     }
 }
 
+/// What is outside three links.
+#[derive(Drop)]
+struct Peers {
+    first: Peer,
+    second: Peer,
+    third: Peer,
+}
+
+impl Peers {
+    fn new() -> Peers {
+        Peers {
+            first: Peer::new(),
+            second: Peer::new(),
+            third: Peer::new(),
+        }
+    }
+}
+
 /// A link that gives its input and then nothing once, over and over, and takes all output.
 ///
 /// When its peer has left, a read returns the end and a pause fails. Contracts don't see its bytes.
 #[derive(Drop)]
 struct Wire<'a> {
     peer: &'a Peer,
-    input: &'a [u8],
-    /// The bytes that it gives after its first input.
-    more: usize,
+    arrivals: Arrivals<'a>,
     /// Its input after it gave nothing.
     again: &'a [u8],
     faults: u64,
     is_ended: bool,
     was_read: bool,
     requested: usize,
+}
+
+impl<'a> Wire<'a> {
+    /// Returns a link with this line, behind which `more` bytes arrive, and then an input again
+    /// and again.
+    fn new(peer: &'a Peer, line: &'a [u8], more: usize, again: &'a [u8]) -> Wire<'a> {
+        Wire {
+            peer,
+            arrivals: Arrivals { input: line, more },
+            again,
+            faults: 0,
+            is_ended: false,
+            was_read: false,
+            requested: 0,
+        }
+    }
 }
 
 impl<'a> Link for Wire<'a> {
@@ -77,21 +104,12 @@ impl<'a> Link for Wire<'a> {
             self.is_ended = true;
             return Ok(Got::End);
         }
-        let count = piece.len().min(self.input.len());
-        if count == 0 {
-            let more = piece.len().min(self.more);
-            self.more -= more;
-            if more > 0 {
-                return Ok(Got::Bytes(more));
-            }
-            self.input = self.again;
-            return Ok(Got::Later);
+        let count = self.arrivals.give(piece);
+        if count > 0 {
+            return Ok(Got::Bytes(count));
         }
-        let (front, rest) = self.input.split_at(count);
-        let (room, _) = piece.split_at_mut(count);
-        room.copy_from_slice(front);
-        self.input = rest;
-        Ok(Got::Bytes(count))
+        self.arrivals.input = self.again;
+        Ok(Got::Later)
     }
 
     fn try_write(&mut self, bytes: &[u8]) -> Result<Took, LinkFault> {
@@ -118,52 +136,8 @@ impl<'a> Link for Wire<'a> {
     }
 }
 
-/// Guests, their store, and how many ended.
-#[derive(Drop)]
-struct Hall<'a> {
-    guests: Guests<Wire<'a>>,
-    store: Counting,
-    end: WorkEnd,
-}
-
-/// Makes a hall without guests, whose store has an item `a` of 10000 bytes.
-fn new_hall<'a>(alloc: Global) -> Result<Hall<'a>, Fail> {
-    Ok(Hall {
-        guests: Guests::new(alloc, Budget::new(SHARE, GREATEST)),
-        store: store_with_a(alloc)?,
-        end: WorkEnd {
-            served: 0,
-            broken: 0,
-            refused: 0,
-        },
-    })
-}
-
-fn store_with_a(alloc: Global) -> Result<Counting, Fail> {
-    let mut store = Counting::new(alloc, false)?;
-    let block = filled_block(alloc, 10_000)?;
-    let step = step_of(b"a", Ask::Store(Verb::Set, 0, block.as_slice()));
-    let now = Moment::from_seconds_at_most(1000);
-    let _ = ask_step(&mut store.store, alloc, &step, now)?;
-    Ok(store)
-}
-
-/// Makes a round.
-fn go_once(alloc: Global, hall: &mut Hall<'_>) {
-    let now = Moment::from_seconds_at_most(1000);
-    hall.guests.visit_all(alloc, &mut hall.store, now);
-    hall.guests.settle(&mut hall.end);
-}
-
-/// Makes rounds until no guest is awake.
-fn go_round(alloc: Global, hall: &mut Hall<'_>) {
-    for _round in 0..ROUNDS {
-        if hall.guests.is_quiet() {
-            return;
-        }
-        go_once(alloc, hall);
-    }
-}
+/// Guests with these links, and their store.
+type Hall<'a> = HallOf<Wire<'a>>;
 
 /// Admits a guest whose link has this number and gives a line that announces a block.
 ///
@@ -175,29 +149,13 @@ fn let_in<'a>(
     line: &'a [u8],
     peer: &'a Peer,
 ) -> Result<usize, AllocError> {
-    let wire = Wire {
-        peer,
-        input: line,
-        more: BEGUN,
-        again: b"",
-        faults: 0,
-        is_ended: false,
-        was_read: false,
-        requested: 0,
-    };
-    if !hall.guests.welcome(alloc, wire, GREATEST, number) {
-        return Err(AllocError);
-    }
-    go_round(alloc, hall);
-    Ok(hall.guests.waiting_guests())
+    hall.let_in(alloc, number, Wire::new(peer, line, BEGUN, b""))
 }
 
 /// Ends the guest whose link has this number, and returns how many guests wait.
 fn let_go(alloc: Global, hall: &mut Hall<'_>, number: u64, peer: &Peer) -> usize {
     peer.has_left.set(true);
-    hall.guests.wake(number);
-    go_round(alloc, hall);
-    hall.guests.waiting_guests()
+    hall.let_go(alloc, number)
 }
 
 /// What is seen of guests: how many wait after each comes or leaves.
@@ -238,64 +196,35 @@ fn others_leave<'a>(
     ])
 }
 
-/// Runs both in a hall. Returns what was seen, and how guests ended.
-fn seen_in<'a>(
-    alloc: Global,
-    hall: &mut Hall<'a>,
-    first: &'a Peer,
-    second: &'a Peer,
-    third: &'a Peer,
-) -> Result<(Seen, Seen, WorkEnd), AllocError> {
-    let before = one_leaves(alloc, hall, first, second)?;
-    let after = others_leave(alloc, hall, first, third)?;
-    Ok((before, after, hall.end))
-}
-
-/// The same in a new hall.
-fn seen_of_leaving(alloc: Global) -> Result<(Seen, Seen, WorkEnd), Fail> {
-    let (first, second, third) = (Peer::new(), Peer::new(), Peer::new());
-    let mut hall = new_hall(alloc)?;
-    Ok(seen_in(alloc, &mut hall, &first, &second, &third)?)
-}
-
 /// Returns how many guests ended with their links, at their end or by a fault.
 fn ended_with_links(end: WorkEnd) -> u64 {
     end.served.saturating_add(end.broken)
 }
 
-#[test]
-fn a_waiting_guest_that_leaves_leaves_no_trace(rt: HostRuntime) -> Result<(), Fail> {
-    let (before, after, ended) = seen_of_leaving(rt.alloc())?;
-    assert!(rt; before == [1, 0, 0, 1] && after == [0, 0, 0, 1]);
-    assert!(rt; ended_with_links(ended) == 4 && ended.refused == 0);
-    Ok(())
-}
-
-/// Ends all guests of a hall, and admits one that wants 9000000 bytes. Returns how many wait.
-fn waiting_behind<'a>(
+/// Runs both in a hall, and returns whether the guests wait and end as they should.
+fn leaves_no_trace<'a>(
     alloc: Global,
     hall: &mut Hall<'a>,
-    first: &'a Peer,
-    second: &'a Peer,
-    third: &'a Peer,
-) -> Result<usize, AllocError> {
-    one_leaves(alloc, hall, first, second)?;
+    peers: &'a Peers,
+) -> Result<bool, AllocError> {
+    let before = one_leaves(alloc, hall, &peers.first, &peers.second)?;
+    let after = others_leave(alloc, hall, &peers.first, &peers.third)?;
+    let is_seen = before == [1, 0, 0, 1] && after == [0, 0, 0, 1];
+    Ok(is_seen && ended_with_links(hall.end) == 4 && hall.end.refused == 0)
+}
+
+/// Ends all guests of a hall, and returns whether one that wants 9000000 bytes goes on then.
+fn goes_on_behind<'a>(
+    alloc: Global,
+    hall: &mut Hall<'a>,
+    peers: &'a Peers,
+) -> Result<bool, AllocError> {
+    one_leaves(alloc, hall, &peers.first, &peers.second)?;
     for number in 1..5 {
-        let_go(alloc, hall, number, first);
+        let_go(alloc, hall, number, &peers.first);
     }
-    let_in(alloc, hall, 5, OF_9000000, third)
-}
-
-fn wants_all_behind(alloc: Global) -> Result<usize, Fail> {
-    let (first, second, third) = (Peer::new(), Peer::new(), Peer::new());
-    let mut hall = new_hall(alloc)?;
-    Ok(waiting_behind(alloc, &mut hall, &first, &second, &third)?)
-}
-
-#[test]
-fn one_that_is_alone_behind_them_goes_on(rt: HostRuntime) -> Result<(), Fail> {
-    assert_eq!(rt; wants_all_behind(rt.alloc())?, 0);
-    Ok(())
+    let waiting = let_in(alloc, hall, 5, OF_9000000, &peers.third)?;
+    Ok(waiting == 0)
 }
 
 /// Admits a guest that gets `a` over and over.
@@ -306,32 +235,22 @@ fn let_getter_in<'a>(
     peer: &'a Peer,
 ) -> Result<(), AllocError> {
     let get = b"get a\r\n".as_slice();
-    let wire = Wire {
-        peer,
-        input: get,
-        more: 0,
-        again: get,
-        faults: 0,
-        is_ended: false,
-        was_read: false,
-        requested: 0,
-    };
-    if !hall.guests.welcome(alloc, wire, GREATEST, number) {
-        return Err(AllocError);
-    }
-    Ok(())
+    hall.admit(alloc, number, Wire::new(peer, get, 0, get))
 }
 
-/// Makes rounds in one tick, before each of which the guest of this number is named.
-///
-/// Returns how often the peer's link was called.
+/// Makes the rounds of a tick, before each of which the guest of this number is named.
+fn go_for_a_tick(alloc: Global, hall: &mut Hall<'_>, number: u64) {
+    for _round in 0..ROUNDS_A_TICK {
+        hall.guests.wake(number);
+        hall.go_once(alloc);
+    }
+}
+
+/// Returns how often the peer's link was called in the rounds of this tick.
 fn calls_in_tick(alloc: Global, hall: &mut Hall<'_>, tick: u64, number: u64, peer: &Peer) -> u64 {
     let before = peer.calls.get();
     hall.guests.tick(tick);
-    for _round in 0..ROUNDS_A_TICK {
-        hall.guests.wake(number);
-        go_once(alloc, hall);
-    }
+    go_for_a_tick(alloc, hall, number);
     peer.calls.get().saturating_sub(before)
 }
 
@@ -344,66 +263,98 @@ fn most_calls(alloc: Global, hall: &mut Hall<'_>, number: u64, peer: &Peer) -> u
     most
 }
 
-/// The number of waiting guests, the most calls of the waiting guest's link in one tick, and whether
-/// the getter got at least one item in each.
-type Watched = (usize, u64, bool);
-
-/// Watches a guest that waits for one of 9000000 bytes, beside one that gets `a` over and over.
-fn watched_in<'a>(
+/// Admits a guest of 9000000 bytes, the first, and a second one that waits for it.
+fn let_one_wait<'a>(
     alloc: Global,
     hall: &mut Hall<'a>,
-    large: &'a Peer,
-    waits: &'a Peer,
-    gets: &'a Peer,
-) -> Result<Watched, AllocError> {
-    let_in(alloc, hall, 1, OF_9000000, large)?;
-    let_in(alloc, hall, 2, OF_380000, waits)?;
-    let_getter_in(alloc, hall, 3, gets)?;
-    let most = most_calls(alloc, hall, 3, waits);
-    let is_served = gets.calls.get() > TICKS;
-    Ok((hall.guests.waiting_guests(), most, is_served))
+    peers: &'a Peers,
+) -> Result<usize, AllocError> {
+    let_in(alloc, hall, 1, OF_9000000, &peers.first)?;
+    let_in(alloc, hall, 2, OF_380000, &peers.second)
 }
 
-fn watched(alloc: Global) -> Result<Watched, Fail> {
-    let (large, waits, gets) = (Peer::new(), Peer::new(), Peer::new());
-    let mut hall = new_hall(alloc)?;
-    Ok(watched_in(alloc, &mut hall, &large, &waits, &gets)?)
+/// Watches a guest that waits for one of 9000000 bytes, beside one that gets `a` over and over.
+///
+/// Returns whether it waits and is tried at most once a tick, and the other got an item in each.
+fn does_not_spin<'a>(
+    alloc: Global,
+    hall: &mut Hall<'a>,
+    peers: &'a Peers,
+) -> Result<bool, AllocError> {
+    let_one_wait(alloc, hall, peers)?;
+    let_getter_in(alloc, hall, 3, &peers.third)?;
+    let most = most_calls(alloc, hall, 3, &peers.second);
+    let is_served = peers.third.calls.get() > TICKS;
+    Ok(most <= 1 && is_served && hall.guests.waiting_guests() == 1)
+}
+
+/// Returns whether there is nothing to do while a guest waits, and it is tried at most once a tick.
+fn lets_rest<'a>(alloc: Global, hall: &mut Hall<'a>, peers: &'a Peers) -> Result<bool, AllocError> {
+    let_one_wait(alloc, hall, peers)?;
+    let is_quiet = hall.guests.is_quiet();
+    let most = most_calls(alloc, hall, 3, &peers.second);
+    Ok(most <= 1 && is_quiet && hall.guests.is_quiet())
+}
+
+/// What guests do in a hall.
+#[derive(Clone, Copy)]
+enum Case {
+    LeaveNoTrace,
+    GoOnBehind,
+    DoNotSpin,
+    LetRest,
+}
+
+/// Returns whether guests do so in a hall without any.
+fn do_in<'a>(
+    alloc: Global,
+    hall: &mut Hall<'a>,
+    peers: &'a Peers,
+    case: Case,
+) -> Result<bool, AllocError> {
+    match case {
+        Case::LeaveNoTrace => leaves_no_trace(alloc, hall, peers),
+        Case::GoOnBehind => goes_on_behind(alloc, hall, peers),
+        Case::DoNotSpin => does_not_spin(alloc, hall, peers),
+        Case::LetRest => lets_rest(alloc, hall, peers),
+    }
+}
+
+/// The same in a new hall over a store.
+fn do_over(alloc: Global, store: Counting, case: Case) -> Result<bool, AllocError> {
+    let peers = Peers::new();
+    let mut hall = HallOf::new(alloc, store, SHARE);
+    do_in(alloc, &mut hall, &peers, case)
+}
+
+/// The same over a new store, which has an item `a` of 10000 bytes.
+fn guests_do(alloc: Global, case: Case) -> Result<bool, Fail> {
+    let store = store_with(alloc, 10_000)?;
+    Ok(do_over(alloc, store, case)?)
+}
+
+#[test]
+fn a_waiting_guest_that_leaves_leaves_no_trace(rt: HostRuntime) -> Result<(), Fail> {
+    assert!(rt; guests_do(rt.alloc(), Case::LeaveNoTrace)?);
+    Ok(())
+}
+
+#[test]
+fn one_that_is_alone_behind_them_goes_on(rt: HostRuntime) -> Result<(), Fail> {
+    assert!(rt; guests_do(rt.alloc(), Case::GoOnBehind)?);
+    Ok(())
 }
 
 /// A waiting guest is tried again at most once a tick. Here there is no room all the time.
 #[test]
 fn a_waiting_guest_does_not_spin(rt: HostRuntime) -> Result<(), Fail> {
-    let (waiting, most, is_served) = watched(rt.alloc())?;
-    assert!(rt; waiting == 1 && is_served);
-    assert!(rt; most <= 1, "{most} calls in a tick");
+    assert!(rt; guests_do(rt.alloc(), Case::DoNotSpin)?);
     Ok(())
-}
-
-/// Returns whether there is nothing to do while a guest waits, and the most calls of its link.
-fn quiet_in<'a>(
-    alloc: Global,
-    hall: &mut Hall<'a>,
-    large: &'a Peer,
-    waits: &'a Peer,
-) -> Result<(bool, u64), AllocError> {
-    let_in(alloc, hall, 1, OF_9000000, large)?;
-    let_in(alloc, hall, 2, OF_380000, waits)?;
-    let is_quiet = hall.guests.is_quiet();
-    let most = most_calls(alloc, hall, 3, waits);
-    Ok((is_quiet && hall.guests.is_quiet(), most))
-}
-
-fn quiet(alloc: Global) -> Result<(bool, u64), Fail> {
-    let (large, waits) = (Peer::new(), Peer::new());
-    let mut hall = new_hall(alloc)?;
-    Ok(quiet_in(alloc, &mut hall, &large, &waits)?)
 }
 
 /// While all others sleep, a waiting guest leaves its worker at rest.
 #[test]
 fn a_waiting_guest_lets_its_worker_rest(rt: HostRuntime) -> Result<(), Fail> {
-    let (is_quiet, most) = quiet(rt.alloc())?;
-    assert!(rt; is_quiet);
-    assert!(rt; most <= 1, "{most} calls in a tick");
+    assert!(rt; guests_do(rt.alloc(), Case::LetRest)?);
     Ok(())
 }

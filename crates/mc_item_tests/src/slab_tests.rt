@@ -180,15 +180,25 @@ fn fill_and_empty(
     Ok(())
 }
 
+/// Fills two pages of 10 chunks each and empties them, and checks that their chunks are unused.
+fn fill_and_empty_two(
+    rt: &impl Abort,
+    alloc: Global,
+    slab: &mut Slab,
+    need: Need,
+) -> Result<(), Fail> {
+    fill_and_empty(rt, alloc, slab, need, Account { pages: 2, out: 20 })?;
+    stands(rt, slab, need, Account { pages: 2, out: 0 }, 0);
+    assert_eq!(rt; slab.unused_chunks(need.class()), 20);
+    Ok(())
+}
+
 #[test]
 fn filling_and_emptying_leaves_the_same_account(rt: HostRuntime) -> Result<(), Fail> {
-    let alloc = rt.alloc();
-    let mut slab = slab_of(alloc, 2)?;
+    let mut slab = slab_of(rt.alloc(), 2)?;
     let need = needed(&rt, 100000);
     for _ in 0..100 {
-        fill_and_empty(&rt, alloc, &mut slab, need, Account { pages: 2, out: 20 })?;
-        stands(&rt, &slab, need, Account { pages: 2, out: 0 }, 0);
-        assert_eq!(rt; slab.unused_chunks(need.class()), 20);
+        fill_and_empty_two(&rt, rt.alloc(), &mut slab, need)?;
     }
     Ok(())
 }
@@ -196,7 +206,7 @@ fn filling_and_emptying_leaves_the_same_account(rt: HostRuntime) -> Result<(), F
 /// The size of a chunk, and how many a page has.
 ///
 /// The pages have 33 runs of at most 341 chunks, 38 runs of 2 or 1, 60 runs of 1, and one chunk.
-const PAGES: [(u64, u32); 4] = [(96, 10922), (13880, 75), (17352, 60), (1048576, 1)];
+static PAGES: [(u64, u32); 4] = [(96, 10922), (13880, 75), (17352, 60), (1048576, 1)];
 
 #[test]
 fn chunks_of_a_page_lie_apart(rt: HostRuntime) -> Result<(), Fail> {
@@ -242,22 +252,31 @@ fn take_of(
 /// A page of the class that wants one, and one of another class, which is freed.
 ///
 /// The size of a chunk, the size of the page's chunks, and how many a page has.
-const BROUGHT: [(u64, u64, u32); 3] = [(96, 96, 10922), (17352, 17352, 60), (13880, 1048576, 75)];
+static BROUGHT: [(u64, u64, u32); 3] = [(96, 96, 10922), (17352, 17352, 60), (13880, 1048576, 75)];
+
+/// Takes a chunk with the page of a row, then fills the page of the chunk's class and empties it.
+fn bring(
+    rt: &impl Abort,
+    alloc: Global,
+    slab: &mut Slab,
+    row: &(u64, u64, u32),
+) -> Result<(), Fail> {
+    let need = needed(rt, row.0);
+    let class = class_of(row.1).expect(rt, "a class");
+    let chunk = take_of(alloc, slab, need, class, 1)?;
+    stand_and_go(rt, slab, need, chunk, Account { pages: 1, out: 1 }, 0);
+    let full = Account {
+        pages: 1,
+        out: row.2,
+    };
+    fill_and_empty(rt, alloc, slab, need, full)
+}
 
 #[test]
 fn a_page_may_be_brought(rt: HostRuntime) -> Result<(), Fail> {
-    let alloc = rt.alloc();
     for row in &BROUGHT {
-        let mut slab = slab_of(alloc, 1)?;
-        let need = needed(&rt, row.0);
-        let class = class_of(row.1).expect(&rt, "a class");
-        let chunk = take_of(alloc, &mut slab, need, class, 1)?;
-        stand_and_go(&rt, &mut slab, need, chunk, Account { pages: 1, out: 1 }, 0);
-        let full = Account {
-            pages: 1,
-            out: row.2,
-        };
-        fill_and_empty(&rt, alloc, &mut slab, need, full)?;
+        let mut slab = slab_of(rt.alloc(), 1)?;
+        bring(&rt, rt.alloc(), &mut slab, row)?;
     }
     Ok(())
 }
@@ -330,24 +349,29 @@ fn chunks_of_a_need_come_all_or_none(rt: HostRuntime) -> Result<(), Fail> {
     )
 }
 
+/// Takes two pages, makes three ready for once they were given back, and gives them back.
+fn come_and_make_ready(
+    rt: &impl Abort,
+    alloc: Global,
+    slab: &mut Slab,
+    three: Need,
+) -> Result<(), TakeFault> {
+    let two = needed(rt, 2097152);
+    let chunks = take(rt, alloc, slab, two)?;
+    ready(rt, alloc, slab, three, 2)?;
+    stand_and_go(rt, slab, two, chunks, Account { pages: 3, out: 2 }, 0);
+    Ok(())
+}
+
 #[test]
 fn chunks_that_come_back_serve_what_was_made_ready(rt: HostRuntime) -> Result<(), Fail> {
     let alloc = rt.alloc();
     let mut slab = slab_of(alloc, 3)?;
-    let two = needed(&rt, 2097152);
     let three = needed(&rt, 3145728);
-    let chunks = take(&rt, alloc, &mut slab, two)?;
-    ready(&rt, alloc, &mut slab, three, 2)?;
-    stand_and_go(&rt, &mut slab, two, chunks, Account { pages: 3, out: 2 }, 0);
-    let others = slab.take_all(alloc, three)?;
-    stand_and_go(
-        &rt,
-        &mut slab,
-        three,
-        others,
-        Account { pages: 3, out: 3 },
-        0,
-    );
+    come_and_make_ready(&rt, alloc, &mut slab, three)?;
+    let chunks = slab.take_all(alloc, three)?;
+    let account = Account { pages: 3, out: 3 };
+    stand_and_go(&rt, &mut slab, three, chunks, account, 0);
     Ok(())
 }
 
@@ -383,15 +407,25 @@ fn stays_as_it_was(rt: &impl Abort, chunk: &mut Chunks) -> bool {
     }
 }
 
+/// Takes the chunk of a charge, and returns whether it lends its first 4 bytes.
+fn come_and_lend(
+    rt: &impl Abort,
+    alloc: Global,
+    slab: &mut Slab,
+    charge: u64,
+) -> Result<bool, TakeFault> {
+    let mut chunk = take(rt, alloc, slab, needed(rt, charge))?;
+    let lends = stays_as_it_was(rt, &mut chunk);
+    give(rt, slab, chunk);
+    Ok(lends)
+}
+
 #[test]
 fn a_chunk_of_class_27_is_lent_and_one_of_class_26_is_not(rt: HostRuntime) -> Result<(), Fail> {
     let mut slab = slab_of(rt.alloc(), 2)?;
-    let mut small = take(&rt, rt.alloc(), &mut slab, needed(&rt, 27120))?;
-    let mut large = take(&rt, rt.alloc(), &mut slab, needed(&rt, 27121))?;
-    assert!(rt; !stays_as_it_was(&rt, &mut small));
-    assert!(rt; stays_as_it_was(&rt, &mut large));
-    give(&rt, &mut slab, small);
-    give(&rt, &mut slab, large);
+    let small = come_and_lend(&rt, rt.alloc(), &mut slab, 27120)?;
+    let large = come_and_lend(&rt, rt.alloc(), &mut slab, 27121)?;
+    assert!(rt; !small && large);
     Ok(())
 }
 
@@ -410,22 +444,45 @@ fn has_head_in_its_bytes(rt: &impl Abort, chunks: &mut Chunks) -> bool {
     chunks.first().starts_with(b"heads")
 }
 
+/// The charge of chunks, whether their head is the front of their bytes, and the head's length.
+static HEADS: [(u64, bool, usize); 3] = [
+    (27120, true, 27120),
+    (27121, false, 304),
+    (2000000, false, 304),
+];
+
+/// Takes the chunks of a row, checks their head, and gives them back.
+fn come_with_head(
+    rt: &impl Abort,
+    alloc: Global,
+    slab: &mut Slab,
+    row: &(u64, bool, usize),
+) -> Result<(), TakeFault> {
+    let mut chunks = take(rt, alloc, slab, needed(rt, row.0))?;
+    assert!(rt; has_head_in_its_bytes(rt, &mut chunks) == row.1);
+    assert_eq!(rt; chunks.head().len(), row.2);
+    give(rt, slab, chunks);
+    Ok(())
+}
+
 #[test]
 fn the_head_lies_beside_the_bytes_from_class_27_on(rt: HostRuntime) -> Result<(), Fail> {
     let mut slab = slab_of(rt.alloc(), 4)?;
-    let mut small = take(&rt, rt.alloc(), &mut slab, needed(&rt, 27120))?;
-    let mut large = take(&rt, rt.alloc(), &mut slab, needed(&rt, 27121))?;
-    let mut pages = take(&rt, rt.alloc(), &mut slab, needed(&rt, 2000000))?;
-    assert!(rt; has_head_in_its_bytes(&rt, &mut small));
-    assert!(rt; !has_head_in_its_bytes(&rt, &mut large));
-    assert!(rt; !has_head_in_its_bytes(&rt, &mut pages));
-    assert_eq!(rt; small.head().len(), 27120);
-    assert_eq!(rt; large.head().len(), 304);
-    assert_eq!(rt; pages.head().len(), 304);
-    give(&rt, &mut slab, small);
-    give(&rt, &mut slab, large);
-    give(&rt, &mut slab, pages);
+    for row in &HEADS {
+        come_with_head(&rt, rt.alloc(), &mut slab, row)?;
+    }
     Ok(())
+}
+
+/// Shares what is in the queue, which is `len` bytes, and returns the part behind the first 100.
+fn share_behind(queue: &mut Queue<65536>, len: usize) -> Result<Lent, AllocError>
+    requires { 100 ≤ len }
+{
+    let shared = queue.share().ok_or(AllocError)?;
+    if shared.len() != len {
+        return Err(AllocError);
+    }
+    shared.part(100, len).ok_or(AllocError)
 }
 
 /// Returns a part of shared memory of `whole` bytes: 9092 bytes behind the first 100.
@@ -433,11 +490,7 @@ fn shared_part(alloc: Global, whole: usize) -> Result<Lent, AllocError> {
     let mut queue: Queue<65536> = Queue::new(alloc);
     queue.push(&[b'x'; 8192])?;
     queue.push_part(&[b'y'; 1000], whole)?;
-    let shared = queue.share().ok_or(AllocError)?;
-    if shared.len() != 9192 {
-        return Err(AllocError);
-    }
-    shared.part(100, 9192).ok_or(AllocError)
+    share_behind(&mut queue, 9192)
 }
 
 /// Returns whether chunks take the memory of a part over, and leave theirs. Else they are unchanged.
@@ -452,28 +505,156 @@ fn takes_over(rt: &impl Abort, chunks: &mut Chunks, part: &Lent) -> bool {
     taken
 }
 
+/// Has chunks take the memory of a part over, and writes to them. The part stays as it was.
+fn take_over_and_put(rt: &impl Abort, chunks: &mut Chunks, part: &Lent) -> bool {
+    if !takes_over(rt, chunks, part) {
+        return false;
+    }
+    put(rt, chunks, 0, b"after");
+    assert!(rt; part.as_slice().starts_with(b"xxxxx"));
+    assert!(rt; chunks.first().starts_with(b"afterxxx"));
+    true
+}
+
+/// Takes the chunks of a charge, and returns whether they take the memory of a part over.
+fn come_and_take_over(
+    rt: &impl Abort,
+    alloc: Global,
+    slab: &mut Slab,
+    charge: u64,
+    part: &Lent,
+) -> Result<bool, TakeFault> {
+    let mut chunks = take(rt, alloc, slab, needed(rt, charge))?;
+    let taken = take_over_and_put(rt, &mut chunks, part);
+    give(rt, slab, chunks);
+    Ok(taken)
+}
+
+/// Charges whose chunks decline the memory: one isn't lent, one is larger, and two are smaller.
+static DECLINING: [u64; 3] = [27120, 66233, 2000000];
+
+/// Checks that of all chunks that are tried only the last takes the memory of a part over.
+fn last_takes_over(
+    rt: &impl Abort,
+    alloc: Global,
+    slab: &mut Slab,
+    part: &Lent,
+) -> Result<(), TakeFault> {
+    for charge in &DECLINING {
+        let taken = come_and_take_over(rt, alloc, slab, *charge, part)?;
+        assert!(rt; !taken);
+    }
+    if come_and_take_over(rt, alloc, slab, 66232, part)? {
+        return Ok(());
+    }
+    Err(TakeFault::NoMemory)
+}
+
 #[test]
 fn a_chunk_takes_over_memory_that_is_512_bytes_larger(rt: HostRuntime) -> Result<(), Fail> {
-    let mut slab = slab_of(rt.alloc(), 5)?;
-    let mut small = take(&rt, rt.alloc(), &mut slab, needed(&rt, 27120))?;
-    let mut chunk = take(&rt, rt.alloc(), &mut slab, needed(&rt, 66232))?;
-    let mut larger = take(&rt, rt.alloc(), &mut slab, needed(&rt, 66233))?;
-    let mut pages = take(&rt, rt.alloc(), &mut slab, needed(&rt, 2000000))?;
     let part = shared_part(rt.alloc(), 66232 + 512)?;
-    assert!(rt; !takes_over(&rt, &mut small, &part));
-    assert!(rt; !takes_over(&rt, &mut larger, &part));
-    assert!(rt; !takes_over(&rt, &mut pages, &part));
-    if !takes_over(&rt, &mut chunk, &part) {
-        return Err(AllocError.into());
+    let mut slab = slab_of(rt.alloc(), 5)?;
+    Ok(last_takes_over(&rt, rt.alloc(), &mut slab, &part)?)
+}
+
+/// Returns a part of shared memory of two pages and 512 bytes: 1100000 bytes behind the first 100.
+fn shared_pages(alloc: Global) -> Result<Lent, AllocError> {
+    let mut queue: Queue<65536> = Queue::new(alloc);
+    let piece = [b'x'; 11001];
+    for _ in 0..100u8 {
+        queue.push_part(&piece, 2097664)?;
     }
-    put(&rt, &mut chunk, 0, b"after");
-    assert!(rt; part.as_slice().starts_with(b"xxxxx"));
-    assert!(rt; chunk.first().starts_with(b"afterxxx"));
-    give(&rt, &mut slab, small);
-    give(&rt, &mut slab, chunk);
-    give(&rt, &mut slab, larger);
-    give(&rt, &mut slab, pages);
-    Ok(())
+    share_behind(&mut queue, 1100100)
+}
+
+/// Has two pages take memory over, and returns whether they did.
+fn take_over_two(rt: &impl Abort, pages: &mut Chunks, shared: &Lent) -> bool {
+    let need = pages.need();
+    assert!(rt; need.count() == 2 && need.class().size() == 1048576);
+    assert!(rt; shared.len() <= 2097152);
+    pages.take_over(shared)
+}
+
+/// Lends the first bytes of the chunk at a place.
+fn lent_of(rt: &impl Abort, chunks: &Chunks, at: usize, to: usize) -> Option<Lent> {
+    let need = chunks.need();
+    assert!(rt; at < need.count() as usize);
+    assert!(rt; to <= need.class().size() as usize);
+    chunks.lend(at, 0, to)
+}
+
+/// Writes over the border of two pages, and reads both.
+fn write_over_border(rt: &impl Abort, pages: &mut Chunks) {
+    put(rt, pages, 1048574, b"over");
+    assert!(rt; part(rt, pages, 0).ends_with(b"xxov"));
+    assert!(rt; part(rt, pages, 1).starts_with(b"erxx"));
+}
+
+/// Writes to two pages while the second is lent, and returns whether what was lent stays.
+fn write_while_lent(rt: &impl Abort, pages: &mut Chunks) -> bool {
+    let lent = lent_of(rt, pages, 1, 51424);
+    write_over_border(rt, pages);
+    match lent {
+        Some(lent) => lent.as_slice().starts_with(b"xxxx"),
+        None => false,
+    }
+}
+
+/// Has two pages take memory over, and checks what both they and the part have then.
+fn take_over_and_write(rt: &impl Abort, pages: &mut Chunks, shared: &Lent) -> bool {
+    if !take_over_two(rt, pages, shared) {
+        return false;
+    }
+    assert!(rt; shared.take_left().is_some());
+    assert!(rt; part(rt, pages, 1).starts_with(&[b'x'; 51424]));
+    let stays = write_while_lent(rt, pages);
+    assert!(rt; shared.as_slice().ends_with(b"xxxx"));
+    stays
+}
+
+/// Has two pages take other memory over, and returns whether they did.
+fn take_over_other(rt: &impl Abort, alloc: Global, pages: &mut Chunks) -> Result<bool, AllocError> {
+    let other = shared_pages(alloc)?;
+    Ok(take_over_two(rt, pages, &other))
+}
+
+/// Has two pages take memory over, and then other memory while a part of the first is there.
+fn take_over_twice(rt: &impl Abort, alloc: Global, pages: &mut Chunks) -> Result<bool, AllocError> {
+    let shared = shared_pages(alloc)?;
+    if !take_over_and_write(rt, pages, &shared) {
+        return Ok(false);
+    }
+    take_over_other(rt, alloc, pages)
+}
+
+/// Takes two pages, and returns whether they take memory over, twice. It gives them back.
+fn come_and_take_over_twice(
+    rt: &impl Abort,
+    alloc: Global,
+    slab: &mut Slab,
+) -> Result<bool, TakeFault> {
+    let mut pages = take(rt, alloc, slab, needed(rt, 2000000))?;
+    let taken = take_over_twice(rt, alloc, &mut pages);
+    give(rt, slab, pages);
+    Ok(taken?)
+}
+
+#[test]
+fn several_pages_take_over_a_piece_each(rt: HostRuntime) -> Result<(), Fail> {
+    let mut slab = slab_of(rt.alloc(), 2)?;
+    for _ in 0..2u8 {
+        if !come_and_take_over_twice(&rt, rt.alloc(), &mut slab)? {
+            return Err(AllocError.into());
+        }
+    }
+    let need = needed(&rt, 1000000);
+    fill_and_empty(
+        &rt,
+        rt.alloc(),
+        &mut slab,
+        need,
+        Account { pages: 2, out: 2 },
+    )
 }
 
 #[test]
@@ -483,7 +664,7 @@ fn chunks_take_sixteen_bytes(rt: HostRuntime) -> Result<(), Fail> {
 }
 
 /// The need of a charge: the class, and the count.
-const NEEDS: [(u64, u8, u32); 8] = [
+static NEEDS: [(u64, u8, u32); 8] = [
     (0, 1, 1),
     (96, 1, 1),
     (97, 2, 1),
@@ -505,7 +686,7 @@ fn edges_of_the_needs(rt: HostRuntime) {
 }
 
 /// The class of a charge: its number, its size, and how many of its chunks a page has.
-const CLASSES: [(u64, u8, u32, u32); 6] = [
+static CLASSES: [(u64, u8, u32, u32); 6] = [
     (0, 1, 96, 10922),
     (96, 1, 96, 10922),
     (97, 2, 120, 8738),

@@ -1,8 +1,9 @@
 //! Sessions over a store that delivers a hit from where its block lies.
 
-ghost use Rattle.std.specs.Prelude.{◌≡◌, OnOk, OnErr};
+ghost use Rattle.std.specs.Prelude.{◌≡◌, refl, OnOk, OnErr};
 ghost use Rattle.mc_protocol.specs.declared.reply.Reply.{Reply as Told};
 
+use crate::checks::are_bytes_at;
 use crate::session_tests::RUNS;
 use mc_command::PlainStore;
 use mc_protocol::{Answer, Bytes, KeyStep, Reply, StepFault, Steps, Unanswered};
@@ -39,8 +40,6 @@ struct Lending {
 }
 
 impl Steps for Lending {
-    ghost use Rattle.std.specs.Prelude.{◌≡◌, refl};
-
     ghost took = { λ old step now reply new. old ≡ old };
 
     ghost spent = { λ old step now. old ≡ old };
@@ -164,7 +163,7 @@ fn tells(
     (input, output): (&str, &str),
 ) -> Result<(), TurnFault> {
     take_turns(rt, alloc, session, store, input)?;
-    assert_eq!(rt; session.out(), output.as_bytes(), "at {input}");
+    are_bytes_at(rt, input, session.out(), output.as_bytes());
     Ok(())
 }
 
@@ -211,54 +210,100 @@ fn sessions_are_answered_from_parts_as_from_replies(rt: HostRuntime) -> Result<(
     Ok(sessions_are_told(&rt, rt.alloc(), Telling::InParts)?)
 }
 
-/// Checks a hit that comes after another turn.
+/// A set, and a get that finds its item, with its text.
+#[derive(Clone, Copy, Drop)]
+struct Found {
+    set: &'static str,
+    get: &'static str,
+    text: &'static str,
+}
+
+/// An item with a block of two bytes.
+static OF_TWO_BYTES: Found = Found {
+    set: "set a 5 0 2\r\n12\r\n",
+    get: "get a\r\n",
+    text: "VALUE a 5 2\r\n12\r\nEND\r\n",
+};
+
+/// An item with a block for three parts and the unique number 7.
+static OF_FIVE_BYTES: Found = Found {
+    set: "set a 5 0 5\r\n12\r\n3\r\n",
+    get: "gets a\r\n",
+    text: "VALUE a 5 5 7\r\n12\r\n3\r\nEND\r\n",
+};
+
+/// Checks a hit that comes after another turn, over a store whose first unique number is 7.
 ///
 /// If memory for its text is refused, the session closes with the text of the other turn, nothing
 /// is decided, and the store answers another session as before.
-fn hit_is_told(rt: &impl Abort, alloc: Global, telling: Telling) -> Result<(), TurnFault> {
-    let mut store = new_store(alloc, Telling::Whole)?;
-    let mut session = Session::new(alloc, GREATEST);
-    hit_is_told_in(rt, alloc, &mut session, &mut store, telling)
+fn hit_is_told(
+    rt: &impl Abort,
+    alloc: Global,
+    telling: Telling,
+    found: &Found,
+) -> Result<(), TurnFault> {
+    let mut store = Lending {
+        store: PlainStore::starting(alloc, 64, 1_048_576, 7)?,
+        telling: Telling::Whole,
+    };
+    hit_is_told_over(rt, alloc, &mut store, telling, found)
 }
 
-/// The same in a session that was fed nothing, over an empty store.
+/// The same over an empty store.
+fn hit_is_told_over(
+    rt: &impl Abort,
+    alloc: Global,
+    store: &mut Lending,
+    telling: Telling,
+    found: &Found,
+) -> Result<(), TurnFault> {
+    let mut session = Session::new(alloc, GREATEST);
+    hit_is_told_in(rt, alloc, &mut session, store, telling, found)
+}
+
+/// The same in a session that was fed nothing.
 fn hit_is_told_in(
     rt: &impl Abort,
     alloc: Global,
     session: &mut Session,
     store: &mut Lending,
     telling: Telling,
+    found: &Found,
 ) -> Result<(), TurnFault> {
-    is_told(rt, alloc, store, "set a 5 0 2\r\n12\r\n", "STORED\r\n")?;
+    is_told(rt, alloc, store, found.set, "STORED\r\n")?;
     take_turns(rt, alloc, session, store, "foo\r\n")?;
     store.telling = telling;
-    let told = take_turns(rt, alloc, session, store, "get a\r\n");
-    assert!(rt; told.is_err() || telling != Telling::Refused);
-    has_text_of_hit(rt, session, &told);
+    let told = take_turns(rt, alloc, session, store, found.get);
+    assert!(rt; has_text_of_hit(session, &told, telling, found));
     store.telling = Telling::Whole;
-    let text = "VALUE a 5 2\r\n12\r\nEND\r\n";
-    is_told(rt, alloc, store, "get a\r\n", text)
+    is_told(rt, alloc, store, found.get, found.text)?;
+    if telling == Telling::Refused {
+        return Ok(());
+    }
+    told
 }
 
-/// The text of a hit stands behind that of the turn before; if it is refused, that stands alone.
-fn has_text_of_hit(rt: &impl Abort, session: &Session, told: &Result<(), TurnFault>) {
+/// Returns whether a hit left the right output: its text behind that of the turn before.
+///
+/// If it is refused, that stands alone, and nothing is decided.
+fn has_text_of_hit(
+    session: &Session,
+    told: &Result<(), TurnFault>,
+    telling: Telling,
+    found: &Found,
+) -> bool {
+    let text = session.out().strip_prefix(b"ERROR\r\n".as_slice());
     match told {
-        Ok(()) => {
-            let text = b"ERROR\r\nVALUE a 5 2\r\n12\r\nEND\r\n".as_slice();
-            assert_eq!(rt; session.out(), text);
-        }
-        Err(fault) => {
-            assert!(rt; !fault.decided);
-            assert_eq!(rt; session.out(), b"ERROR\r\n".as_slice());
-        }
+        Ok(()) => telling != Telling::Refused && text == Some(found.text.as_bytes()),
+        Err(fault) => !fault.decided && text == Some(b"".as_slice()),
     }
 }
 
 #[test]
 fn a_hit_is_told_where_its_block_lies(rt: HostRuntime) -> Result<(), Fail> {
     for telling in [Telling::Whole, Telling::InParts] {
-        if hit_is_told(&rt, rt.alloc(), telling).is_err() {
-            hit_is_told(&rt, rt.alloc(), telling)?;
+        if hit_is_told(&rt, rt.alloc(), telling, &OF_TWO_BYTES).is_err() {
+            hit_is_told(&rt, rt.alloc(), telling, &OF_TWO_BYTES)?;
         }
     }
     Ok(())
@@ -266,51 +311,17 @@ fn a_hit_is_told_where_its_block_lies(rt: HostRuntime) -> Result<(), Fail> {
 
 #[test]
 fn a_refused_hit_decides_nothing(rt: HostRuntime) -> Result<(), Fail> {
-    if hit_is_told(&rt, rt.alloc(), Telling::Refused).is_err() {
-        hit_is_told(&rt, rt.alloc(), Telling::Refused)?;
+    if hit_is_told(&rt, rt.alloc(), Telling::Refused, &OF_TWO_BYTES).is_err() {
+        hit_is_told(&rt, rt.alloc(), Telling::Refused, &OF_TWO_BYTES)?;
     }
     Ok(())
 }
 
-/// Checks a hit in three parts, with the flags 5 and the unique number 7, after another turn.
-///
 /// If memory for it is refused the output is unchanged, and the hit is delivered again.
-fn parts_are_one_text(rt: &impl Abort, alloc: Global) -> Result<(), TurnFault> {
-    let mut store = Lending {
-        store: PlainStore::starting(alloc, 64, 1_048_576, 7)?,
-        telling: Telling::Again,
-    };
-    let mut session = Session::new(alloc, GREATEST);
-    parts_are_one_text_in(rt, alloc, &mut session, &mut store)
-}
-
-/// The same in a session that was fed nothing, over an empty store.
-fn parts_are_one_text_in(
-    rt: &impl Abort,
-    alloc: Global,
-    session: &mut Session,
-    store: &mut Lending,
-) -> Result<(), TurnFault> {
-    let set = "set a 5 0 5\r\n12\r\n3\r\n";
-    is_told(rt, alloc, store, set, "STORED\r\n")?;
-    take_turns(rt, alloc, session, store, "foo\r\n")?;
-    match take_turns(rt, alloc, session, store, "gets a\r\n") {
-        Ok(()) => {
-            let text = b"ERROR\r\nVALUE a 5 5 7\r\n12\r\n3\r\nEND\r\n".as_slice();
-            assert_eq!(rt; session.out(), text);
-            Ok(())
-        }
-        Err(fault) => {
-            assert_eq!(rt; session.out(), b"ERROR\r\n".as_slice());
-            Err(fault)
-        }
-    }
-}
-
 #[test]
 fn a_hit_in_parts_is_one_text(rt: HostRuntime) -> Result<(), Fail> {
-    if parts_are_one_text(&rt, rt.alloc()).is_err() {
-        parts_are_one_text(&rt, rt.alloc())?;
+    if hit_is_told(&rt, rt.alloc(), Telling::Again, &OF_FIVE_BYTES).is_err() {
+        hit_is_told(&rt, rt.alloc(), Telling::Again, &OF_FIVE_BYTES)?;
     }
     Ok(())
 }

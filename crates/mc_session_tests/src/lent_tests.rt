@@ -1,7 +1,8 @@
 //! Outputs that lend parts of memory in place of a copy, and a session with one.
 
-ghost use Rattle.std.specs.Prelude.{◌≡◌, IfOk};
+ghost use Rattle.std.specs.Prelude.{◌≡◌, refl, IfOk};
 
+use crate::checks::{holds, is_none};
 use mc_bytes::{Append, Large, Lent, Lents};
 use mc_protocol::{Answer, Bytes, KeyStep, Reply, StepFault, Steps, Unanswered};
 use mc_session::{LentOutput, Outgoing, SessionOf, Turn, TurnFault};
@@ -53,87 +54,142 @@ fn two_parts(alloc: Global) -> Result<Lents, AllocError> {
     Ok(parts)
 }
 
-/// Appends a text, two parts that are lent, and a text, once more if memory is refused.
-///
-/// A refusal leaves the output as it was.
-fn append_parts(rt: &impl Abort, alloc: Global, out: &mut LentOutput) -> Result<(), AllocError> {
-    let before = out.len();
+/// Appends a text, two parts that are lent, and a text.
+fn append_once(alloc: Global, out: &mut LentOutput) -> Result<(), AllocError> {
     let parts = two_parts(alloc)?;
-    if out
-        .append_lent(&text_of(b"b "), parts, &text_of(b" c"))
-        .is_err()
-    {
-        assert_eq!(rt; out.len(), before);
-        let parts = two_parts(alloc)?;
-        out.append_lent(&text_of(b"b "), parts, &text_of(b" c"))?;
-    }
-    Ok(())
+    out.append_lent(&text_of(b"b "), parts, &text_of(b" c"))
 }
 
-/// Checks that an output lends this piece, and drops it.
-fn has_piece(rt: &impl Abort, out: &mut LentOutput, piece: &[u8]) {
-    assert_eq!(rt; out.front(), piece);
-    assert!(rt; piece.len() <= out.len());
+/// The same, once more if memory is refused. Returns whether that left the output as it was.
+fn append_parts(alloc: Global, out: &mut LentOutput) -> Result<bool, AllocError> {
+    let before = out.len();
+    if append_once(alloc, out).is_ok() {
+        return Ok(true);
+    }
+    let is_same = out.len() == before;
+    append_once(alloc, out)?;
+    Ok(is_same)
+}
+
+/// Returns whether an output lends this piece, which is dropped.
+fn has_piece(out: &mut LentOutput, piece: &[u8]) -> bool {
+    if out.front() != piece || piece.len() > out.len() {
+        return false;
+    }
     out.consume(piece.len());
+    true
 }
 
-/// Checks that an output lends these bytes in pieces of these lengths, and drops them.
-fn has_pieces(rt: &impl Abort, out: &mut LentOutput, bytes: &[u8], lengths: &[usize]) {
-    assert_eq!(rt; out.len(), bytes.len());
-    let mut left = bytes;
-    for length in lengths {
-        let (piece, rest) = left.split_at(left.len().min(*length));
-        has_piece(rt, out, piece);
-        left = rest;
+/// Returns how many bytes are in pieces.
+fn length_of(pieces: &[&[u8]]) -> usize {
+    let mut length = 0usize;
+    for piece in pieces {
+        length = length.saturating_add(piece.len());
     }
-    assert!(rt; left.is_empty() && out.front().is_empty());
+    length
 }
 
-/// Checks an output of texts with two parts between them.
-fn parts_stand_between_texts(
-    rt: &impl Abort,
+/// Returns whether an output lends exactly these pieces, which are dropped.
+fn has_pieces(out: &mut LentOutput, pieces: &[&[u8]]) -> bool {
+    if out.len() != length_of(pieces) {
+        return false;
+    }
+    for piece in pieces {
+        if !has_piece(out, piece) {
+            return false;
+        }
+    }
+    out.front().is_empty()
+}
+
+/// What happens to an output.
+#[derive(Clone, Copy)]
+enum Event {
+    /// A text is appended.
+    Text(&'static [u8]),
+    /// A text, two parts that are lent and a text are appended: `b `, `abcd`, `efgh` and ` c`.
+    Parts,
+    /// So many bytes are held, and reserved.
+    Holds(usize),
+    /// The first so many bytes are written.
+    Writes(usize),
+    /// Exactly these pieces are lent and written.
+    Lends(&'static [&'static [u8]]),
+}
+
+/// Lets an event happen, and returns whether it happened so.
+fn happens(alloc: Global, out: &mut LentOutput, event: Event) -> Result<bool, AllocError> {
+    match event {
+        Event::Text(bytes) => {
+            out.append(&text_of(bytes))?;
+            Ok(true)
+        }
+        Event::Parts => append_parts(alloc, out),
+        Event::Holds(len) => Ok(out.len() == len && out.capacity() >= len),
+        Event::Writes(len) => {
+            out.consume(len.min(out.len()));
+            Ok(true)
+        }
+        Event::Lends(pieces) => Ok(has_pieces(out, pieces)),
+    }
+}
+
+/// Returns the place of the first event that doesn't happen so.
+fn first_wrong_in(
     alloc: Global,
     out: &mut LentOutput,
-) -> Result<(), AllocError> {
-    out.append(&text_of(b"a "))?;
-    append_parts(rt, alloc, out)?;
-    out.append(&text_of(b" d"))?;
-    assert!(rt; out.len() == 16 && out.capacity() >= 16);
-    out.consume(5);
-    has_pieces(rt, out, b"bcdefgh c d", &[3, 4, 4]);
+    events: &[Event],
+) -> Result<Option<usize>, AllocError> {
+    for (at, event) in events.iter().enumerate() {
+        if !happens(alloc, out, *event)? {
+            return Ok(Some(at));
+        }
+    }
+    Ok(None)
+}
+
+/// The same for a new output.
+fn first_wrong(alloc: Global, events: &[Event]) -> Result<Option<usize>, AllocError> {
+    let mut out = LentOutput::new(alloc, None);
+    first_wrong_in(alloc, &mut out, events)
+}
+
+/// Checks what happens to a new output. It is tried twice if memory is refused.
+fn goes(rt: &impl Abort, alloc: Global, events: &[Event]) -> Result<(), AllocError> {
+    let wrong = match first_wrong(alloc, events) {
+        Ok(wrong) => wrong,
+        Err(_) => first_wrong(alloc, events)?,
+    };
+    is_none(rt, wrong);
     Ok(())
 }
 
-/// Checks that further parts are copied while others are lent, and lent once these are written.
-fn further_parts_are_copied(
-    rt: &impl Abort,
-    alloc: Global,
-    out: &mut LentOutput,
-) -> Result<(), AllocError> {
-    append_parts(rt, alloc, out)?;
-    append_parts(rt, alloc, out)?;
-    has_pieces(rt, out, b"b abcdefgh cb abcdefgh c", &[2, 4, 4, 14]);
-    append_parts(rt, alloc, out)?;
-    has_pieces(rt, out, b"b abcdefgh c", &[2, 4, 4, 2]);
-    Ok(())
-}
+static BETWEEN_TEXTS: [Event; 6] = [
+    Event::Text(b"a "),
+    Event::Parts,
+    Event::Text(b" d"),
+    Event::Holds(16),
+    Event::Writes(5),
+    Event::Lends(&[b"bcd", b"efgh", b" c d"]),
+];
 
 #[test]
 fn parts_are_lent_between_texts(rt: HostRuntime) -> Result<(), Fail> {
-    let alloc = rt.alloc();
-    if parts_stand_between_texts(&rt, alloc, &mut LentOutput::new(alloc, None)).is_err() {
-        parts_stand_between_texts(&rt, alloc, &mut LentOutput::new(alloc, None))?;
-    }
-    Ok(())
+    Ok(goes(&rt, rt.alloc(), &BETWEEN_TEXTS)?)
 }
+
+/// Further parts are copied while others are lent, and lent once these are written.
+static BEHIND_OTHERS: [Event; 5] = [
+    Event::Parts,
+    Event::Parts,
+    Event::Lends(&[b"b ", b"abcd", b"efgh", b" cb abcdefgh c"]),
+    Event::Parts,
+    Event::Lends(&[b"b ", b"abcd", b"efgh", b" c"]),
+];
 
 #[test]
 fn parts_behind_lent_ones_are_copied(rt: HostRuntime) -> Result<(), Fail> {
-    let alloc = rt.alloc();
-    if further_parts_are_copied(&rt, alloc, &mut LentOutput::new(alloc, None)).is_err() {
-        further_parts_are_copied(&rt, alloc, &mut LentOutput::new(alloc, None))?;
-    }
-    Ok(())
+    Ok(goes(&rt, rt.alloc(), &BEHIND_OTHERS)?)
 }
 
 /// A store that has one block under each key, and delivers it in two parts of shared memory.
@@ -153,8 +209,6 @@ impl Sharing {
 }
 
 impl Steps for Sharing {
-    ghost use Rattle.std.specs.Prelude.{◌≡◌, refl};
-
     ghost took = { λ old step now reply new. old ≡ old };
 
     ghost spent = { λ old step now. old ≡ old };
@@ -191,119 +245,110 @@ impl Steps for Sharing {
     }
 }
 
-/// Checks that a session lends this piece, and drops it.
-fn writes_piece(rt: &impl Abort, session: &mut SessionOf<LentOutput>, piece: &[u8]) {
-    assert_eq!(rt; session.front(), piece);
-    assert!(rt; piece.len() <= session.out_len());
-    session.sent(piece.len());
-}
-
-/// Checks that a session lends these bytes in pieces of these lengths, and drops them.
-fn writes_pieces(
-    rt: &impl Abort,
-    session: &mut SessionOf<LentOutput>,
-    bytes: &[u8],
-    lengths: &[usize],
-) {
-    assert_eq!(rt; session.out_len(), bytes.len());
-    let mut left = bytes;
-    for length in lengths {
-        let (piece, rest) = left.split_at(left.len().min(*length));
-        writes_piece(rt, session, piece);
-        left = rest;
+/// Returns whether a session lends this piece, which is dropped.
+fn writes_piece(session: &mut SessionOf<LentOutput>, piece: &[u8]) -> bool {
+    if session.front() != piece || piece.len() > session.out_len() {
+        return false;
     }
-    assert!(rt; left.is_empty() && session.is_empty());
+    session.sent(piece.len());
+    true
 }
 
-/// Checks that a session writes these bytes, in at most four pieces.
-fn writes_text(rt: &impl Abort, session: &mut SessionOf<LentOutput>, bytes: &[u8]) {
+/// Returns whether a session lends exactly these pieces, which are dropped.
+fn writes_pieces(session: &mut SessionOf<LentOutput>, pieces: &[&[u8]]) -> bool {
+    if session.out_len() != length_of(pieces) {
+        return false;
+    }
+    for piece in pieces {
+        if !writes_piece(session, piece) {
+            return false;
+        }
+    }
+    session.is_empty()
+}
+
+/// Returns whether a session writes these bytes, in at most four pieces.
+fn writes_text(session: &mut SessionOf<LentOutput>, bytes: &[u8]) -> bool {
     let mut left = bytes;
     for _ in 0..4 {
         let (piece, rest) = left.split_at(left.len().min(session.front().len()));
-        writes_piece(rt, session, piece);
+        if !writes_piece(session, piece) {
+            return false;
+        }
         left = rest;
     }
-    assert!(rt; left.is_empty() && session.is_empty());
+    left.is_empty() && session.is_empty()
 }
-
-/// The text of a hit of eight bytes, round its two parts.
-const HIT: &[u8] = b"VALUE k 5 8 7\r\nabcdefgh\r\nEND\r\n";
 
 /// Takes a turn of a session whose hit lies in two parts of shared memory.
 ///
-/// A turn that is refused memory leaves no output.
+/// A turn that is refused memory leaves no output, and is an error.
 fn takes_hit(
-    rt: &impl Abort,
     alloc: Global,
     session: &mut SessionOf<LentOutput>,
     store: &mut Sharing,
-) -> Result<(), TurnFault> {
+) -> Result<bool, TurnFault> {
     session.feed(b"gets k\r\n")?;
     match session.turn(alloc, store, Moment::from_seconds(1000)) {
-        Ok(turn) => {
-            assert!(rt; turn == Turn::Did);
-            Ok(())
-        }
+        Ok(turn) => Ok(turn == Turn::Did),
         Err(fault) => {
-            assert!(rt; session.is_empty() && session.is_closed() && !fault.decided);
+            if fault.decided || !session.is_closed() || !session.is_empty() {
+                return Ok(false);
+            }
             Err(fault)
         }
     }
 }
 
-/// Checks that the two parts of a hit are lent, and its text is written round them.
-fn lends_parts(
-    rt: &impl Abort,
+/// The text of a hit, round its two parts.
+static HIT: [&[u8]; 4] = [b"VALUE k 5 8 7\r\n", b"abcd", b"efgh", b"\r\nEND\r\n"];
+
+/// Returns whether a hit is written, and with `is_lent` that its two parts are lent.
+///
+/// They are copied if there is no memory to lend them.
+fn writes_hit(session: &mut SessionOf<LentOutput>, is_lent: bool) -> bool {
+    if is_lent {
+        writes_pieces(session, &HIT)
+    } else {
+        writes_text(session, b"VALUE k 5 8 7\r\nabcdefgh\r\nEND\r\n")
+    }
+}
+
+/// Returns whether a session takes a hit and writes it.
+fn takes_and_writes(
     alloc: Global,
     session: &mut SessionOf<LentOutput>,
     store: &mut Sharing,
-) -> Result<(), TurnFault> {
-    takes_hit(rt, alloc, session, store)?;
-    writes_pieces(rt, session, HIT, &[15, 4, 4, 7]);
-    Ok(())
+    is_lent: bool,
+) -> Result<bool, TurnFault> {
+    let is_taken = takes_hit(alloc, session, store)?;
+    Ok(is_taken && writes_hit(session, is_lent))
 }
 
-/// Checks that a hit is written, whether or not there is memory to lend its parts.
-fn writes_parts(
-    rt: &impl Abort,
-    alloc: Global,
-    session: &mut SessionOf<LentOutput>,
-    store: &mut Sharing,
-) -> Result<(), TurnFault> {
-    takes_hit(rt, alloc, session, store)?;
-    writes_text(rt, session, HIT);
-    Ok(())
-}
-
-/// Checks a new session, which lends the parts of a hit.
-fn a_session_lends(rt: &impl Abort, alloc: Global, store: &mut Sharing) -> Result<(), TurnFault> {
+/// The same for a new session.
+fn a_session_writes(alloc: Global, store: &mut Sharing, is_lent: bool) -> Result<bool, TurnFault> {
     let mut session = SessionOf::new(alloc, 100);
-    lends_parts(rt, alloc, &mut session, store)
+    takes_and_writes(alloc, &mut session, store, is_lent)
 }
 
-/// Checks a new session, which writes a hit.
-fn a_session_writes(rt: &impl Abort, alloc: Global, store: &mut Sharing) -> Result<(), TurnFault> {
-    let mut session = SessionOf::new(alloc, 100);
-    writes_parts(rt, alloc, &mut session, store)
-}
-
-/// Checks a new store, whose hit is written.
-fn a_store_is_read(rt: &impl Abort, alloc: Global) -> Result<(), TurnFault> {
+/// The same for a new store.
+fn a_store_is_read(alloc: Global, is_lent: bool) -> Result<bool, TurnFault> {
     let mut store = Sharing::new(alloc)?;
-    a_session_writes(rt, alloc, &mut store)
+    a_session_writes(alloc, &mut store, is_lent)
 }
 
 #[test]
 fn a_hit_in_shared_memory_is_lent(rt: HostRuntime) -> Result<(), Fail> {
-    let mut store = Sharing::new(rt.alloc())?;
-    a_session_lends(&rt, rt.alloc(), &mut store)?;
+    holds(&rt, a_store_is_read(rt.alloc(), true)?);
     Ok(())
 }
 
 #[test]
 fn a_hit_in_shared_memory_is_written(rt: HostRuntime) -> Result<(), Fail> {
-    if a_store_is_read(&rt, rt.alloc()).is_err() {
-        a_store_is_read(&rt, rt.alloc())?;
-    }
+    let is_written = match a_store_is_read(rt.alloc(), false) {
+        Ok(is_written) => is_written,
+        Err(_) => a_store_is_read(rt.alloc(), false)?,
+    };
+    holds(&rt, is_written);
     Ok(())
 }

@@ -1,15 +1,20 @@
 //! Tests of the protocol: the plain store, lines and feeds, texts and sessions.
 //!
-//! They test `mc_command`'s plain store, the queues and lent parts of `mc_bytes`, the lines and feeds of
-//! `mc_parse`, the texts of `mc_reply`, the sessions of `mc_session`, and the rows of `mc_testing`
+//! They test `mc_command`'s plain store, the queues and lent parts of `mc_bytes`, the lines and feeds
+//! of `mc_parse`, the texts of `mc_reply`, the sessions of `mc_session`, and the rows of `mc_testing`
 //! over the plain store.
 //!
-//! What several of its tests share is a store of 64 pages (`src/stores.rt`).
+//! What several of its tests share is a store of 64 pages (`src/stores.rt`), what happens to a feed
+//! (`src/feeds.rt`), and checks of one value (`src/checks.rt`).
 //!
 //! It is a crate of its own so that no library is proved a second time with its tests. Tests use
 //! only public calls. No program uses this crate.
 #![tactic(auto)]
 
+#[cfg(test)]
+mod checks;
+#[cfg(test)]
+mod feeds;
 #[cfg(test)]
 mod hit_tests;
 #[cfg(test)]

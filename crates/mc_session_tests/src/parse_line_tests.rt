@@ -1,8 +1,8 @@
 //! The commands of lines, and their first faults.
 
+use crate::checks::holds;
 use mc_parse::{Noted, lend, line_of};
-use mc_protocol::{Bytes, Command, CommandOf, LineFault};
-use std::process::Abort;
+use mc_protocol::{Bytes, Command, CommandOf, KeyPlace, LineFault};
 use std::test::*;
 
 const GREATEST: u64 = 1048576;
@@ -69,7 +69,7 @@ static FAULTS: [(&[u8], Option<LineFault>); 37] = [
 #[test]
 fn the_first_fault_of_a_line(rt: HostRuntime) {
     for (text, fault) in &FAULTS {
-        assert!(rt; line_of(GREATEST, text).err() == *fault, "at {text:?}");
+        assert!(rt; fault_of(text) == *fault, "at {text:?}");
     }
 }
 
@@ -96,35 +96,42 @@ fn numbers_at_their_limits(rt: HostRuntime) {
     }
 }
 
-/// Checks keys of a get.
-fn keys_of_a_get(rt: &impl Abort) {
-    let mut get = [b'k'; 257];
-    get[..4].copy_from_slice(b"get ");
-    assert!(rt; line_of(GREATEST, &get[..254]).is_ok());
-    assert!(rt; line_of(GREATEST, &get[..255]).err() == Some(LineFault::BadFormat));
-    // One of two keys is malformed.
-    get[255..].copy_from_slice(b" a");
-    assert!(rt; line_of(GREATEST, &get).err() == Some(LineFault::BadFormat));
+/// Returns the first fault of a line.
+fn fault_of(text: &[u8]) -> Option<LineFault> {
+    line_of(GREATEST, text).err()
 }
 
-/// Checks the key of an incr whose delta is malformed. The key's fault comes before the delta's.
-fn key_of_an_incr(rt: &impl Abort) {
+/// Returns whether a get has no fault with a key of 250 bytes, and one with a longer key.
+fn are_keys_of_a_get() -> bool {
+    let mut get = [b'k'; 257];
+    get[..4].copy_from_slice(b"get ");
+    let is_good = fault_of(&get[..254]).is_none();
+    let is_bad = fault_of(&get[..255]) == BAD_FORMAT;
+    // One of two keys is malformed.
+    get[255..].copy_from_slice(b" a");
+    is_good && is_bad && fault_of(&get) == BAD_FORMAT
+}
+
+/// Returns whether the first fault of an incr with a malformed delta is that of a long key.
+///
+/// With a key of 250 bytes it is that of the delta.
+fn is_key_of_an_incr() -> bool {
     let mut incr = [b'k'; 258];
     incr[..5].copy_from_slice(b"incr ");
     incr[256..].copy_from_slice(b" x");
-    assert!(rt; line_of(GREATEST, &incr).err() == Some(LineFault::BadFormat));
+    let is_bad = fault_of(&incr) == BAD_FORMAT;
     incr[255..].copy_from_slice(b" -1");
-    assert!(rt; line_of(GREATEST, &incr).err() == Some(LineFault::BadDelta));
+    is_bad && fault_of(&incr) == BAD_DELTA
 }
 
 #[test]
 fn keys_of_250_and_of_251_bytes(rt: HostRuntime) {
-    keys_of_a_get(&rt);
-    key_of_an_incr(&rt);
+    holds(&rt, are_keys_of_a_get());
+    holds(&rt, is_key_of_an_incr());
 }
 
-/// Checks the command of a cas line.
-fn is_a_cas(rt: &impl Abort, noted: &Noted, text: &[u8]) {
+/// Returns whether it is a certain cas.
+fn is_a_cas(noted: &Noted, text: &[u8]) -> bool {
     match noted {
         CommandOf::Cas {
             key,
@@ -134,39 +141,48 @@ fn is_a_cas(rt: &impl Abort, noted: &Noted, text: &[u8]) {
             unique,
             quiet,
         } => {
-            assert_eq!(rt; *block, 3);
-            assert!(rt; key.lend(text).as_slice() == b"key".as_slice());
-            assert!(rt; (*flags, *exptime, *unique, *quiet) == (7, -1, u64::MAX, true));
+            *block == 3
+                && key.lend(text).as_slice() == b"key".as_slice()
+                && (*flags, *exptime, *unique, *quiet) == (7, -1, u64::MAX, true)
         }
-        _ => assert!(rt; false),
+        _ => false,
     }
 }
 
-/// Checks the command of a gats line.
-fn is_a_gats(rt: &impl Abort, command: Command<'_>) {
+/// Returns whether it is a certain gats.
+fn is_a_gats(command: Command<'_>) -> bool {
     match command {
         Command::GetTouch {
             exptime,
             keys,
             with_unique,
         } => {
-            assert!(rt; (exptime, keys.len(), with_unique) == (0, 2, true));
-            assert!(rt; keys.get(1) == Some(b"b".as_slice()));
+            (exptime, keys.len(), with_unique) == (0, 2, true)
+                && keys.get(1) == Some(b"b".as_slice())
         }
-        _ => assert!(rt; false),
+        _ => false,
+    }
+}
+
+/// Returns whether a line is a certain cas.
+fn says_a_cas(text: &[u8]) -> bool {
+    match line_of(GREATEST, text) {
+        Ok(noted) => is_a_cas(&noted, text),
+        Err(_) => false,
+    }
+}
+
+/// Returns whether a line is a certain gats.
+fn says_a_gats(text: &[u8]) -> bool {
+    match line_of(GREATEST, text) {
+        Ok(noted) => is_a_gats(lend(&noted, text, Bytes::of(&[]))),
+        Err(_) => false,
     }
 }
 
 #[test]
 fn what_a_line_says(rt: HostRuntime) {
-    let text: &[u8] = b" cas key  7 -1 003 18446744073709551615 noreply ";
-    match line_of(GREATEST, text) {
-        Ok(noted) => is_a_cas(&rt, &noted, text),
-        Err(_) => assert!(rt; false),
-    }
-    let text: &[u8] = b"gats 0 a  b";
-    match line_of(GREATEST, text) {
-        Ok(noted) => is_a_gats(&rt, lend(&noted, text, Bytes::of(&[]))),
-        Err(_) => assert!(rt; false),
-    }
+    let cas = b" cas key  7 -1 003 18446744073709551615 noreply ";
+    holds(&rt, says_a_cas(cas));
+    holds(&rt, says_a_gats(b"gats 0 a  b"));
 }

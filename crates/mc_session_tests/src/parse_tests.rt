@@ -1,17 +1,19 @@
 //! Queues and feeds: what unread bytes begin with, and what is held.
 
-ghost use Rattle.std.specs.Prelude.{◌≡◌, ◌∷◌, []};
-ghost use Rattle.std.specs.Option.{option_map};
-ghost use Rattle.mc_parse.specs.Peeks.{unit_of};
+ghost use Rattle.std.specs.Prelude.{◌∷◌, []};
 
-use mc_bytes::{Append, FIRST_PIECE, Queue, Source};
+use crate::checks::holds;
+use crate::feeds::{Event, Row, Seen, Well, goes, len_of, pass_unit, passes, push_at_last, shows};
+use mc_bytes::{Append, FIRST_PIECE, Queue};
 use mc_parse::{Feed, Peek, peek_at};
 use mc_protocol::{Command, LineFault, Lone, Verb};
 use std::alloc::{AllocError, Global};
-use std::process::Abort;
 use std::test::*;
 
 const GREATEST: u64 = 1048576;
+
+/// A version line with CR LF.
+const VERSION: Seen = Seen::Lone(Lone::Version, 9);
 
 /// Returns a line of `len` bytes without its end: version, and spaces behind it.
 fn long_line(alloc: Global, len: usize) -> Result<Vec<u8>, AllocError> {
@@ -37,82 +39,6 @@ fn is_gats_60(peek: Peek<'_>, left: usize, first: &[u8]) -> bool {
             && keys.get(0).unwrap_or(b"") == first,
         _ => false,
     }
-}
-
-/// What a peek found, and its length in bytes.
-#[derive(Clone, Copy, PartialEq, Eq)]
-enum Seen {
-    Lone(Lone, usize),
-    Get(usize),
-    /// Another command.
-    Other(usize),
-    More,
-    Bad(LineFault, usize),
-    TooLong,
-}
-
-/// A version line with CR LF.
-const VERSION: Seen = Seen::Lone(Lone::Version, 9);
-
-/// Returns what a test sees of a command of `len` bytes.
-fn seen_of(command: Command<'_>, len: usize) -> Seen {
-    match command {
-        Command::Lone(lone) => Seen::Lone(lone, len),
-        Command::Get { .. } => Seen::Get(len),
-        _ => Seen::Other(len),
-    }
-}
-
-/// Returns whether a peek found this.
-fn shows(found: Peek<'_>, seen: Seen) -> bool {
-    match found {
-        Peek::Whole(command, len) => seen_of(command, len) == seen,
-        Peek::More => seen == Seen::More,
-        Peek::Bad(fault, len) => seen == Seen::Bad(fault, len),
-        Peek::TooLong => seen == Seen::TooLong,
-    }
-}
-
-/// Returns the length in bytes of the unit that was found.
-fn len_of(peek: Peek<'_>) -> Option<usize>
-    ensures { result ≡ option_map (λ found. found.1) (unit_of peek.entry) }
-{
-    match peek {
-        Peek::Whole(_, len) | Peek::Bad(_, len) => Some(len),
-        Peek::TooLong => Some(65537),
-        Peek::More => None,
-    }
-}
-
-/// Skips the first unit, and returns its length.
-fn pass_unit(feed: &mut Feed) -> Option<usize> {
-    let len = len_of(feed.peek())?;
-    feed.done(len);
-    Some(len)
-}
-
-/// Pushes a piece. After an error it pushes it again; returns whether the feed was unchanged then.
-fn push_at_last(feed: &mut Feed, piece: &[u8]) -> Result<bool, AllocError> {
-    let held = feed.held();
-    let found = len_of(feed.peek());
-    if feed.push(piece).is_ok() {
-        return Ok(true);
-    }
-    let is_same = feed.held() == held && len_of(feed.peek()) == found;
-    feed.push(piece)?;
-    Ok(is_same)
-}
-
-/// Pushes a piece. Returns whether an error left the feed unchanged, the peek is this and this much
-/// is held.
-fn takes(feed: &mut Feed, piece: &[u8], seen: Seen, held: usize) -> Result<bool, AllocError> {
-    let is_same = push_at_last(feed, piece)?;
-    Ok(is_same && shows(feed.peek(), seen) && feed.held() == held)
-}
-
-/// Skips the first unit. Returns whether it had this length, and this many bytes are held then.
-fn passes(feed: &mut Feed, len: usize, held: usize) -> bool {
-    pass_unit(feed) == Some(len) && feed.held() == held
 }
 
 /// A text of two bytes.
@@ -144,40 +70,6 @@ impl Append for Sprawling {
     }
 }
 
-/// A source that writes as many bytes at once as there is room for, and returns their number.
-#[derive(Drop)]
-struct Well {
-    left: usize,
-}
-
-impl Source for Well {
-    type Answer = usize;
-
-    ghost gives = { λ _ _ _ _. Unit {0} };
-
-    fn read(&mut self, room: &mut [u8]) -> (usize, usize) {
-        let count = room.len().min(self.left);
-        let (front, _) = room.split_at_mut(count);
-        front.fill(b'x');
-        self.left -= count;
-        (count, room.len())
-    }
-}
-
-/// Reads a piece from a source. After an error it reads it again.
-///
-/// Returns whether the feed and the source were unchanged after the error.
-fn take_at_last(feed: &mut Feed, well: &mut Well, room: usize) -> Result<bool, AllocError> {
-    let held = feed.held();
-    let left = well.left;
-    if feed.push_from(well, room).is_ok() {
-        return Ok(true);
-    }
-    let is_same = feed.held() == held && well.left == left;
-    feed.push_from(well, room)?;
-    Ok(is_same)
-}
-
 /// Consumes up to `n` bytes. Returns whether this is left, and this many bytes are in memory.
 fn consume_to(queue: &mut Queue<65536>, n: usize, left: &[u8], filled: usize) -> bool {
     queue.consume(queue.len().min(n));
@@ -193,99 +85,115 @@ static TAKEN: [(usize, &[u8], usize); 5] = [
     (1, b"", 0),
 ];
 
-// Each test below owns a queue or a feed, and the function above it checks that.
+// Each test below owns a queue, and the function above it returns whether that does what it should.
 
-fn takes_from_its_front(rt: &impl Abort, queue: &mut Queue<65536>) -> Result<(), AllocError> {
-    assert!(rt; queue.is_empty());
+fn takes_from_its_front(queue: &mut Queue<65536>) -> Result<bool, AllocError> {
+    let was_empty = queue.is_empty();
     queue.push(b"abcdef")?;
     queue.append(&Pair(b'g', b'h'))?;
+    Ok(was_empty && is_taken(queue))
+}
+
+/// Takes all bytes of a queue.
+fn is_taken(queue: &mut Queue<65536>) -> bool {
     for (n, left, filled) in &TAKEN {
-        assert!(rt; consume_to(queue, *n, left, *filled));
+        if !consume_to(queue, *n, left, *filled) {
+            return false;
+        }
     }
-    assert!(rt; queue.is_empty());
-    Ok(())
+    queue.is_empty()
 }
 
 #[test]
 fn a_queue_takes_from_its_front(rt: HostRuntime) -> Result<(), AllocError> {
-    takes_from_its_front(&rt, &mut Queue::new(rt.alloc()))
-}
-
-fn closes_up(rt: &impl Abort, queue: &mut Queue<65536>) -> Result<(), AllocError> {
-    queue.push(b"abcdefgh")?;
-    assert!(rt; consume_to(queue, 3, b"defgh", 8));
-    queue.push(b"i")?;
-    assert_eq!(rt; queue.filled_bytes(), 9);
-    closes_up_at_half(rt, queue)
-}
-
-/// Checks a queue of `defghi` in memory of 9 bytes.
-fn closes_up_at_half(rt: &impl Abort, queue: &mut Queue<65536>) -> Result<(), AllocError> {
-    assert!(rt; consume_to(queue, 2, b"fghi", 9));
-    queue.push(b"j")?;
-    assert!(rt; queue.as_slice() == b"fghij".as_slice());
-    assert_eq!(rt; queue.filled_bytes(), 5);
+    let is_right = takes_from_its_front(&mut Queue::new(rt.alloc()))?;
+    holds(&rt, is_right);
     Ok(())
+}
+
+/// A piece that is pushed, the number of bytes to consume then, what is left, and the number of
+/// bytes in memory.
+static CLOSING: [(&[u8], usize, &[u8], usize); 3] = [
+    (b"abcdefgh", 3, b"defgh", 8),
+    (b"i", 2, b"fghi", 9),
+    (b"j", 0, b"fghij", 5),
+];
+
+fn closes_up(queue: &mut Queue<65536>) -> Result<bool, AllocError> {
+    for (piece, n, left, filled) in &CLOSING {
+        queue.push(piece)?;
+        if !consume_to(queue, *n, left, *filled) {
+            return Ok(false);
+        }
+    }
+    Ok(true)
 }
 
 #[test]
 fn an_append_closes_up_half_of_a_queue(rt: HostRuntime) -> Result<(), AllocError> {
-    closes_up(&rt, &mut Queue::new(rt.alloc()))
+    let is_right = closes_up(&mut Queue::new(rt.alloc()))?;
+    holds(&rt, is_right);
+    Ok(())
 }
 
-fn gives_back_what_a_text_left(
-    rt: &impl Abort,
-    queue: &mut Queue<65536>,
-) -> Result<(), AllocError> {
+fn gives_back_what_a_text_left(queue: &mut Queue<65536>) -> Result<bool, AllocError> {
     queue.push(b"ab")?;
     queue.append(&Sprawling)?;
-    assert!(rt; queue.as_slice() == b"abcd".as_slice() && queue.capacity() == 4);
-    Ok(())
+    Ok(queue.as_slice() == b"abcd".as_slice() && queue.capacity() == 4)
 }
 
 #[test]
 fn memory_that_a_text_does_not_need_is_given_back(rt: HostRuntime) -> Result<(), AllocError> {
-    gives_back_what_a_text_left(&rt, &mut Queue::new(rt.alloc()))
+    let is_right = gives_back_what_a_text_left(&mut Queue::new(rt.alloc()))?;
+    holds(&rt, is_right);
+    Ok(())
 }
 
-fn gives_its_memory_back(rt: &impl Abort, queue: &mut Queue<65536>) -> Result<(), AllocError> {
+fn gives_its_memory_back(queue: &mut Queue<65536>) -> Result<bool, AllocError> {
     let piece = [b'x'; 8192];
     for _ in 0..16 {
         queue.push(&piece)?;
     }
-    assert!(rt; queue.capacity() >= 131072);
-    closes_up_and_clears(rt, queue)
+    let has_all = queue.capacity() >= 131072;
+    Ok(has_all && closes_up_and_clears(queue)?)
 }
 
-/// Checks a queue of 131072 bytes.
-fn closes_up_and_clears(rt: &impl Abort, queue: &mut Queue<65536>) -> Result<(), AllocError> {
+/// The same for a queue of 131072 bytes.
+fn closes_up_and_clears(queue: &mut Queue<65536>) -> Result<bool, AllocError> {
     queue.consume(queue.len().min(131071));
-    assert_eq!(rt; queue.filled_bytes(), 131072);
+    let open = queue.filled_bytes();
     queue.push(b"x")?;
-    assert_eq!(rt; queue.filled_bytes(), 2);
+    let closed = queue.filled_bytes();
     queue.clear();
-    assert!(rt; queue.capacity() <= 65536 && queue.filled_bytes() == 0);
-    Ok(())
+    let is_clear = queue.capacity() <= 65536 && queue.filled_bytes() == 0;
+    Ok(open == 131072 && closed == 2 && is_clear)
 }
 
 #[test]
 fn a_large_queue_gives_its_memory_back(rt: HostRuntime) -> Result<(), AllocError> {
-    gives_its_memory_back(&rt, &mut Queue::new(rt.alloc()))
+    let is_right = gives_its_memory_back(&mut Queue::new(rt.alloc()))?;
+    holds(&rt, is_right);
+    Ok(())
 }
 
-fn keeps_a_first_piece(rt: &impl Abort, queue: &mut Queue<65536>) -> Result<(), AllocError> {
+fn keeps_a_first_piece(queue: &mut Queue<65536>) -> Result<bool, AllocError> {
     queue.push(&[b'x'; 8192])?;
-    assert!(rt; queue.rest() >= 8192);
+    let held = queue.rest();
     queue.clear();
-    assert!(rt; queue.capacity() >= 8192);
-    assert!(rt; queue.rest() <= FIRST_PIECE && queue.is_empty());
-    assert!(rt; queue.capacity() <= FIRST_PIECE);
-    Ok(())
+    let kept = queue.capacity();
+    Ok(held >= 8192 && kept >= 8192 && rests(queue))
+}
+
+/// The same for a queue without bytes.
+fn rests(queue: &mut Queue<65536>) -> bool {
+    queue.rest() <= FIRST_PIECE && queue.is_empty() && queue.capacity() <= FIRST_PIECE
 }
 
 #[test]
 fn a_queue_that_rests_keeps_a_first_piece(rt: HostRuntime) -> Result<(), AllocError> {
-    keeps_a_first_piece(&rt, &mut Queue::new(rt.alloc()))
+    let is_right = keeps_a_first_piece(&mut Queue::new(rt.alloc()))?;
+    holds(&rt, is_right);
+    Ok(())
 }
 
 /// The bytes of a text that comes in parts, and a part of them that is just below a sixteenth.
@@ -293,91 +201,102 @@ const WHOLE: usize = 320_000;
 
 const BELOW: usize = 19_999;
 
-/// Checks the memory of a queue to which this part of the text is pushed first.
-fn makes_room_at_once(
-    rt: &impl Abort,
-    queue: &mut Queue<64>,
-    part: &[u8],
-) -> Result<(), AllocError> {
+/// Looks at the memory of a queue to which this part of the text is pushed first.
+fn makes_room_at_once(queue: &mut Queue<64>, part: &[u8]) -> Result<bool, AllocError> {
     queue.push_part(part, WHOLE)?;
     queue.push_part(b"x", WHOLE)?;
-    assert!(rt; queue.capacity() >= WHOLE / 16 + 16_384 && queue.capacity() < WHOLE);
+    let begun = queue.capacity();
     queue.push_part(b"x", WHOLE)?;
-    assert!(rt; queue.capacity() >= WHOLE && queue.len() == BELOW + 2);
+    let has_room = queue.capacity() >= WHOLE && queue.len() == BELOW + 2;
     queue.clear();
-    assert!(rt; queue.capacity() <= 64);
-    Ok(())
+    let is_begun = begun >= WHOLE / 16 + 16_384 && begun < WHOLE;
+    Ok(is_begun && has_room && queue.capacity() <= 64)
 }
 
 #[test]
 fn room_is_made_at_once_for_a_text_that_has_begun(rt: HostRuntime) -> Result<(), AllocError> {
-    makes_room_at_once(&rt, &mut Queue::new(rt.alloc()), &[b'x'; BELOW])
+    let is_right = makes_room_at_once(&mut Queue::new(rt.alloc()), &[b'x'; BELOW])?;
+    holds(&rt, is_right);
+    Ok(())
 }
 
 /// Pushes a part of 400 bytes, and once more if memory is refused. The queue is unchanged then.
-fn takes_a_part(rt: &impl Abort, queue: &mut Queue<64>) -> Result<(), AllocError> {
+fn takes_a_part(queue: &mut Queue<64>) -> Result<bool, AllocError> {
     let part = [b'x'; 400];
     let there = queue.len();
-    if queue.push_part(&part, 1600).is_err() {
-        assert!(rt; queue.len() == there);
-        queue.push_part(&part, 1600)?;
+    if queue.push_part(&part, 1600).is_ok() {
+        return Ok(true);
     }
-    Ok(())
+    let is_same = queue.len() == there;
+    queue.push_part(&part, 1600)?;
+    Ok(is_same)
 }
 
-fn takes_parts(rt: &impl Abort, queue: &mut Queue<64>) -> Result<(), AllocError> {
+fn takes_parts(queue: &mut Queue<64>) -> Result<bool, AllocError> {
     for count in 1..5usize {
-        takes_a_part(rt, queue)?;
-        assert_eq!(rt; queue.len(), 400 * count);
+        if !takes_a_part(queue)? || queue.len() != 400 * count {
+            return Ok(false);
+        }
     }
-    Ok(())
+    Ok(true)
 }
 
 #[test]
 fn a_part_that_is_refused(rt: HostRuntime) -> Result<(), AllocError> {
-    takes_parts(&rt, &mut Queue::new(rt.alloc()))
+    let is_right = takes_parts(&mut Queue::new(rt.alloc()))?;
+    holds(&rt, is_right);
+    Ok(())
 }
 
-/// Checks that a source has this room in an empty queue.
-fn lends_room(rt: &impl Abort, queue: &mut Queue<65536>, room: usize) -> Result<(), AllocError> {
+/// Returns whether a source has this room in an empty queue.
+fn lends_room(queue: &mut Queue<65536>, room: usize) -> Result<bool, AllocError> {
     let mut well = Well { left: usize::MAX };
-    assert_eq!(rt; queue.push_part_from(&mut well, room, 0)?, room);
-    assert_eq!(rt; queue.len(), room);
-    queue.consume(room.min(queue.len()));
-    Ok(())
+    let lent = queue.push_part_from(&mut well, room, 0)?;
+    let len = queue.len();
+    queue.consume(len);
+    Ok(lent == room && len == room)
 }
 
-/// Checks rooms in order.
-fn lends_rooms(
-    rt: &impl Abort,
-    queue: &mut Queue<65536>,
-    rooms: &[usize],
-) -> Result<(), AllocError> {
+/// Looks at rooms in order.
+fn lends_rooms(queue: &mut Queue<65536>, rooms: &[usize]) -> Result<bool, AllocError> {
     for room in rooms {
-        lends_room(rt, queue, *room)?;
+        if !lends_room(queue, *room)? {
+            return Ok(false);
+        }
     }
-    Ok(())
+    Ok(true)
 }
 
 #[test]
 fn a_source_has_the_room_that_is_asked_for(rt: HostRuntime) -> Result<(), AllocError> {
-    lends_rooms(&rt, &mut Queue::new(rt.alloc()), &[2048, 1, 2048, 16384])
+    let is_right = lends_rooms(&mut Queue::new(rt.alloc()), &[2048, 1, 2048, 16384])?;
+    holds(&rt, is_right);
+    Ok(())
 }
 
-fn keeps_the_room(rt: &impl Abort, queue: &mut Queue<65536>) -> Result<(), AllocError> {
+/// Reads 100 bytes from a source with more room, consumes them, and returns what is reserved.
+fn room_after_a_read(queue: &mut Queue<65536>) -> Result<usize, AllocError> {
+    let mut well = Well { left: 100 };
+    queue.push_part_from(&mut well, 2048, 0)?;
+    queue.consume(queue.len());
+    Ok(queue.capacity())
+}
+
+fn keeps_the_room(queue: &mut Queue<65536>) -> Result<bool, AllocError> {
     for _ in 0..9 {
-        let mut well = Well { left: 100 };
-        queue.push_part_from(&mut well, 2048, 0)?;
-        queue.consume(queue.len());
-        assert_eq!(rt; queue.capacity(), 2048);
+        if room_after_a_read(queue)? != 2048 {
+            return Ok(false);
+        }
     }
-    Ok(())
+    Ok(true)
 }
 
 /// An idle queue keeps the room for its source, and no more.
 #[test]
 fn room_that_is_lent_again_is_kept(rt: HostRuntime) -> Result<(), AllocError> {
-    keeps_the_room(&rt, &mut Queue::new(rt.alloc()))
+    let is_right = keeps_the_room(&mut Queue::new(rt.alloc()))?;
+    holds(&rt, is_right);
+    Ok(())
 }
 
 /// Reads pieces of 16384 bytes of a text of 1048576. Returns whether the buffer didn't move.
@@ -391,18 +310,19 @@ fn stays_for(queue: &mut Queue<65536>, pieces: usize) -> Result<bool, AllocError
 }
 
 /// The first 4 pieces are a sixteenth; room for the text comes with the fifth.
-fn stays_after_a_sixteenth(rt: &impl Abort, queue: &mut Queue<65536>) -> Result<(), AllocError> {
-    assert!(rt; !stays_for(queue, 5)?);
-    assert!(rt; stays_for(queue, 59)?);
-    assert_eq!(rt; queue.len(), 1048576);
-    Ok(())
+fn stays_after_a_sixteenth(queue: &mut Queue<65536>) -> Result<bool, AllocError> {
+    let stays_early = stays_for(queue, 5)?;
+    let stays_late = stays_for(queue, 59)?;
+    Ok(!stays_early && stays_late && queue.len() == 1048576)
 }
 
 #[test]
 fn a_text_from_a_source_stays_where_it_is_after_a_sixteenth(
     rt: HostRuntime,
 ) -> Result<(), AllocError> {
-    stays_after_a_sixteenth(&rt, &mut Queue::new(rt.alloc()))
+    let is_right = stays_after_a_sixteenth(&mut Queue::new(rt.alloc()))?;
+    holds(&rt, is_right);
+    Ok(())
 }
 
 /// Returns whether a command sets `a` to `abc`, with the flags 5, the exptime 0 and an answer.
@@ -467,114 +387,161 @@ fn faults_and_more(rt: HostRuntime) {
     }
 }
 
-/// Checks a line of 65536 bytes, and then with its end.
-fn longest_is_a_line(rt: &impl Abort, longest: &mut Vec<u8>) -> Result<(), AllocError> {
-    assert!(rt; shows(peek_at(GREATEST, longest), Seen::More));
-    longest.push(b'\n')?;
-    assert!(rt; shows(peek_at(GREATEST, longest), Seen::Lone(Lone::Version, 65537)));
-    Ok(())
+/// Returns whether a peek finds this in a line of so many bytes, and this once its end has come.
+fn line_shows(alloc: Global, len: usize, part: Seen, whole: Seen) -> Result<bool, AllocError> {
+    let mut line = long_line(alloc, len)?;
+    shows_at_its_end(&mut line, part, whole)
 }
 
-/// Checks a line of 65537 bytes, and then with its end.
-fn longer_is_too_long(rt: &impl Abort, longer: &mut Vec<u8>) -> Result<(), AllocError> {
-    assert!(rt; shows(peek_at(GREATEST, longer), Seen::TooLong));
-    longer.push(b'\n')?;
-    assert!(rt; shows(peek_at(GREATEST, longer), Seen::TooLong));
-    Ok(())
+/// The same for a line that lacks its end.
+fn shows_at_its_end(line: &mut Vec<u8>, part: Seen, whole: Seen) -> Result<bool, AllocError> {
+    let is_seen = shows(peek_at(GREATEST, line), part);
+    line.push(b'\n')?;
+    Ok(is_seen && shows(peek_at(GREATEST, line), whole))
 }
 
 #[test]
 fn the_longest_line(rt: HostRuntime) -> Result<(), AllocError> {
-    longest_is_a_line(&rt, &mut long_line(rt.alloc(), 65536)?)?;
-    longer_is_too_long(&rt, &mut long_line(rt.alloc(), 65537)?)
-}
-
-/// Checks a feed for charges of at most 100.
-fn passes_a_block_over(rt: &impl Abort, feed: &mut Feed) -> Result<(), AllocError> {
-    let too_large = Seen::Bad(LineFault::TooLarge { passed: 202 }, 15);
-    assert!(rt; takes(feed, b"set a 0 0 200\r\nxyz", too_large, 18)?);
-    assert!(rt; passes(feed, 15, 0));
-    for _ in 0..199 {
-        assert!(rt; takes(feed, b"x", Seen::More, 0)?);
-        assert_eq!(rt; feed.filled_bytes(), 0);
-    }
-    goes_on_behind_it(rt, feed)
-}
-
-/// The last byte of the block that is skipped has not arrived.
-fn goes_on_behind_it(rt: &impl Abort, feed: &mut Feed) -> Result<(), AllocError> {
-    assert!(rt; takes(feed, b"version\r\nqu", VERSION, 11)?);
-    assert!(rt; passes(feed, 9, 2) && shows(feed.peek(), Seen::More));
-    assert!(rt; takes(feed, b"it\r\n", Seen::Lone(Lone::Quit, 6), 6)?);
-    feed.clear();
-    assert_eq!(rt; feed.held(), 0);
+    let whole = Seen::Lone(Lone::Version, 65537);
+    holds(&rt, line_shows(rt.alloc(), 65536, Seen::More, whole)?);
+    holds(
+        &rt,
+        line_shows(rt.alloc(), 65537, Seen::TooLong, Seen::TooLong)?,
+    );
     Ok(())
 }
+
+/// What a peek finds in a line whose block is too large.
+const OF_202: Seen = Seen::Bad(LineFault::TooLarge { passed: 202 }, 15);
+
+const OF_2097154: Seen = Seen::Bad(LineFault::TooLarge { passed: 2097154 }, 19);
+
+/// The last byte of the block that is skipped comes with the next line.
+static PASSED_OVER: [Row; 7] = [
+    (Event::Comes(b"set a 0 0 200\r\nxyz"), OF_202, 18),
+    (Event::Leaves(15), Seen::More, 0),
+    (Event::Runs(b'x', 1, 199), Seen::More, 0),
+    (Event::Comes(b"version\r\nqu"), VERSION, 11),
+    (Event::Leaves(9), Seen::More, 2),
+    (Event::Comes(b"it\r\n"), Seen::Lone(Lone::Quit, 6), 6),
+    (Event::Clears, Seen::More, 0),
+];
 
 #[test]
 fn a_block_that_is_passed_over(rt: HostRuntime) -> Result<(), AllocError> {
-    passes_a_block_over(&rt, &mut Feed::new(rt.alloc(), 100))
+    goes(&rt, rt.alloc(), 100, &PASSED_OVER)
 }
 
-fn holds_no_piece(rt: &impl Abort, feed: &mut Feed) -> Result<(), AllocError> {
-    let line = b"set a 0 0 2097152\r\n";
-    let too_large = Seen::Bad(LineFault::TooLarge { passed: 2097154 }, 19);
-    assert!(rt; takes(feed, line, too_large, line.len())?);
-    assert!(rt; passes(feed, 19, 0));
-    let piece = [b'x'; 16384];
-    for _ in 0..128 {
-        assert!(rt; takes(feed, &piece, Seen::More, 0)?);
-    }
-    assert!(rt; takes(feed, b"\r\n", Seen::More, 0)?);
-    assert!(rt; takes(feed, b"version\r\n", VERSION, 9)?);
-    Ok(())
-}
+static NEVER_HELD: [Row; 5] = [
+    (Event::Comes(b"set a 0 0 2097152\r\n"), OF_2097154, 19),
+    (Event::Leaves(19), Seen::More, 0),
+    (Event::Runs(b'x', 16384, 128), Seen::More, 0),
+    (Event::Comes(b"\r\n"), Seen::More, 0),
+    (Event::Comes(b"version\r\n"), VERSION, 9),
+];
 
 /// A block of this length is skipped in pieces, none of which is held.
 #[test]
 fn what_is_passed_over_is_never_held(rt: HostRuntime) -> Result<(), AllocError> {
-    holds_no_piece(&rt, &mut Feed::new(rt.alloc(), GREATEST))
+    goes(&rt, rt.alloc(), GREATEST, &NEVER_HELD)
 }
 
-fn holds_nothing_of_a_source(rt: &impl Abort, feed: &mut Feed) -> Result<(), AllocError> {
-    assert!(rt; push_at_last(feed, b"set a 0 0 2097152\r\n")?);
-    assert!(rt; passes(feed, 19, 0));
-    let mut well = Well { left: 2097154 };
-    for _ in 0..129 {
-        assert!(rt; take_at_last(feed, &mut well, 16384)?);
-        assert!(rt; feed.held() == 0 && feed.filled_bytes() == 0);
-    }
-    assert!(rt; takes(feed, b"version\r\n", VERSION, 9)?);
-    Ok(())
-}
+static NEVER_HELD_OF_A_SOURCE: [Row; 4] = [
+    (Event::Comes(b"set a 0 0 2097152\r\n"), OF_2097154, 19),
+    (Event::Leaves(19), Seen::More, 0),
+    (Event::Flows(2097154, 129), Seen::More, 0),
+    (Event::Comes(b"version\r\n"), VERSION, 9),
+];
 
 #[test]
 fn what_is_passed_over_of_a_source_is_never_held(rt: HostRuntime) -> Result<(), AllocError> {
-    holds_nothing_of_a_source(&rt, &mut Feed::new(rt.alloc(), GREATEST))
+    goes(&rt, rt.alloc(), GREATEST, &NEVER_HELD_OF_A_SOURCE)
 }
 
-fn announces_a_block(rt: &impl Abort, feed: &mut Feed) -> Result<(), AllocError> {
-    assert_eq!(rt; feed.announced_bytes(), 0);
+static OF_A_SOURCE: [Row; 3] = [
+    (Event::Comes(b"set a 0 0 1000000\r\n"), Seen::More, 19),
+    (Event::Flows(1000000, 62), Seen::More, 1000019),
+    (Event::Comes(b"\r\n"), Seen::Other(1000021), 1000021),
+];
+
+/// A block of 1000000 bytes in pieces of 16384; the last piece is shorter.
+#[test]
+fn a_block_comes_from_a_source(rt: HostRuntime) -> Result<(), AllocError> {
+    goes(&rt, rt.alloc(), GREATEST, &OF_A_SOURCE)
+}
+
+/// A block of 100 bytes in pieces. Only the last piece ends a unit.
+static PIECES: [Row; 6] = [
+    (Event::Comes(b""), Seen::More, 0),
+    (Event::Comes(b"set a 0 0 100\r\nxyz"), Seen::More, 18),
+    (
+        Event::Comes(b"0123456789012345678901234567890123456789012345678901234567890123456789"),
+        Seen::More,
+        88,
+    ),
+    (
+        Event::Comes(b"012345678901234567890123456"),
+        Seen::More,
+        115,
+    ),
+    (Event::Comes(b"\r\nget a\r\n"), Seen::Other(117), 124),
+    (Event::Leaves(117), Seen::Get(7), 7),
+];
+
+#[test]
+fn a_push_that_is_refused(rt: HostRuntime) -> Result<(), AllocError> {
+    goes(&rt, rt.alloc(), GREATEST, &PIECES)
+}
+
+static LONGEST_LINE: [Row; 3] = [
+    (Event::Comes(b"version "), Seen::More, 8),
+    (Event::Runs(b' ', 8191, 8), Seen::More, 65536),
+    (Event::Comes(b"\n"), Seen::Lone(Lone::Version, 65537), 65537),
+];
+
+#[test]
+fn the_longest_line_in_pieces(rt: HostRuntime) -> Result<(), AllocError> {
+    goes(&rt, rt.alloc(), GREATEST, &LONGEST_LINE)
+}
+
+static LINE_TOO_LONG: [Row; 4] = [
+    (Event::Comes(b""), Seen::More, 0),
+    (Event::Runs(b' ', 8192, 8), Seen::More, 65536),
+    (Event::Comes(b" "), Seen::TooLong, 65537),
+    (Event::Comes(b"\n"), Seen::TooLong, 65538),
+];
+
+#[test]
+fn a_line_one_byte_too_long_in_pieces(rt: HostRuntime) -> Result<(), AllocError> {
+    goes(&rt, rt.alloc(), GREATEST, &LINE_TOO_LONG)
+}
+
+// Each test below owns a feed, and a function above it returns whether that does what it should.
+
+fn announces_a_block(feed: &mut Feed) -> Result<bool, AllocError> {
+    let before = feed.announced_bytes();
     feed.push(b"set a 0 0 100000\r\n")?;
-    assert_eq!(rt; feed.announced_bytes(), 100020);
+    let announced = feed.announced_bytes();
     for _ in 0..2 {
         feed.push(&[b'x'; 8192])?;
     }
-    keeps_its_room_until_it_is_cleared(rt, feed);
-    Ok(())
+    let is_announced = before == 0 && announced == 100020;
+    Ok(is_announced && keeps_its_room_until_it_is_cleared(feed))
 }
 
-/// Checks a feed that has the line of a block of 100000 bytes and some of those.
-fn keeps_its_room_until_it_is_cleared(rt: &impl Abort, feed: &mut Feed) {
-    assert!(rt; feed.capacity() >= 100020 && feed.rest() >= 100020);
+/// The same for a feed that has the line of a block of 100000 bytes and some of those.
+fn keeps_its_room_until_it_is_cleared(feed: &mut Feed) -> bool {
+    let has_room = feed.capacity() >= 100020 && feed.rest() >= 100020;
     feed.clear();
-    assert_eq!(rt; feed.announced_bytes(), 0);
-    assert!(rt; feed.rest() <= FIRST_PIECE && feed.capacity() <= FIRST_PIECE);
+    let is_clear = feed.announced_bytes() == 0 && feed.rest() <= FIRST_PIECE;
+    has_room && is_clear && feed.capacity() <= FIRST_PIECE
 }
 
 #[test]
 fn a_block_is_announced_by_its_line(rt: HostRuntime) -> Result<(), AllocError> {
-    announces_a_block(&rt, &mut Feed::new(rt.alloc(), GREATEST))
+    let is_right = announces_a_block(&mut Feed::new(rt.alloc(), GREATEST))?;
+    holds(&rt, is_right);
+    Ok(())
 }
 
 /// Returns whether it is a set whose block is lent with its memory.
@@ -595,145 +562,109 @@ fn push_large(feed: &mut Feed) -> Result<(), AllocError> {
     feed.push(b"\r\n")
 }
 
-/// Checks that a large block is lent with its memory until more arrives, and is the same then.
-fn offers_a_large_block(rt: &impl Abort, feed: &mut Feed) -> Result<(), AllocError> {
+/// A large block is lent with its memory until more arrives, and is the same then.
+///
+/// It isn't lent if memory was refused, which is an error here.
+fn offers_a_large_block(feed: &mut Feed) -> Result<bool, AllocError> {
     push_large(feed)?;
-    assert_eq!(rt; len_of(feed.peek()), Some(100020));
-    if !lends_memory(feed.peek()) {
+    let is_whole = len_of(feed.peek()) == Some(100020);
+    if is_whole && !lends_memory(feed.peek()) {
         return Err(AllocError);
     }
-    assert!(rt; feed.held() == 100020 && feed.capacity() >= 100020 && feed.rest() >= 100020);
-    assert!(rt; push_at_last(feed, b"version\r\n")?);
-    assert!(rt; !lends_memory(feed.peek()) && len_of(feed.peek()) == Some(100020));
-    assert!(rt; passes(feed, 100020, 9) && takes(feed, b"", VERSION, 9)?);
-    assert!(rt; passes(feed, 9, 0));
+    let has_room = feed.capacity() >= 100020 && feed.rest() >= 100020;
+    Ok(is_whole && has_room && feed.held() == 100020 && goes_on_behind_it(feed)?)
+}
+
+/// The same for a feed that has it.
+fn goes_on_behind_it(feed: &mut Feed) -> Result<bool, AllocError> {
+    let is_same = push_at_last(feed, b"version\r\n")?;
+    let is_copied = !lends_memory(feed.peek()) && len_of(feed.peek()) == Some(100020);
+    let is_passed = passes(feed, 100020, 9) && push_at_last(feed, b"")?;
+    let is_next = shows(feed.peek(), VERSION) && passes(feed, 9, 0);
+    Ok(is_same && is_copied && is_passed && is_next && frees_a_large_block(feed)?)
+}
+
+/// An empty feed takes such a block, and frees its memory.
+fn frees_a_large_block(feed: &mut Feed) -> Result<bool, AllocError> {
     push_large(feed)?;
-    assert!(rt; passes(feed, 100020, 0) && feed.capacity() <= 65536);
-    Ok(())
+    Ok(passes(feed, 100020, 0) && feed.capacity() <= 65536)
 }
 
 #[test]
 fn a_large_block_is_lent_with_its_memory(rt: HostRuntime) -> Result<(), AllocError> {
-    offers_a_large_block(&rt, &mut Feed::new(rt.alloc(), GREATEST))
-}
-
-fn takes_a_block_from_a_source(rt: &impl Abort, feed: &mut Feed) -> Result<(), AllocError> {
-    assert!(rt; push_at_last(feed, b"set a 0 0 1000000\r\n")?);
-    let mut well = Well { left: 1000000 };
-    for _ in 0..62 {
-        assert!(rt; take_at_last(feed, &mut well, 16384)? && shows(feed.peek(), Seen::More));
-    }
-    assert!(rt; push_at_last(feed, b"\r\n")?);
-    assert_eq!(rt; len_of(feed.peek()), Some(1000021));
+    let is_right = offers_a_large_block(&mut Feed::new(rt.alloc(), GREATEST))?;
+    holds(&rt, is_right);
     Ok(())
-}
-
-/// A block of 1000000 bytes in pieces of 16384; the last piece is shorter.
-#[test]
-fn a_block_comes_from_a_source(rt: HostRuntime) -> Result<(), AllocError> {
-    takes_a_block_from_a_source(&rt, &mut Feed::new(rt.alloc(), GREATEST))
 }
 
 /// The number of turns taken, the next key, and how many keys are left.
 static TURNS: [(usize, &[u8], usize); 3] = [(0, b"one", 3), (1, b"two", 2), (2, b"three", 1)];
 
-/// Checks a key of it that is found first by reading the line from its beginning, and then by the
-/// mark.
-fn finds_a_key(rt: &impl Abort, feed: &mut Feed, taken: usize, key: &[u8], left: usize) {
+/// Returns whether a key of it is found, first by reading the line from its beginning, and then by
+/// the mark.
+fn finds_a_key(feed: &mut Feed, taken: usize, key: &[u8], left: usize) -> bool {
     for _ in 0..2 {
-        assert!(rt; is_gats_60(feed.peek_after(taken), left, key));
+        if !is_gats_60(feed.peek_after(taken), left, key) {
+            return false;
+        }
         feed.mark(taken);
     }
+    true
 }
 
-fn retrieves_in_turns(rt: &impl Abort, feed: &mut Feed) -> Result<(), AllocError> {
-    assert!(rt; push_at_last(feed, b"gats 60 one  two three \r\nquit\r\n")?);
+/// Returns whether all its keys are found, also when more comes behind it.
+fn finds_keys(feed: &mut Feed) -> Result<bool, AllocError> {
     for (taken, key, left) in &TURNS {
-        finds_a_key(rt, feed, *taken, key, *left);
-        // What comes behind it changes nothing.
-        assert!(rt; push_at_last(feed, b"version\r\n")?);
+        if !finds_a_key(feed, *taken, key, *left) || !push_at_last(feed, b"version\r\n")? {
+            return Ok(false);
+        }
     }
-    assert!(rt; is_gats_60(feed.peek_after(usize::MAX), 0, b""));
-    assert!(rt; pass_unit(feed) == Some(25));
-    assert!(rt; shows(feed.peek_after(1), Seen::Lone(Lone::Quit, 6)));
-    Ok(())
+    Ok(true)
+}
+
+/// Returns whether no key is left of it, and a quit is behind it.
+fn ends_in_a_quit(feed: &mut Feed) -> bool {
+    let is_over = is_gats_60(feed.peek_after(usize::MAX), 0, b"");
+    let is_passed = pass_unit(feed) == Some(25);
+    is_over && is_passed && shows(feed.peek_after(1), Seen::Lone(Lone::Quit, 6))
+}
+
+fn retrieves_in_turns(feed: &mut Feed) -> Result<bool, AllocError> {
+    let is_same = push_at_last(feed, b"gats 60 one  two three \r\nquit\r\n")?;
+    Ok(is_same && finds_keys(feed)? && ends_in_a_quit(feed))
 }
 
 #[test]
 fn a_retrieval_in_turns(rt: HostRuntime) -> Result<(), AllocError> {
-    retrieves_in_turns(&rt, &mut Feed::new(rt.alloc(), GREATEST))
-}
-
-/// A stream in pieces. Only the last piece ends a unit.
-static PIECES: [&[u8]; 4] = [
-    b"set a 0 0 100\r\nxyz",
-    b"0123456789012345678901234567890123456789012345678901234567890123456789",
-    b"012345678901234567890123456",
-    b"\r\nget a\r\n",
-];
-
-fn takes_pieces(rt: &impl Abort, feed: &mut Feed) -> Result<(), AllocError> {
-    for piece in &PIECES {
-        assert!(rt; shows(feed.peek(), Seen::More));
-        assert!(rt; push_at_last(feed, piece)?);
-    }
-    assert!(rt; passes(feed, 117, 7) && shows(feed.peek(), Seen::Get(7)));
+    let is_right = retrieves_in_turns(&mut Feed::new(rt.alloc(), GREATEST))?;
+    holds(&rt, is_right);
     Ok(())
 }
 
-#[test]
-fn a_push_that_is_refused(rt: HostRuntime) -> Result<(), AllocError> {
-    takes_pieces(&rt, &mut Feed::new(rt.alloc(), GREATEST))
+/// A stream of five units.
+const STREAM: &[u8] = b" set a 0 0 3 \r\na\nc\r\nversion\nfoo\r\nset a 0 0 1\r\nabcquit\r\n";
+
+/// The last byte of each unit.
+static LASTS: [usize; 5] = [19, 27, 32, 48, 54];
+
+/// Pushes a byte. Returns whether it ends a unit exactly if it should; a unit that ends is skipped.
+fn takes_a_byte(feed: &mut Feed, byte: u8, is_last: bool) -> Result<bool, AllocError> {
+    let is_same = push_at_last(feed, &[byte])?;
+    Ok(pass_unit(feed).is_some() == is_last && is_same)
 }
 
-fn takes_bytes(rt: &impl Abort, feed: &mut Feed) -> Result<(), AllocError> {
-    let stream = b" set a 0 0 3 \r\na\nc\r\nversion\nfoo\r\nset a 0 0 1\r\nabcquit\r\n";
-    // The last byte of each unit.
-    let lasts: [usize; 5] = [19, 27, 32, 48, 54];
-    for (place, byte) in stream.iter().enumerate() {
-        assert!(rt; push_at_last(feed, &[*byte])?);
-        let is_whole = pass_unit(feed).is_some();
-        assert!(rt; is_whole == lasts.contains(&place), "at {place}");
+fn takes_bytes(feed: &mut Feed) -> Result<bool, AllocError> {
+    for (place, byte) in STREAM.iter().enumerate() {
+        if !takes_a_byte(feed, *byte, LASTS.contains(&place))? {
+            return Ok(false);
+        }
     }
-    assert_eq!(rt; feed.held(), 0);
-    Ok(())
+    Ok(feed.held() == 0)
 }
 
 #[test]
 fn a_stream_in_pieces_of_one_byte(rt: HostRuntime) -> Result<(), AllocError> {
-    takes_bytes(&rt, &mut Feed::new(rt.alloc(), GREATEST))
-}
-
-fn takes_the_longest_line(rt: &impl Abort, feed: &mut Feed) -> Result<(), AllocError> {
-    let spaces = [b' '; 8191];
-    assert!(rt; push_at_last(feed, b"version ")?);
-    for _ in 0..8 {
-        assert!(rt; shows(feed.peek(), Seen::More));
-        assert!(rt; push_at_last(feed, &spaces)?);
-    }
-    assert!(rt; feed.held() == 65536 && shows(feed.peek(), Seen::More));
-    assert!(rt; takes(feed, b"\n", Seen::Lone(Lone::Version, 65537), 65537)?);
+    let is_right = takes_bytes(&mut Feed::new(rt.alloc(), GREATEST))?;
+    holds(&rt, is_right);
     Ok(())
-}
-
-#[test]
-fn the_longest_line_in_pieces(rt: HostRuntime) -> Result<(), AllocError> {
-    takes_the_longest_line(&rt, &mut Feed::new(rt.alloc(), GREATEST))
-}
-
-fn takes_a_line_too_long(rt: &impl Abort, feed: &mut Feed) -> Result<(), AllocError> {
-    let spaces = [b' '; 8192];
-    for _ in 0..8 {
-        assert!(rt; shows(feed.peek(), Seen::More));
-        assert!(rt; push_at_last(feed, &spaces)?);
-    }
-    assert!(rt; shows(feed.peek(), Seen::More));
-    assert!(rt; takes(feed, b" ", Seen::TooLong, 65537)?);
-    assert!(rt; takes(feed, b"\n", Seen::TooLong, 65538)?);
-    Ok(())
-}
-
-#[test]
-fn a_line_one_byte_too_long_in_pieces(rt: HostRuntime) -> Result<(), AllocError> {
-    takes_a_line_too_long(&rt, &mut Feed::new(rt.alloc(), GREATEST))
 }

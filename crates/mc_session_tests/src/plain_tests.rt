@@ -6,6 +6,7 @@
 ghost use Rattle.std.specs.Prelude.{◌≤◌, length};
 ghost use Rattle.mc_protocol.specs.Commands.{key_of};
 
+use crate::checks::are_bytes;
 use mc_command::PlainStore;
 use mc_protocol::{Bytes, KeyStep, Reply, StepFault, Steps, Verb};
 use mc_testing::told_of;
@@ -34,12 +35,18 @@ fn asked(store: &mut PlainStore, alloc: Global, step: KeyStep<'_>) -> Result<Rep
     store.step(alloc, &step, Moment::from_seconds_at_most(1000))
 }
 
+/// Sets `n` to a number, and once more if memory is refused.
+fn set_number(store: &mut PlainStore, alloc: Global) -> Result<(), StepFault> {
+    if asked(store, alloc, storing(Verb::Set, b"9")).is_err() {
+        let _ = asked(store, alloc, storing(Verb::Set, b"9"))?;
+    }
+    Ok(())
+}
+
 /// Returns a store with greatest charge 100, and a number under `n` with the last unique number.
 fn spent(alloc: Global) -> Result<PlainStore, Fail> {
     let mut store = PlainStore::starting(alloc, 64, 100, u64::MAX - 1)?;
-    if asked(&mut store, alloc, storing(Verb::Set, b"9")).is_err() {
-        let _ = asked(&mut store, alloc, storing(Verb::Set, b"9"))?;
-    }
+    set_number(&mut store, alloc)?;
     Ok(store)
 }
 
@@ -56,12 +63,19 @@ fn comparing<'a>(unique: u64) -> KeyStep<'a>
     }
 }
 
+/// Takes a step, and returns the name of its result.
+fn told(store: &mut PlainStore, alloc: Global, step: KeyStep<'_>) -> &'static str
+    requires { length (key_of step) ≤ 250 }
+{
+    told_of(&asked(store, alloc, step))
+}
+
 /// Checks the name of a step's result.
 fn is_told(rt: &impl Abort, store: &mut PlainStore, alloc: Global, step: KeyStep<'_>, want: &str)
     requires { length (key_of step) ≤ 250 }
 {
-    let told = told_of(&asked(store, alloc, step));
-    assert!(rt; told == want, "{told} is not {want}");
+    let told = told(store, alloc, step);
+    are_bytes(rt, told.as_bytes(), want.as_bytes());
 }
 
 /// Checks writes that each draw a number, in a store whose numbers are spent.

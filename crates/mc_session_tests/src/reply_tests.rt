@@ -1,5 +1,6 @@
 //! The texts of replies and faults.
 
+use crate::checks::are_bytes;
 use mc_protocol::{Block, Bytes, Command, Keys, LineFault, Lone, Reply, Verb, steps_of};
 use mc_reply::{write, write_fault, write_hit, write_plain, write_spent, write_too_long};
 use std::alloc::{AllocError, Global};
@@ -31,14 +32,19 @@ enum Call<'a> {
     Spent(&'a Command<'a>),
 }
 
-fn call_once(rt: &impl Abort, call: &Call<'_>, out: &mut Vec<u8>) -> Result<(), AllocError> {
+/// Calls once. A step that its command doesn't have is an error, as a refusal is.
+fn call_once(call: &Call<'_>, out: &mut Vec<u8>) -> Result<(), AllocError> {
     match call {
         Call::Step(command, at, reply) => {
-            assert!(rt; *at < steps_of(command));
+            if *at >= steps_of(command) {
+                return Err(AllocError);
+            }
             write(command, *at, reply, out)
         }
         Call::Hit(command, at, flags, unique, parts) => {
-            assert!(rt; *at < steps_of(command));
+            if *at >= steps_of(command) {
+                return Err(AllocError);
+            }
             write_hit(command, *at, *flags, *unique, parts, out)
         }
         Call::Fault(fault) => write_fault(fault, out),
@@ -71,13 +77,20 @@ fn appends(
     out: &mut Vec<u8>,
     want: &str,
 ) -> Result<(), AllocError> {
-    if call_once(rt, call, out).is_err() {
-        assert_eq!(rt; out.as_slice(), BEFORE);
-        call_once(rt, call, out)?;
+    if call_once(call, out).is_err() {
+        are_bytes(rt, out.as_slice(), BEFORE);
+        call_once(call, out)?;
     }
-    let text = out.as_slice().strip_prefix(BEFORE);
-    assert_eq!(rt; text, Some(want.as_bytes()));
+    stands_behind(rt, out.as_slice(), want.as_bytes());
     Ok(())
+}
+
+/// Checks that this text stands behind `BEFORE`.
+fn stands_behind(rt: &impl Abort, out: &[u8], text: &[u8]) {
+    match out.strip_prefix(BEFORE) {
+        Some(behind) => are_bytes(rt, behind, text),
+        None => are_bytes(rt, out, BEFORE),
+    }
 }
 
 fn store(quiet: bool) -> Command<'static> {
@@ -168,24 +181,33 @@ fn quiet_command(at: u32) -> Command<'static> {
     }
 }
 
+/// Checks that a quiet command is answered nothing.
+fn quiet_is_told(rt: &impl Abort, alloc: Global, command: &Command<'_>) -> Result<(), Fail> {
+    expect(rt, alloc, &Call::Step(command, 0, &Reply::NoChunk), "")
+}
+
 #[test]
 fn a_quiet_command_is_answered_nothing(rt: HostRuntime) -> Result<(), Fail> {
     for at in 0..6 {
-        let command = quiet_command(at);
-        expect(
-            &rt,
-            rt.alloc(),
-            &Call::Step(&command, 0, &Reply::NoChunk),
-            "",
-        )?;
+        quiet_is_told(&rt, rt.alloc(), &quiet_command(at))?;
     }
     Ok(())
+}
+
+/// Checks that a command is told of spent numbers by this text.
+fn spent_is_told(
+    rt: &impl Abort,
+    alloc: Global,
+    command: &Command<'_>,
+    want: &str,
+) -> Result<(), Fail> {
+    expect(rt, alloc, &Call::Spent(command), want)
 }
 
 #[test]
 fn a_quiet_command_is_told_of_no_spent_numbers(rt: HostRuntime) -> Result<(), Fail> {
     for at in 0..6 {
-        expect(&rt, rt.alloc(), &Call::Spent(&quiet_command(at)), "")?;
+        spent_is_told(&rt, rt.alloc(), &quiet_command(at), "")?;
     }
     Ok(())
 }
@@ -257,24 +279,21 @@ fn found_is_told(rt: &impl Abort, alloc: Global, found: &Found) -> Result<(), Fa
         unique: found.unique,
         block: Block::of(filled(alloc, found.block)?),
     };
-    is_one_text(
-        rt,
-        alloc,
-        &retrieval(found.with_unique, false),
-        found,
-        &reply,
-    )?;
-    is_one_text(
-        rt,
-        alloc,
-        &retrieval(found.with_unique, true),
-        found,
-        &reply,
-    )
+    is_one_text(rt, alloc, found, &reply)
 }
 
-/// The same for one command.
-fn is_one_text(
+/// The same for get or gets, and for gat or gats.
+fn is_one_text(rt: &impl Abort, alloc: Global, found: &Found, reply: &Reply) -> Result<(), Fail> {
+    for touches in [false, true] {
+        let command = retrieval(found.with_unique, touches);
+        found_in_reply(rt, alloc, &command, found, reply)?;
+        found_in_one_part(rt, alloc, &command, found)?;
+        found_in_three_parts(rt, alloc, &command, found)?;
+    }
+    Ok(())
+}
+
+fn found_in_reply(
     rt: &impl Abort,
     alloc: Global,
     command: &Command<'_>,
@@ -282,8 +301,25 @@ fn is_one_text(
     reply: &Reply,
 ) -> Result<(), Fail> {
     let call = Call::Step(command, found.at, reply);
-    expect(rt, alloc, &call, found.text)?;
-    found_in_parts(rt, alloc, command, found, &[Bytes::of(found.block)])?;
+    expect(rt, alloc, &call, found.text)
+}
+
+fn found_in_one_part(
+    rt: &impl Abort,
+    alloc: Global,
+    command: &Command<'_>,
+    found: &Found,
+) -> Result<(), Fail> {
+    found_in_parts(rt, alloc, command, found, &[Bytes::of(found.block)])
+}
+
+/// The part in the middle is empty.
+fn found_in_three_parts(
+    rt: &impl Abort,
+    alloc: Global,
+    command: &Command<'_>,
+    found: &Found,
+) -> Result<(), Fail> {
     let (front, back) = found.block.split_at(found.block.len() / 2);
     let parts = [Bytes::of(front), Bytes::of(b"".as_slice()), Bytes::of(back)];
     found_in_parts(rt, alloc, command, found, &parts)
@@ -362,5 +398,5 @@ fn plain_commands_have_their_texts(rt: HostRuntime) -> Result<(), Fail> {
 #[test]
 fn spent_numbers_have_their_text(rt: HostRuntime) -> Result<(), Fail> {
     let want = "SERVER_ERROR out of unique numbers\r\n";
-    expect(&rt, rt.alloc(), &Call::Spent(&store(false)), want)
+    spent_is_told(&rt, rt.alloc(), &store(false), want)
 }

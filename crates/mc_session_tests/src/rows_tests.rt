@@ -4,99 +4,17 @@
 
 ghost use Rattle.std.specs.Prelude.{◌≤◌};
 
+use crate::checks::{are_bytes, is_none};
 use mc_command::PlainStore;
 use mc_protocol::{StepFault, Steps, Verb};
 use mc_testing::{
-    Ask, Row, Want, ask_step, filled_block, first_unlike, is_wanted, set, step_of, told_of,
+    Act, Ask, Play, Row, Want, ask_step, filled_block, first_unlike, first_wrong,
+    first_wrong_unread, front, step_of, told_of,
 };
 use mc_time::Moment;
 use std::alloc::{AllocError, Global};
 use std::process::Abort;
 use std::test::Fail;
-
-/// Returns whether a step has the expected answer. It is taken again if memory is refused.
-///
-/// The key isn't read before the step, so the step meets the key's dead item.
-fn is_answered(store: &mut PlainStore, alloc: Global, row: Row<'_>) -> bool {
-    let (seconds, key, ask, want) = row;
-    if key.len() > 250 {
-        return false;
-    }
-    let now = Moment::from_seconds_at_most(seconds);
-    let step = step_of(key, ask);
-    is_wanted(&ask_step(store, alloc, &step, now), want)
-}
-
-/// A step without its key, and its expected answer. A block is given by its length.
-#[derive(Clone, Copy)]
-enum Act {
-    /// A set: the exptime, the length and the reply.
-    Set(i64, usize, &'static str),
-    /// A read that finds an item: its unique number and its length.
-    Hit(u64, usize),
-    /// A step without such a block.
-    Small(Ask<'static>, Want<'static>),
-}
-
-/// The second, the key and the step. All blocks are fronts of one that a test makes once.
-type Play = (u64, &'static [u8], Act);
-
-/// Lends the first `len` bytes, at most all.
-fn part(bytes: &[u8], len: usize) -> &[u8] {
-    let (part, _) = bytes.split_at(len.min(bytes.len()));
-    part
-}
-
-/// Returns the row of a play whose block is a front of these bytes.
-fn row_of<'a>(play: &Play, bytes: &'a [u8]) -> Row<'a> {
-    let (seconds, key, act) = *play;
-    match act {
-        Act::Set(exptime, len, want) => set(seconds, key, exptime, part(bytes, len), want),
-        Act::Hit(unique, len) => (seconds, key, Ask::Get, Want::Hit(unique, part(bytes, len))),
-        Act::Small(ask, want) => (seconds, key, ask, want),
-    }
-}
-
-/// Returns the first unexpected answer with its second, as `first_unlike`.
-fn first_wrong(
-    store: &mut PlainStore,
-    alloc: Global,
-    bytes: &[u8],
-    plays: &[Play],
-) -> Result<Option<(u64, &'static str)>, StepFault> {
-    for play in plays {
-        let wrong = first_unlike(store, alloc, &[row_of(play, bytes)])?;
-        if wrong.is_some() {
-            return Ok(wrong);
-        }
-    }
-    Ok(None)
-}
-
-/// Returns the place of the first play with an unexpected answer. No key is read before its step.
-fn first_unread(
-    store: &mut PlainStore,
-    alloc: Global,
-    bytes: &[u8],
-    plays: &[Play],
-) -> Option<usize> {
-    for (at, play) in plays.iter().enumerate() {
-        if !is_answered(store, alloc, row_of(play, bytes)) {
-            return Some(at);
-        }
-    }
-    None
-}
-
-/// Checks bytes.
-fn are_bytes(rt: &impl Abort, has: &[u8], expected: &[u8]) {
-    assert_eq!(rt; has, expected);
-}
-
-/// Checks that no play has an unexpected answer.
-fn is_none(rt: &impl Abort, wrong: Option<usize>) {
-    assert_eq!(rt; wrong, None);
-}
 
 /// Checks that there is no unexpected answer.
 fn is_expected(rt: &impl Abort, unlike: Option<(u64, &'static str)>) {
@@ -137,7 +55,7 @@ fn plays_in(
     bytes: &[u8],
     plays: &[Play],
 ) -> Result<(), Fail> {
-    is_expected(rt, first_wrong(store, alloc, bytes, plays)?);
+    is_none(rt, first_wrong(store, alloc, bytes, plays)?);
     Ok(())
 }
 
@@ -160,7 +78,7 @@ fn plays_out(
 /// The same for a store of one page, if no key is read before its step.
 fn plays_unread(rt: &impl Abort, alloc: Global, bytes: &[u8], plays: &[Play]) -> Result<(), Fail> {
     let mut store = PlainStore::new(alloc, 1, 1048576)?;
-    is_none(rt, first_unread(&mut store, alloc, bytes, plays));
+    is_none(rt, first_wrong_unread(&mut store, alloc, bytes, plays));
     Ok(())
 }
 
@@ -285,11 +203,11 @@ const HALF: usize = 600000;
 
 static FULL: [Play; 7] = [
     (1000, b"a", Act::Set(0, HALF, "stored")),
-    (1000, b"b", Act::Small(X, NO_CHUNK)),
+    (1000, b"b", Act::Told(X, "no chunk")),
     (1000, b"a", Act::Set(0, HALF, "no chunk")),
     (1000, b"a", Act::Hit(1, HALF)),
-    (1000, b"a", Act::Small(Ask::Delete, Want::Told("deleted"))),
-    (1000, b"b", Act::Small(X, NO_CHUNK)),
+    (1000, b"a", Act::Told(Ask::Delete, "deleted")),
+    (1000, b"b", Act::Told(X, "no chunk")),
     (1000, b"b", Act::Set(0, HALF, "stored")),
 ];
 
@@ -305,9 +223,9 @@ static DEAD: [Play; 8] = [
     (1010, b"a", Act::Set(10, HALF, "stored")),
     (1010, b"a", Act::Hit(2, HALF)),
     // A write without a chunk for its class also drops the key's dead item.
-    (1020, b"a", Act::Small(X, NO_CHUNK)),
+    (1020, b"a", Act::Told(X, "no chunk")),
     (1020, b"b", Act::Set(0, HALF, "stored")),
-    (1020, b"b", Act::Small(Ask::Flush(0), FLUSHED)),
+    (1020, b"b", Act::Told(Ask::Flush(0), "flushed")),
     (1020, b"a", Act::Set(0, HALF, "stored")),
 ];
 
@@ -345,9 +263,9 @@ const ONE: usize = 1048527;
 
 static PAGES: [Play; 7] = [
     (1000, b"b", Act::Set(0, THREE, "stored")),
-    (1000, b"s", Act::Small(X, NO_CHUNK)),
+    (1000, b"s", Act::Told(X, "no chunk")),
     (1000, b"b", Act::Set(0, THREE, "no chunk")),
-    (1000, b"b", Act::Small(Ask::Delete, Want::Told("deleted"))),
+    (1000, b"b", Act::Told(Ask::Delete, "deleted")),
     (1000, b"c", Act::Set(0, TWO, "stored")),
     (1000, b"d", Act::Set(0, ONE, "stored")),
     (1000, b"e", Act::Set(0, ONE, "no chunk")),
@@ -362,7 +280,7 @@ fn large_items_take_whole_pages(rt: HostRuntime) -> Result<(), Fail> {
 static EIGHT_PAGES: [Play; 3] = [
     (1000, b"k", Act::Set(0, 8388559, "stored")),
     (1000, b"k", Act::Set(0, 8388560, "too large")),
-    (1000, b"s", Act::Small(X, NO_CHUNK)),
+    (1000, b"s", Act::Told(X, "no chunk")),
 ];
 
 #[test]
@@ -388,8 +306,8 @@ fn spaced(alloc: Global, len: usize) -> Result<Vec<u8>, AllocError> {
 
 static COUNTED: [Play; 6] = [
     (1000, b"n", Act::Set(0, TWO, "stored")),
-    (1000, b"n", Act::Small(Ask::Incr(1), Want::Number(8))),
-    (1000, b"n", Act::Small(Ask::Get, Want::Hit(2, b"8"))),
+    (1000, b"n", Act::Gives(Ask::Incr(1), Want::Number(8))),
+    (1000, b"n", Act::Gives(Ask::Get, Want::Hit(2, b"8"))),
     (1000, b"a", Act::Set(0, HALF, "stored")),
     (1000, b"b", Act::Set(0, HALF, "stored")),
     (1000, b"c", Act::Set(0, HALF, "no chunk")),
@@ -403,7 +321,7 @@ fn a_long_number_gives_its_pages_back_where_it_is_counted(rt: HostRuntime) -> Re
 
 static NOT_COUNTED: [Play; 3] = [
     (1000, b"n", Act::Set(0, TWO, "stored")),
-    (1000, b"n", Act::Small(Ask::Incr(1), NO_CHUNK)),
+    (1000, b"n", Act::Told(Ask::Incr(1), "no chunk")),
     (1000, b"n", Act::Hit(1, TWO)),
 ];
 
@@ -440,7 +358,7 @@ static REFUSED: [(&[u8], Verb, usize, &str); 4] = [
 /// Checks what it is told of writes that it can't make, each of which is tried once.
 fn writes_are_refused(rt: &impl Abort, alloc: Global, store: &mut PlainStore, bytes: &[u8]) {
     for (key, verb, len, want) in &REFUSED {
-        let told = told_at_once(store, alloc, key, Ask::Store(*verb, 0, part(bytes, *len)));
+        let told = told_at_once(store, alloc, key, Ask::Store(*verb, 0, front(bytes, *len)));
         are_bytes(rt, told.as_bytes(), want.as_bytes());
     }
 }

@@ -1,5 +1,6 @@
 //! Sessions: whole runs over a reader and a writer, and single turns.
 
+use crate::checks::{are_bytes, are_bytes_at, holds};
 use crate::stores::store_of_64_pages;
 use mc_bytes::Source;
 use mc_command::PlainStore;
@@ -73,7 +74,7 @@ fn written(rt: &impl Abort, alloc: Global, input: &[u8]) -> Result<Vec<u8>, Fail
     if ended.is_ok() {
         return Ok(part);
     }
-    assert!(rt; matches!(ended, Err(ServeFault::NoMemory)));
+    holds(rt, matches!(ended, Err(ServeFault::NoMemory)));
     Ok(written_again(rt, alloc, input, part.as_slice())?)
 }
 
@@ -85,16 +86,21 @@ fn written_again(
     part: &[u8],
 ) -> Result<Vec<u8>, AllocError> {
     let (again, whole) = run(alloc, input, NEVER, NEVER)?;
-    assert!(rt; again.is_ok());
-    assert!(rt; whole.as_slice().starts_with(part));
+    holds(rt, again.is_ok() && whole.as_slice().starts_with(part));
     Ok(whole)
+}
+
+/// Checks the output of a run.
+fn is_answered(rt: &impl Abort, alloc: Global, input: &str, output: &str) -> Result<(), Fail> {
+    let out = written(rt, alloc, input.as_bytes())?;
+    are_bytes_at(rt, input, out.as_slice(), output.as_bytes());
+    Ok(())
 }
 
 #[test]
 fn rows_are_written(rt: HostRuntime) -> Result<(), Fail> {
     for (input, output) in &RUNS {
-        let out = written(&rt, rt.alloc(), input.as_bytes())?;
-        assert_eq!(rt; out.as_slice(), output.as_bytes(), "at {input}");
+        is_answered(&rt, rt.alloc(), input, output)?;
     }
     Ok(())
 }
@@ -102,16 +108,13 @@ fn rows_are_written(rt: HostRuntime) -> Result<(), Fail> {
 #[test]
 fn a_block_that_is_too_large_is_passed_over(rt: HostRuntime) -> Result<(), Fail> {
     let (input, output) = TOO_LARGE;
-    let out = written(&rt, rt.alloc(), input.as_bytes())?;
-    assert_eq!(rt; out.as_slice(), output.as_bytes());
-    Ok(())
+    is_answered(&rt, rt.alloc(), input, output)
 }
 
 /// Checks that the output is that of a run over `came`.
 fn is_written(rt: &impl Abort, alloc: Global, came: &[u8], out: &[u8]) -> Result<(), Fail> {
     let whole = written(rt, alloc, came)?;
-    let reads = came.len();
-    assert_eq!(rt; out, whole.as_slice(), "after {reads}");
+    are_bytes(rt, out, whole.as_slice());
     Ok(())
 }
 
@@ -124,12 +127,12 @@ fn is_answered_before_a_read(
     output: &[u8],
 ) -> Result<(), Fail> {
     let (ended, out) = run_once(alloc, input, came.len(), NEVER)?;
-    assert!(rt; output.starts_with(out.as_slice()));
+    holds(rt, output.starts_with(out.as_slice()));
     if matches!(ended, Err(ServeFault::NoMemory)) {
         return Ok(());
     }
     // A closed session reads no further.
-    assert!(rt; matches!(ended, Ok(()) | Err(ServeFault::Read)));
+    holds(rt, matches!(ended, Ok(()) | Err(ServeFault::Read)));
     is_written(rt, alloc, came, out.as_slice())
 }
 
@@ -145,6 +148,15 @@ fn a_failed_read_leaves_what_came_before_answered(rt: HostRuntime) -> Result<(),
     Ok(())
 }
 
+/// Returns whether a run whose writes fail once `front` was written ends so, and wrote that.
+fn ends_behind(ended: &Result<(), ServeFault>, front: &[u8], out: &[u8]) -> bool {
+    match ended {
+        Err(ServeFault::NoMemory) => front.starts_with(out),
+        Err(ServeFault::Write) => out == front,
+        _ => false,
+    }
+}
+
 /// Checks a run whose writes fail once `front` was written.
 fn is_written_before_a_write(
     rt: &impl Abort,
@@ -153,12 +165,7 @@ fn is_written_before_a_write(
     front: &[u8],
 ) -> Result<(), AllocError> {
     let (ended, out) = run_once(alloc, input, NEVER, front.len())?;
-    if matches!(ended, Err(ServeFault::NoMemory)) {
-        assert!(rt; front.starts_with(out.as_slice()));
-    } else {
-        assert!(rt; matches!(ended, Err(ServeFault::Write)));
-        assert_eq!(rt; out.as_slice(), front);
-    }
+    holds(rt, ends_behind(&ended, front, out.as_slice()));
     Ok(())
 }
 
@@ -181,13 +188,13 @@ fn take_turn(
     session: &mut Session,
     store: &mut PlainStore,
 ) -> Result<(), AllocError> {
-    assert!(rt; !session.is_idle());
+    holds(rt, !session.is_idle());
     let turn = session.turn(alloc, store, Moment::from_seconds(1000));
     if turn.is_err() {
-        assert!(rt; session.is_closed());
+        holds(rt, session.is_closed());
         return Err(AllocError);
     }
-    assert!(rt; matches!(turn, Ok(Turn::Did)));
+    holds(rt, matches!(turn, Ok(Turn::Did)));
     Ok(())
 }
 
@@ -225,100 +232,70 @@ impl Source for Asking {
     }
 }
 
-/// Takes the turn of a session that was fed `version`.
-fn tells_its_version(
+/// Feeds a session from that source, and once more if memory is refused, which leaves it idle.
+///
+/// Returns whether that went as it should.
+fn feeds_itself(session: &mut Session) -> Result<bool, AllocError> {
+    if session.is_closed() {
+        return Ok(false);
+    }
+    if session.feed_from(&mut Asking, 2048).is_ok() {
+        return Ok(true);
+    }
+    let is_idle = session.is_idle();
+    session.feed_from(&mut Asking, 2048)?;
+    Ok(is_idle)
+}
+
+/// Checks that a session is fed a command from a source and takes its turn.
+fn is_fed(
     rt: &impl Abort,
     alloc: Global,
     session: &mut Session,
     store: &mut PlainStore,
 ) -> Result<(), AllocError> {
+    holds(rt, feeds_itself(session)?);
     turns(rt, alloc, session, store, "", 1)?;
-    assert_eq!(rt; session.out(), b"VERSION 1.6.0\r\n".as_slice());
+    are_bytes(rt, session.out(), b"VERSION 1.6.0\r\n");
     Ok(())
 }
 
-/// Checks that a new session is fed a command from a source and takes its turn.
-fn is_fed(rt: &impl Abort, alloc: Global, store: &mut PlainStore) -> Result<(), AllocError> {
-    let mut session = Session::new(alloc, PAGE);
-    if session.feed_from(&mut Asking, 2048).is_err() {
-        assert!(rt; session.is_idle());
-        session.feed_from(&mut Asking, 2048)?;
-    }
-    tells_its_version(rt, alloc, &mut session, store)
-}
-
-/// Checks a new session over a new store.
-fn is_fed_from_a_source(rt: &impl Abort, alloc: Global) -> Result<(), AllocError> {
-    let mut store = store_of_64_pages(alloc)?;
-    is_fed(rt, alloc, &mut store)
-}
-
-#[test]
-fn a_command_comes_from_a_source(rt: HostRuntime) -> Result<(), Fail> {
-    if is_fed_from_a_source(&rt, rt.alloc()).is_err() {
-        is_fed_from_a_source(&rt, rt.alloc())?;
-    }
-    Ok(())
-}
-
-/// Checks a block that is skipped in 128 pieces of 16384 bytes; no turn is due in any.
-fn passes_a_block_over(rt: &impl Abort, alloc: Global) -> Result<(), AllocError> {
-    let mut store = store_of_64_pages(alloc)?;
-    let mut session = Session::new(alloc, PAGE);
-    passes_pieces_over(rt, alloc, &mut session, &mut store)
-}
-
-/// The same in a session that was fed nothing.
-fn passes_pieces_over(
-    rt: &impl Abort,
-    alloc: Global,
-    session: &mut Session,
-    store: &mut PlainStore,
-) -> Result<(), AllocError> {
+/// Feeds a session 128 pieces of 16384 bytes, and returns whether no turn was due in any.
+fn feeds_pieces(session: &mut Session) -> Result<bool, AllocError> {
     let piece = [b'x'; 16384];
-    turns(rt, alloc, session, store, "set a 0 0 2097152\r\n", 1)?;
     for _ in 0..128 {
         session.feed(&piece)?;
-        assert!(rt; session.is_idle());
+        if !session.is_idle() {
+            return Ok(false);
+        }
     }
-    session.feed(b"\r\n")?;
-    turns(rt, alloc, session, store, "version\r\n", 1)?;
-    let told = b"SERVER_ERROR object too large for cache\r\nVERSION 1.6.0\r\n".as_slice();
-    assert_eq!(rt; session.out(), told);
-    Ok(())
+    Ok(true)
 }
 
-#[test]
-fn a_block_of_many_pieces_is_passed_over(rt: HostRuntime) -> Result<(), Fail> {
-    if passes_a_block_over(&rt, rt.alloc()).is_err() {
-        passes_a_block_over(&rt, rt.alloc())?;
-    }
-    Ok(())
-}
-
-fn keys_take_turns(rt: &impl Abort, alloc: Global) -> Result<(), AllocError> {
-    let mut store = store_of_64_pages(alloc)?;
-    two_take_turns(rt, alloc, &mut store)
-}
-
-/// Two new sessions take turns at a store.
-fn two_take_turns(
+/// Checks a block that is skipped in such pieces.
+fn passes_a_block_over(
     rt: &impl Abort,
     alloc: Global,
+    session: &mut Session,
     store: &mut PlainStore,
 ) -> Result<(), AllocError> {
-    let mut reading = Session::new(alloc, GREATEST);
-    another_takes_turns(rt, alloc, store, &mut reading)
+    turns(rt, alloc, session, store, "set a 0 0 2097152\r\n", 1)?;
+    holds(rt, feeds_pieces(session)?);
+    session.feed(b"\r\n")?;
+    turns(rt, alloc, session, store, "version\r\n", 1)?;
+    let told = b"SERVER_ERROR object too large for cache\r\nVERSION 1.6.0\r\n";
+    are_bytes(rt, session.out(), told);
+    Ok(())
 }
 
-/// A new session takes turns with one that reads.
+/// Checks that a new session takes turns with one that reads.
 fn another_takes_turns(
     rt: &impl Abort,
     alloc: Global,
-    store: &mut PlainStore,
     reading: &mut Session,
+    store: &mut PlainStore,
 ) -> Result<(), AllocError> {
-    let mut writing = Session::new(alloc, GREATEST);
+    let mut writing = Session::new(alloc, PAGE);
     reads_and_closes(rt, alloc, store, reading, &mut writing)
 }
 
@@ -331,9 +308,19 @@ fn reads_and_closes(
     writing: &mut Session,
 ) -> Result<(), AllocError> {
     reads_between_writes(rt, alloc, store, reading, writing)?;
-    is_closed_behind_its_output(rt, alloc, store, writing);
+    has_read_both(rt, reading);
+    sends_a_text(rt, writing);
+    holds(rt, is_closed(alloc, store, writing));
     Ok(())
 }
+
+/// Whether the session that reads is fed, or the one that writes; what it is fed; and its turns.
+static BETWEEN: [(bool, &str, usize); 4] = [
+    (false, "set a 0 0 1\r\n1\r\nset b 0 0 1\r\n1\r\n", 2),
+    (true, "get a b\r\n", 1),
+    (false, "set a 0 0 1\r\n2\r\nset b 0 0 1\r\n2\r\n", 2),
+    (true, "", 1),
+];
 
 /// One session reads two keys, and another writes both between its turns.
 fn reads_between_writes(
@@ -343,108 +330,171 @@ fn reads_between_writes(
     reading: &mut Session,
     writing: &mut Session,
 ) -> Result<(), AllocError> {
-    let ones = "set a 0 0 1\r\n1\r\nset b 0 0 1\r\n1\r\n";
-    turns(rt, alloc, writing, store, ones, 2)?;
-    turns(rt, alloc, reading, store, "get a b\r\n", 1)?;
-    let twos = "set a 0 0 1\r\n2\r\nset b 0 0 1\r\n2\r\n";
-    turns(rt, alloc, writing, store, twos, 2)?;
-    turns(rt, alloc, reading, store, "", 1)?;
-    assert_eq!(rt;
-        reading.out(),
-        b"VALUE a 0 1\r\n1\r\nVALUE b 0 1\r\n2\r\nEND\r\n".as_slice()
-    );
-    assert!(rt; reading.is_idle());
-    Ok(())
-}
-
-/// A session that wrote four texts, of which one is sent, is closed.
-fn is_closed_behind_its_output(
-    rt: &impl Abort,
-    alloc: Global,
-    store: &mut PlainStore,
-    writing: &mut Session,
-) {
-    assert!(rt; writing.out().len() == 32);
-    writing.sent(8);
-    assert_eq!(rt; writing.out(), b"STORED\r\nSTORED\r\nSTORED\r\n".as_slice());
-    writing.close();
-    assert!(rt; writing.is_closed());
-    let turn = writing.turn(alloc, store, Moment::from_seconds(1000));
-    assert!(rt; matches!(turn, Ok(Turn::Closed)));
-}
-
-#[test]
-fn keys_of_a_get_take_a_turn_each(rt: HostRuntime) -> Result<(), Fail> {
-    if keys_take_turns(&rt, rt.alloc()).is_err() {
-        keys_take_turns(&rt, rt.alloc())?;
+    for (reads, piece, count) in &BETWEEN {
+        if *reads {
+            turns(rt, alloc, reading, store, piece, *count)?;
+        } else {
+            turns(rt, alloc, writing, store, piece, *count)?;
+        }
     }
     Ok(())
 }
 
+/// The session that reads has the first item as it was first, and the second as it is.
+fn has_read_both(rt: &impl Abort, reading: &Session) {
+    let both = b"VALUE a 0 1\r\n1\r\nVALUE b 0 1\r\n2\r\nEND\r\n";
+    are_bytes(rt, reading.out(), both);
+    holds(rt, reading.is_idle());
+}
+
+/// The session that writes has four texts, of which it sends one.
+fn sends_a_text(rt: &impl Abort, writing: &mut Session) {
+    let len = writing.out().len();
+    holds(rt, len == 32);
+    writing.sent(len.min(8));
+    are_bytes(rt, writing.out(), b"STORED\r\nSTORED\r\nSTORED\r\n");
+}
+
+/// Closes a session, and returns whether it is closed.
+fn is_closed(alloc: Global, store: &mut PlainStore, writing: &mut Session) -> bool {
+    writing.close();
+    let is_closed = writing.is_closed();
+    let turn = writing.turn(alloc, store, Moment::from_seconds(1000));
+    is_closed && matches!(turn, Ok(Turn::Closed))
+}
+
 /// Checks that a get of a block of 9000 bytes needs no memory beyond its text.
-fn rests(rt: &impl Abort, alloc: Global) -> Result<(), AllocError> {
-    let mut store = store_of_64_pages(alloc)?;
-    rests_over(rt, alloc, &mut store)
-}
-
-/// Checks a new session over a store.
-fn rests_over(rt: &impl Abort, alloc: Global, store: &mut PlainStore) -> Result<(), AllocError> {
-    let mut session = Session::new(alloc, PAGE);
-    stores_and_rests(rt, alloc, &mut session, store)
-}
-
-/// Stores the block, and rests behind its get.
-fn stores_and_rests(
+fn rests(
     rt: &impl Abort,
     alloc: Global,
     session: &mut Session,
     store: &mut PlainStore,
 ) -> Result<(), AllocError> {
+    holds(rt, announces_a_block(session)?);
     stores_a_block(rt, alloc, session, store)?;
-    rests_behind_a_hit(rt, alloc, session, store)
+    gets_a_block(rt, alloc, session, store)?;
+    holds(rt, rests_around_its_text(session));
+    Ok(())
 }
 
-/// A session that was fed nothing stores a block of 9000 bytes.
+/// A session that was fed nothing announces a block of 9000 bytes.
+fn announces_a_block(session: &mut Session) -> Result<bool, AllocError> {
+    let is_new = session.key().is_none();
+    session.feed(b"set a 0 0 9000\r\n")?;
+    Ok(is_new && session.announced_bytes() == 9018)
+}
+
+/// It stores the block.
 fn stores_a_block(
     rt: &impl Abort,
     alloc: Global,
     session: &mut Session,
     store: &mut PlainStore,
 ) -> Result<(), AllocError> {
-    assert!(rt; session.key().is_none());
-    turns(rt, alloc, session, store, "set a 0 0 9000\r\n", 0)?;
-    assert_eq!(rt; session.announced_bytes(), 9018);
     session.feed(&[b'x'; 9000])?;
     turns(rt, alloc, session, store, "\r\n", 1)?;
-    assert_eq!(rt; session.out().len(), 8);
-    session.sent(8);
-    assert!(rt; session.announced_bytes() == 0 && session.capacity() >= 9000);
+    holds(rt, sends(session, 8));
+    holds(
+        rt,
+        session.announced_bytes() == 0 && session.capacity() >= 9000,
+    );
     Ok(())
 }
 
-/// It gets the block, and rests before and after that is sent.
-fn rests_behind_a_hit(
+/// Sends the whole output, and returns whether it has this length.
+fn sends(session: &mut Session, len: usize) -> bool {
+    let has = session.out().len();
+    session.sent(has);
+    has == len
+}
+
+/// It gets the block.
+fn gets_a_block(
     rt: &impl Abort,
     alloc: Global,
     session: &mut Session,
     store: &mut PlainStore,
 ) -> Result<(), AllocError> {
     session.feed(b"get a b\r\n")?;
-    assert_eq!(rt; session.key(), Some(b"a".as_slice()));
-    turns(rt, alloc, session, store, "", 2)?;
-    assert_eq!(rt; session.out().len(), 9023);
-    assert!(rt; session.rest() >= 9023);
-    session.sent(9023);
-    assert!(rt; session.rest() <= 4096 && session.capacity() <= 4096);
-    Ok(())
+    holds(rt, session.key() == Some(b"a".as_slice()));
+    turns(rt, alloc, session, store, "", 2)
+}
+
+/// It rests before and after the block is sent.
+fn rests_around_its_text(session: &mut Session) -> bool {
+    let is_held = session.rest() >= 9023;
+    let is_sent = sends(session, 9023);
+    is_held && is_sent && session.rest() <= 4096 && session.capacity() <= 4096
+}
+
+/// What a new session does over a new store.
+#[derive(Clone, Copy)]
+enum Case {
+    Fed,
+    Passes,
+    Shares,
+    Rests,
+}
+
+/// Checks what a session does that was fed nothing, over a store without items.
+fn does(
+    rt: &impl Abort,
+    alloc: Global,
+    session: &mut Session,
+    store: &mut PlainStore,
+    case: Case,
+) -> Result<(), AllocError> {
+    match case {
+        Case::Fed => is_fed(rt, alloc, session, store),
+        Case::Passes => passes_a_block_over(rt, alloc, session, store),
+        Case::Shares => another_takes_turns(rt, alloc, session, store),
+        Case::Rests => rests(rt, alloc, session, store),
+    }
+}
+
+/// The same for a new session.
+fn does_over(
+    rt: &impl Abort,
+    alloc: Global,
+    store: &mut PlainStore,
+    case: Case,
+) -> Result<(), AllocError> {
+    let mut session = Session::new(alloc, PAGE);
+    does(rt, alloc, &mut session, store, case)
+}
+
+/// The same over a new store.
+fn does_once(rt: &impl Abort, alloc: Global, case: Case) -> Result<(), AllocError> {
+    let mut store = store_of_64_pages(alloc)?;
+    does_over(rt, alloc, &mut store, case)
+}
+
+/// The same, and once more if memory is refused.
+fn does_at_last(rt: &impl Abort, alloc: Global, case: Case) -> Result<(), AllocError> {
+    if does_once(rt, alloc, case).is_ok() {
+        return Ok(());
+    }
+    does_once(rt, alloc, case)
+}
+
+#[test]
+fn a_command_comes_from_a_source(rt: HostRuntime) -> Result<(), Fail> {
+    Ok(does_at_last(&rt, rt.alloc(), Case::Fed)?)
+}
+
+#[test]
+fn a_block_of_many_pieces_is_passed_over(rt: HostRuntime) -> Result<(), Fail> {
+    Ok(does_at_last(&rt, rt.alloc(), Case::Passes)?)
+}
+
+#[test]
+fn keys_of_a_get_take_a_turn_each(rt: HostRuntime) -> Result<(), Fail> {
+    Ok(does_at_last(&rt, rt.alloc(), Case::Shares)?)
 }
 
 #[test]
 fn a_session_that_rests_keeps_two_first_pieces(rt: HostRuntime) -> Result<(), Fail> {
-    if rests(&rt, rt.alloc()).is_err() {
-        rests(&rt, rt.alloc())?;
-    }
-    Ok(())
+    Ok(does_at_last(&rt, rt.alloc(), Case::Rests)?)
 }
 
 /// The output of `get a` before the steps.
@@ -475,30 +525,91 @@ static STEPS: [(&str, &str, &str); 9] = [
     ("foo\r\n", "ERROR\r\n", BEFORE),
 ];
 
+/// What a session of its own is asked: a command with its text, alone or behind another turn.
+#[derive(Clone, Copy)]
+struct Asked<'a> {
+    command: &'a str,
+    text: &'a str,
+    is_behind: bool,
+}
+
 /// Checks the output of a session for one command.
 fn answers(
     rt: &impl Abort,
     alloc: Global,
     session: &mut Session,
     store: &mut PlainStore,
-    command: &str,
-    text: &str,
-) -> Result<(), AllocError> {
-    turns(rt, alloc, session, store, command, 1)?;
-    assert_eq!(rt; session.out(), text.as_bytes(), "at {command}");
-    Ok(())
+    asked: Asked<'_>,
+) -> Result<bool, AllocError> {
+    turns(rt, alloc, session, store, asked.command, 1)?;
+    are_bytes_at(rt, asked.command, session.out(), asked.text.as_bytes());
+    Ok(true)
 }
 
-/// Checks the output of a session of its own.
+/// Checks what a session is asked, and returns whether its step is decided.
+fn is_decided_in(
+    rt: &impl Abort,
+    alloc: Global,
+    session: &mut Session,
+    store: &mut PlainStore,
+    asked: Asked<'_>,
+) -> Result<bool, AllocError> {
+    if !asked.is_behind {
+        return answers(rt, alloc, session, store, asked);
+    }
+    turns(rt, alloc, session, store, "foo\r\n", 1)?;
+    feed_at_last(rt, session, asked.command)?;
+    Ok(is_decided(rt, alloc, session, store, asked))
+}
+
+/// The same for a new session.
 fn asks(
     rt: &impl Abort,
     alloc: Global,
     store: &mut PlainStore,
-    command: &str,
-    text: &str,
-) -> Result<(), AllocError> {
+    asked: Asked<'_>,
+) -> Result<bool, AllocError> {
     let mut session = Session::new(alloc, GREATEST);
-    answers(rt, alloc, &mut session, store, command, text)
+    is_decided_in(rt, alloc, &mut session, store, asked)
+}
+
+/// Feeds a command, and once more if memory is refused, which leaves the session idle.
+fn feed_at_last(rt: &impl Abort, session: &mut Session, command: &str) -> Result<(), AllocError> {
+    if session.feed(command.as_bytes()).is_ok() {
+        return Ok(());
+    }
+    holds(rt, session.is_idle());
+    session.feed(command.as_bytes())
+}
+
+/// Takes the turn that is due behind another, and returns whether its step is decided.
+fn is_decided(
+    rt: &impl Abort,
+    alloc: Global,
+    session: &mut Session,
+    store: &mut PlainStore,
+    asked: Asked<'_>,
+) -> bool {
+    match session.turn(alloc, store, Moment::from_seconds(1000)) {
+        Ok(_) => {
+            holds(rt, session.is_idle());
+            has_text(rt, session, asked.command, asked.text);
+            true
+        }
+        Err(fault) => {
+            holds(rt, session.is_closed());
+            has_text(rt, session, asked.command, "");
+            fault.decided
+        }
+    }
+}
+
+/// The text of a command's turn stands behind that of the turn before.
+fn has_text(rt: &impl Abort, session: &Session, command: &str, text: &str) {
+    match session.out().strip_prefix(b"ERROR\r\n".as_slice()) {
+        Some(behind) => are_bytes_at(rt, command, behind, text.as_bytes()),
+        None => holds(rt, false),
+    }
 }
 
 /// Takes a step after another turn.
@@ -516,6 +627,15 @@ fn step_is_taken(
     step_is_taken_by(rt, alloc, &mut store, command, text, after)
 }
 
+/// Returns what a session of its own is asked alone.
+fn alone<'a>(command: &'a str, text: &'a str) -> Asked<'a> {
+    Asked {
+        command,
+        text,
+        is_behind: false,
+    }
+}
+
 /// The same in a store that is empty.
 fn step_is_taken_by(
     rt: &impl Abort,
@@ -525,93 +645,41 @@ fn step_is_taken_by(
     text: &str,
     after: &str,
 ) -> Result<(), AllocError> {
-    asks(rt, alloc, store, "set a 0 0 1\r\n1\r\n", "STORED\r\n")?;
-    let is_taken = is_decided_behind_a_turn(rt, alloc, store, command, text)?;
-    let holds = if is_taken { after } else { BEFORE };
-    asks(rt, alloc, store, "get a\r\n", holds)
-}
-
-/// Takes the step in a session of its own, and returns whether it is decided.
-fn is_decided_behind_a_turn(
-    rt: &impl Abort,
-    alloc: Global,
-    store: &mut PlainStore,
-    command: &str,
-    text: &str,
-) -> Result<bool, AllocError> {
-    let mut session = Session::new(alloc, GREATEST);
-    decides_behind_a_turn(rt, alloc, &mut session, store, command, text)
-}
-
-/// Takes the step behind another turn of a session, and returns whether it is decided.
-fn decides_behind_a_turn(
-    rt: &impl Abort,
-    alloc: Global,
-    session: &mut Session,
-    store: &mut PlainStore,
-    command: &str,
-    text: &str,
-) -> Result<bool, AllocError> {
-    is_fed_behind_a_turn(rt, alloc, session, store, command)?;
-    Ok(is_decided(rt, alloc, session, store, command, text))
-}
-
-/// Takes the turn that is due, and returns whether its step is decided.
-fn is_decided(
-    rt: &impl Abort,
-    alloc: Global,
-    session: &mut Session,
-    store: &mut PlainStore,
-    command: &str,
-    text: &str,
-) -> bool {
-    match session.turn(alloc, store, Moment::from_seconds(1000)) {
-        Ok(_) => {
-            has_text(rt, session, command, text);
-            true
-        }
-        Err(fault) => {
-            is_closed_by_a_fault(rt, session, command);
-            fault.decided
-        }
-    }
-}
-
-/// Feeds a command behind a turn that was taken.
-fn is_fed_behind_a_turn(
-    rt: &impl Abort,
-    alloc: Global,
-    session: &mut Session,
-    store: &mut PlainStore,
-    command: &str,
-) -> Result<(), AllocError> {
-    turns(rt, alloc, session, store, "foo\r\n", 1)?;
-    if session.feed(command.as_bytes()).is_err() {
-        assert!(rt; session.is_idle());
-        session.feed(command.as_bytes())?;
-    }
+    asks(
+        rt,
+        alloc,
+        store,
+        alone("set a 0 0 1\r\n1\r\n", "STORED\r\n"),
+    )?;
+    let asked = Asked {
+        command,
+        text,
+        is_behind: true,
+    };
+    let is_taken = asks(rt, alloc, store, asked)?;
+    let stands = if is_taken { after } else { BEFORE };
+    asks(rt, alloc, store, alone("get a\r\n", stands))?;
     Ok(())
 }
 
-/// The text of a command's turn stands behind that of the turn before.
-fn has_text(rt: &impl Abort, session: &mut Session, command: &str, text: &str) {
-    assert!(rt; session.is_idle() && session.out().starts_with(b"ERROR\r\n"));
-    session.sent(7);
-    assert_eq!(rt; session.out(), text.as_bytes(), "at {command}");
-}
-
-/// A session is closed, and has the text of the turn before a command's alone.
-fn is_closed_by_a_fault(rt: &impl Abort, session: &Session, command: &str) {
-    assert!(rt; session.is_closed());
-    assert_eq!(rt; session.out(), b"ERROR\r\n".as_slice(), "at {command}");
+/// The same, and once more if memory is refused elsewhere.
+fn step_is_taken_at_last(
+    rt: &impl Abort,
+    alloc: Global,
+    command: &str,
+    text: &str,
+    after: &str,
+) -> Result<(), AllocError> {
+    if step_is_taken(rt, alloc, command, text, after).is_ok() {
+        return Ok(());
+    }
+    step_is_taken(rt, alloc, command, text, after)
 }
 
 #[test]
 fn a_refused_turn_tells_whether_its_step_stands(rt: HostRuntime) -> Result<(), Fail> {
     for (command, text, after) in &STEPS {
-        if step_is_taken(&rt, rt.alloc(), command, text, after).is_err() {
-            step_is_taken(&rt, rt.alloc(), command, text, after)?;
-        }
+        step_is_taken_at_last(&rt, rt.alloc(), command, text, after)?;
     }
     Ok(())
 }

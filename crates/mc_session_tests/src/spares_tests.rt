@@ -1,8 +1,8 @@
 //! Tests of large buffers that the queues of one worker share.
 
+use crate::checks::holds;
 use mc_bytes::{Queue, Spares};
 use std::alloc::{AllocError, Global};
-use std::process::Abort;
 use std::test::*;
 
 /// The bytes of a piece.
@@ -59,60 +59,87 @@ fn has_both(queue: &Queue<64>) -> bool {
     queue.len() == 16_384 && queue.as_slice().iter().all(|byte| *byte == b'x')
 }
 
-/// Checks that a text begins in the memory of a queue that was cleared.
-fn takes_spare(rt: &impl Abort, queue: &mut Queue<64>) -> Result<(), AllocError> {
-    assert!(rt; begins_text(queue, WHOLE)? >= 131_072 && has_both(queue));
-    Ok(())
+/// Returns whether a text begins in the memory of a queue that was cleared.
+fn takes_spare(queue: &mut Queue<64>) -> Result<bool, AllocError> {
+    let reserved = begins_text(queue, WHOLE)?;
+    Ok(reserved >= 131_072 && has_both(queue))
 }
 
-/// Checks that a text begins in new memory.
-fn finds_no_spare(rt: &impl Abort, queue: &mut Queue<64>) -> Result<(), AllocError> {
-    assert!(rt; begins_text(queue, WHOLE)? < 131_072 && has_both(queue));
-    Ok(())
+/// Returns whether a text begins in new memory.
+fn finds_no_spare(queue: &mut Queue<64>) -> Result<bool, AllocError> {
+    let reserved = begins_text(queue, WHOLE)?;
+    Ok(reserved < 131_072 && has_both(queue))
 }
 
-/// Checks that memory goes from one queue to another, until no more is kept.
-fn goes_on(rt: &impl Abort, pair: &mut Pair) -> Result<(), AllocError> {
+/// Memory goes from one queue to another, until no more is kept.
+fn goes_on(pair: &mut Pair) -> Result<bool, AllocError> {
     let Pair { spares, one, other } = pair;
-    assert!(rt; fills_and_clears(one)?);
-    takes_spare(rt, other)?;
-    finds_no_spare(rt, one)?;
+    let is_large = fills_and_clears(one)?;
+    let is_taken = takes_spare(other)? && finds_no_spare(one)?;
     other.clear();
     spares.keep_within(131_071);
     one.clear();
-    finds_no_spare(rt, other)
+    Ok(is_large && is_taken && finds_no_spare(other)?)
 }
 
-/// Checks that memory is freed where it wasn't taken between two calls, and not before.
-fn frees_unused(rt: &impl Abort, pair: &mut Pair) -> Result<(), AllocError> {
+/// Memory is freed that wasn't taken between two calls, and not before.
+fn frees_unused(pair: &mut Pair) -> Result<bool, AllocError> {
     let Pair { spares, one, other } = pair;
-    assert!(rt; fills_and_clears(one)?);
+    let is_large = fills_and_clears(one)?;
     spares.free_unused();
-    takes_spare(rt, other)?;
+    let is_taken = takes_spare(other)?;
     other.clear();
     spares.free_unused();
     spares.free_unused();
-    finds_no_spare(rt, one)
+    Ok(is_large && is_taken && finds_no_spare(one)?)
 }
 
-/// Checks that memory too small for a text is freed where the text gets other memory.
-fn gives_way(rt: &impl Abort, pair: &mut Pair) -> Result<(), AllocError> {
-    assert!(rt; fills_and_clears(&mut pair.one)?);
-    assert!(rt; begins_text(&mut pair.other, LONGER)? > 131_072 && has_both(&pair.other));
-    finds_no_spare(rt, &mut pair.one)
+/// Memory too small for a text is freed where the text gets other memory.
+fn gives_way(pair: &mut Pair) -> Result<bool, AllocError> {
+    let Pair { one, other, .. } = pair;
+    let is_large = fills_and_clears(one)?;
+    let reserved = begins_text(other, LONGER)?;
+    let is_larger = reserved > 131_072 && has_both(other);
+    Ok(is_large && is_larger && finds_no_spare(one)?)
+}
+
+/// What is tested of a pair.
+#[derive(Clone, Copy)]
+enum Case {
+    GoesOn,
+    FreesUnused,
+    GivesWay,
+}
+
+/// Returns whether a pair does what it should.
+fn does(pair: &mut Pair, case: Case) -> Result<bool, AllocError> {
+    match case {
+        Case::GoesOn => goes_on(pair),
+        Case::FreesUnused => frees_unused(pair),
+        Case::GivesWay => gives_way(pair),
+    }
+}
+
+/// The same for a new pair.
+fn a_pair_does(alloc: Global, case: Case) -> Result<bool, AllocError> {
+    let mut pair = Pair::new(alloc)?;
+    does(&mut pair, case)
 }
 
 #[test]
 fn large_memory_goes_to_the_next_queue(rt: HostRuntime) -> Result<(), AllocError> {
-    goes_on(&rt, &mut Pair::new(rt.alloc())?)
+    holds(&rt, a_pair_does(rt.alloc(), Case::GoesOn)?);
+    Ok(())
 }
 
 #[test]
 fn memory_that_nobody_takes_is_freed(rt: HostRuntime) -> Result<(), AllocError> {
-    frees_unused(&rt, &mut Pair::new(rt.alloc())?)
+    holds(&rt, a_pair_does(rt.alloc(), Case::FreesUnused)?);
+    Ok(())
 }
 
 #[test]
 fn small_memory_gives_way_to_larger(rt: HostRuntime) -> Result<(), AllocError> {
-    gives_way(&rt, &mut Pair::new(rt.alloc())?)
+    holds(&rt, a_pair_does(rt.alloc(), Case::GivesWay)?);
+    Ok(())
 }

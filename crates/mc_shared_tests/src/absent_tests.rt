@@ -1,31 +1,25 @@
 //! Keys that `absent` reports to one caller. If memory is refused the call is made again.
 
-use crate::sole::{Act, Row, Sole};
+use crate::sole::{Act, DELETE, FLUSH, Row, SET, SET_FOR_10, Sole};
 use crate::stores::{MANY, ONE, SOME};
 use mc_hop::{Constant, Fnv, KeyHash};
-use mc_protocol::Verb;
 use mc_shelf::Settings;
 use mc_testing::{Ask, filled_block};
+use mc_time::Moment;
 use std::alloc::{AllocError, Global};
 use std::sync::Wait;
 use std::test::*;
-
-const SET: Act = Act::Told(Ask::Store(Verb::Set, 0, b"x"), "stored");
 
 static DEATHS: [Row; 12] = [
     (1000, b"a", Act::Absent(true)),
     (1000, b"a", SET),
     (1000, b"a", Act::Absent(false)),
-    (1000, b"a", Act::Told(Ask::Delete, "deleted")),
+    (1000, b"a", DELETE),
     (1000, b"a", Act::Absent(true)),
     (1000, b"a", SET),
-    (1000, b"", Act::Told(Ask::Flush(0), "flushed")),
+    (1000, b"", FLUSH),
     (1000, b"a", Act::Absent(true)),
-    (
-        1000,
-        b"a",
-        Act::Told(Ask::Store(Verb::Set, 10, b"x"), "stored"),
-    ),
+    (1000, b"a", SET_FOR_10),
     (1010, b"a", Act::Absent(false)),
     (1010, b"a", Act::Tidy),
     (1010, b"a", Act::Absent(true)),
@@ -76,23 +70,29 @@ fn told_of_full<R: Wait>(
 ) -> (&'static str, &'static str, bool) {
     let large = sole.set(alloc, b"b", block);
     let small = sole.set(alloc, b"s", b"x");
-    (
-        large,
-        small,
-        sole.is_told(alloc, &(1000, b"s", Act::Absent(true))),
-    )
+    let now = Moment::from_seconds_at_most(1000);
+    (large, small, sole.is_absent(b"s", now))
 }
 
-#[test]
-fn a_key_that_finds_no_chunk_is_absent(rt: HostRuntime) -> Result<(), Fail> {
+/// Returns the same for a new store of one page.
+fn told_of_full_store<R: Wait>(
+    rt: &R,
+    alloc: Global,
+    block: &[u8],
+) -> Result<(&'static str, &'static str, bool), AllocError> {
     let small = Settings {
         pages: 1,
         greatest: Settings::GREATEST,
         shelves: 64,
     };
+    let mut sole = Sole::open(rt, alloc, small, Fnv)?;
+    Ok(told_of_full(&mut sole, alloc, block))
+}
+
+#[test]
+fn a_key_that_finds_no_chunk_is_absent(rt: HostRuntime) -> Result<(), Fail> {
     let block = filled_block(rt.alloc(), 600000)?;
-    let mut sole = Sole::open(&rt, rt.alloc(), small, Fnv)?;
-    let told = told_of_full(&mut sole, rt.alloc(), block.as_slice());
+    let told = told_of_full_store(&rt, rt.alloc(), block.as_slice())?;
     assert_eq!(rt; told, ("stored", "no chunk", true));
     Ok(())
 }

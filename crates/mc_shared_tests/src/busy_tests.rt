@@ -12,10 +12,9 @@ use mc_shared::{Caller, Gate, Shared, TryFault};
 use mc_shelf::Settings;
 use mc_testing::told_of;
 use mc_time::Moment;
-use std::alloc::Global;
+use std::alloc::{AllocError, Global};
 use std::cell::RefCell;
 use std::marker::Model;
-use std::process::Abort;
 use std::sync::Wait;
 use std::test::*;
 
@@ -135,17 +134,18 @@ impl<'a> Inside<'a> {
     }
 }
 
-/// One caller reads `k`, and while its shelf is held another one tries to.
+/// What two callers read, each `k`.
 ///
-/// The first gets this hit. The other one gets `Busy` with this bay, and the hit afterwards.
-fn another_is_busy(
-    rt: &(impl Wait + Abort),
-    alloc: Global,
-    shared: &Shared<Fnv>,
-    me: &mut Caller,
-    bay: usize,
-    hit: Tried,
-)
+/// The first reads it, the second tries to while its shelf is held, and tries again afterwards.
+type Both = [Tried; 3];
+
+/// Returns what both must read: the hit, `Busy` with this bay, and the hit.
+fn busy_at(bay: usize, hit: Tried) -> Both {
+    [hit, Tried::Busy(bay, 1), hit]
+}
+
+/// Returns what a caller reads, and one that it makes.
+fn tried_by_both<R: Wait>(rt: &R, alloc: Global, shared: &Shared<Fnv>, me: &mut Caller) -> Both
     requires { me.old.table ≡ shared.now.table }
 {
     let gate = Inside {
@@ -156,13 +156,20 @@ fn another_is_busy(
             tried: Tried::Not,
         }),
     };
-    assert_eq!(rt; read_inside(rt, alloc, shared, me, &gate), hit);
-    is_busy_and_then_served(rt, &gate, bay, hit);
+    let first = read_inside(rt, alloc, shared, me, &gate);
+    tried_afterwards(&gate, first)
+}
+
+/// Lets the second caller try again, and returns what both read.
+fn tried_afterwards(gate: &Inside<'_>, first: Tried) -> Both {
+    let inside = gate.tried();
+    gate.inside(0);
+    [first, inside, gate.tried()]
 }
 
 /// Reads `k` while another one tries to in this gate, and returns the result.
-fn read_inside(
-    rt: &(impl Wait + Abort),
+fn read_inside<R: Wait>(
+    rt: &R,
     alloc: Global,
     shared: &Shared<Fnv>,
     me: &mut Caller,
@@ -180,46 +187,31 @@ fn read_inside(
     read_by(&taken)
 }
 
-/// Checks that a caller that tried inside a step got `Busy`, and that it gets the hit now.
-fn is_busy_and_then_served(rt: &impl Abort, gate: &Inside<'_>, bay: usize, hit: Tried) {
-    assert_eq!(rt; gate.tried(), Tried::Busy(bay, 1));
-    gate.inside(0);
-    assert_eq!(rt; gate.tried(), hit);
-}
-
-/// The same over a store with these settings, in which `k` was set second, to `y` with the flags 7.
-fn held_shelf_is_busy(
-    rt: &(impl Wait + Abort),
+/// Returns what both read of a store with these settings, in which `k` was set second, to `y`.
+fn tried_in_new_store<R: Wait>(
+    rt: &R,
     alloc: Global,
     settings: Settings,
-    bay: usize,
-) -> Result<(), Fail> {
+) -> Result<Both, StepFault> {
     let (shared, mut me) = shared_store(alloc, settings)?;
-    another_is_busy(rt, alloc, &shared, &mut me, bay, Tried::Hit(7, 2, b'y'));
-    Ok(())
+    Ok(tried_by_both(rt, alloc, &shared, &mut me))
 }
 
 #[test]
 fn a_shelf_that_is_held_is_busy_to_another(rt: HostRuntime) -> Result<(), Fail> {
     const ROWS: [(Settings, usize); 3] = [(ONE, 0), (SOME, 10), (MANY, 138)];
     for (settings, bay) in &ROWS {
-        held_shelf_is_busy(&rt, rt.alloc(), *settings, *bay)?;
+        let tried = tried_in_new_store(&rt, rt.alloc(), *settings)?;
+        assert_eq!(rt; tried, busy_at(*bay, Tried::Hit(7, 2, b'y')));
     }
     Ok(())
 }
 
-/// Sets `k` to `x` by a caller, which is joined into one that it made. That one must read it.
-fn one_reads_what_another_set(
-    rt: &(impl Wait + Abort),
-    alloc: Global,
-    shared: &Shared<Fnv>,
-    me: Caller,
-) -> Caller
-    requires { me.table ≡ shared.now.table }
-    ensures { result.table ≡ shared.now.table }
+/// Sets `k` to `x` with the flags 0, and returns the name of the reply.
+fn set_k<R: Wait>(rt: &R, alloc: Global, shared: &Shared<Fnv>, me: &mut Caller) -> &'static str
+    requires { me.old.table ≡ shared.now.table }
+    ensures { me.new.table ≡ me.old.table }
 {
-    let mut me = me;
-    let mut other = shared.caller(&mut me);
     let now = Moment::from_seconds_at_most(1000);
     let set = KeyStep::Store {
         verb: Verb::Set,
@@ -228,20 +220,60 @@ fn one_reads_what_another_set(
         exptime: 0,
         block: Bytes::of(b"x"),
     };
-    let stored = stepped(rt, shared, alloc, &mut me, &set, now);
-    assert_eq!(rt; told_of(&stored), "stored");
+    told_of(&stepped(rt, shared, alloc, me, &set, now))
+}
+
+/// Sets `k` by a caller, which is joined into one that it made.
+///
+/// Returns that one, and the name of the reply.
+fn set_and_joined<R: Wait>(
+    rt: &R,
+    alloc: Global,
+    shared: &Shared<Fnv>,
+    me: Caller,
+) -> (Caller, &'static str)
+    requires { me.table ≡ shared.now.table }
+    ensures { result.0.table ≡ shared.now.table }
+{
+    let mut me = me;
+    let mut other = shared.caller(&mut me);
+    let told = set_k(rt, alloc, shared, &mut me);
     shared.join(&mut other, me);
-    let read = stepped(rt, shared, alloc, &mut other, &read_of_k(), now);
-    assert_eq!(rt; read_by(&read), Tried::Hit(0, 1, b'x'));
-    other
+    (other, told)
+}
+
+/// Reads `k`, and returns the result.
+fn read_waiting<R: Wait>(rt: &R, alloc: Global, shared: &Shared<Fnv>, me: &mut Caller) -> Tried
+    requires { me.old.table ≡ shared.now.table }
+    ensures { me.new.table ≡ me.old.table }
+{
+    let now = Moment::from_seconds_at_most(1000);
+    read_by(&stepped(rt, shared, alloc, me, &read_of_k(), now))
+}
+
+/// What a caller was told of its set, what one that it made reads, and what that and a third read.
+type Three = (&'static str, Tried, Both);
+
+/// Returns it.
+fn seen_by_three<R: Wait>(rt: &R, alloc: Global, shared: &Shared<Fnv>, me: Caller) -> Three
+    requires { me.table ≡ shared.now.table }
+{
+    let (mut other, told) = set_and_joined(rt, alloc, shared, me);
+    let read = read_waiting(rt, alloc, shared, &mut other);
+    (told, read, tried_by_both(rt, alloc, shared, &mut other))
+}
+
+/// Returns the same for a new store.
+fn seen_in_new_store<R: Wait>(rt: &R, alloc: Global) -> Result<Three, AllocError> {
+    let (shared, me) = empty_store(alloc, SOME, Fnv)?;
+    Ok(seen_by_three(rt, alloc, &shared, me))
 }
 
 /// What one caller set, a second reads, and a third that it made tries to while its shelf is held.
 #[test]
 fn two_callers_and_one_inside_a_step(rt: HostRuntime) -> Result<(), Fail> {
-    let alloc = rt.alloc();
-    let (shared, me) = empty_store(alloc, SOME, Fnv)?;
-    let mut other = one_reads_what_another_set(&rt, alloc, &shared, me);
-    another_is_busy(&rt, alloc, &shared, &mut other, 10, Tried::Hit(0, 1, b'x'));
+    let hit = Tried::Hit(0, 1, b'x');
+    let seen = seen_in_new_store(&rt, rt.alloc())?;
+    assert_eq!(rt; seen, ("stored", hit, busy_at(10, hit)));
     Ok(())
 }

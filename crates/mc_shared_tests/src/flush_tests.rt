@@ -3,10 +3,10 @@
 //! A page goes to a class only if too few chunks are free. If memory is refused the steps are taken
 //! again.
 
-use crate::trial::Trial;
-use mc_protocol::StepFault;
+use crate::sole::Sole;
+use mc_protocol::{StepFault, Verb};
 use mc_shelf::Settings;
-use mc_testing::{Ask, Row, Want, filled_block, first_unlike, set};
+use mc_testing::{Act, Ask, Play, filled_block, first_wrong};
 use std::alloc::Global;
 use std::sync::Wait;
 use std::test::*;
@@ -21,72 +21,73 @@ const THREE: Settings = Settings {
     shelves: 4,
 };
 
-const FLUSH: Row<'static> = (1000, b"", Ask::Flush(0), Want::Told("flushed"));
+const FLUSH: Play = (1000, b"", Act::Told(Ask::Flush(0), "flushed"));
 
-const MISS: Row<'static> = (1000, b"b", Ask::Get, Want::Told("miss"));
+const MISS: Play = (1000, b"b", Act::Told(Ask::Get, "miss"));
 
-/// Returns the first unexpected answer with its second, in a store of three pages.
-fn first_unlike_in<R: Wait>(
-    rt: &R,
-    alloc: Global,
-    rows: &[Row<'_>],
-) -> Result<Option<(u64, &'static str)>, StepFault> {
-    let mut trial = Trial::open_so(rt, alloc, THREE)?;
-    first_unlike(&mut trial, alloc, rows)
-}
+const SMALL: Act = Act::Told(Ask::Store(Verb::Set, 0, b"y"), "stored");
+
+/// A set of an item with a page, which is stored.
+const LARGE: Act = Act::Set(0, ONE, "stored");
+
+/// One that finds no page.
+const REFUSED: Act = Act::Set(0, ONE, "no chunk");
 
 /// Fills the store with two items of a page each, and with two others after a flush.
-fn first_unlike_flush<R: Wait>(
+static OF_FLUSH: [Play; 9] = [
+    (1000, b"b", LARGE),
+    (1000, b"c", LARGE),
+    (1000, b"d", REFUSED),
+    FLUSH,
+    MISS,
+    (1000, b"d", LARGE),
+    (1000, b"a", SMALL),
+    (1000, b"e", LARGE),
+    (1000, b"f", REFUSED),
+];
+
+/// Fills the store after flush upon flush.
+static OF_FLUSHES: [Play; 9] = [
+    (1000, b"b", LARGE),
+    FLUSH,
+    (1000, b"c", LARGE),
+    FLUSH,
+    FLUSH,
+    (1000, b"d", LARGE),
+    (1000, b"e", LARGE),
+    (1000, b"f", REFUSED),
+    MISS,
+];
+
+/// Returns the first play with an unexpected answer, in a store of three pages.
+fn first_wrong_with<R: Wait>(
     rt: &R,
     alloc: Global,
     page: &[u8],
-) -> Result<Option<(u64, &'static str)>, StepFault> {
-    let rows: [Row<'_>; 9] = [
-        set(1000, b"b", 0, page, "stored"),
-        set(1000, b"c", 0, page, "stored"),
-        set(1000, b"d", 0, page, "no chunk"),
-        FLUSH,
-        MISS,
-        set(1000, b"d", 0, page, "stored"),
-        set(1000, b"a", 0, b"y", "stored"),
-        set(1000, b"e", 0, page, "stored"),
-        set(1000, b"f", 0, page, "no chunk"),
-    ];
-    first_unlike_in(rt, alloc, &rows)
+    plays: &[Play],
+) -> Result<Option<usize>, StepFault> {
+    let mut sole = Sole::filled_with(rt, alloc, THREE)?;
+    first_wrong(&mut sole, alloc, page, plays)
+}
+
+/// Returns the same, with the bytes of a page.
+fn first_wrong_in<R: Wait>(
+    rt: &R,
+    alloc: Global,
+    plays: &[Play],
+) -> Result<Option<usize>, StepFault> {
+    let page = filled_block(alloc, ONE)?;
+    first_wrong_with(rt, alloc, page.as_slice(), plays)
 }
 
 #[test]
 fn a_flush_frees_all_chunks(rt: HostRuntime) -> Result<(), Fail> {
-    let page = filled_block(rt.alloc(), ONE)?;
-    let unlike = first_unlike_flush(&rt, rt.alloc(), page.as_slice())?;
-    assert_eq!(rt; unlike, None);
+    assert_eq!(rt; first_wrong_in(&rt, rt.alloc(), &OF_FLUSH)?, None);
     Ok(())
-}
-
-/// Fills the store after flush upon flush.
-fn first_unlike_flushes<R: Wait>(
-    rt: &R,
-    alloc: Global,
-    page: &[u8],
-) -> Result<Option<(u64, &'static str)>, StepFault> {
-    let rows: [Row<'_>; 9] = [
-        set(1000, b"b", 0, page, "stored"),
-        FLUSH,
-        set(1000, b"c", 0, page, "stored"),
-        FLUSH,
-        FLUSH,
-        set(1000, b"d", 0, page, "stored"),
-        set(1000, b"e", 0, page, "stored"),
-        set(1000, b"f", 0, page, "no chunk"),
-        MISS,
-    ];
-    first_unlike_in(rt, alloc, &rows)
 }
 
 #[test]
 fn each_flush_frees_all_chunks(rt: HostRuntime) -> Result<(), Fail> {
-    let page = filled_block(rt.alloc(), ONE)?;
-    let unlike = first_unlike_flushes(&rt, rt.alloc(), page.as_slice())?;
-    assert_eq!(rt; unlike, None);
+    assert_eq!(rt; first_wrong_in(&rt, rt.alloc(), &OF_FLUSHES)?, None);
     Ok(())
 }

@@ -1,7 +1,7 @@
 //! How often a gate is called: once while a step's shelf is held, and never by other calls.
 
+use crate::sole::Sole;
 use crate::stores::{SOME, shared_store};
-use crate::trial::Trial;
 use mc_hop::Fnv;
 use mc_protocol::{Answer, Bytes, Reply, StepFault, Steps, Verb};
 use mc_shared::{Asking, Gate};
@@ -42,7 +42,7 @@ impl Answer for Listener {
 
 /// Returns how often the gate is called in a step at a second, taken or refused memory.
 fn calls_of_step<R: Wait>(
-    trial: &mut Trial<'_, R>,
+    sole: &mut Sole<'_, R, Fnv>,
     alloc: Global,
     (second, key, ask): (u64, &[u8], Ask<'_>),
 ) -> u64 {
@@ -52,7 +52,7 @@ fn calls_of_step<R: Wait>(
     let calls = AtomicU64::new(0);
     let gate = CallCount { calls: &calls };
     let now = Moment::from_seconds_at_most(second);
-    let Trial { rt, shared, caller } = trial;
+    let Sole { rt, shared, caller } = sole;
     let _ = shared.step_at(*rt, alloc, caller, &step_of(key, ask), now, &gate);
     calls.load(Ordering::SeqCst)
 }
@@ -85,9 +85,9 @@ static ABSENT: [(Step, u64); 5] = [
 ];
 
 /// Returns the place of the first of `STEPS` in which the gate isn't called as often as it says.
-fn first_miscalled<R: Wait>(trial: &mut Trial<'_, R>, alloc: Global) -> Option<usize> {
+fn first_miscalled<R: Wait>(sole: &mut Sole<'_, R, Fnv>, alloc: Global) -> Option<usize> {
     for (at, (step, times)) in STEPS.iter().enumerate() {
-        if calls_of_step(trial, alloc, *step) != *times {
+        if calls_of_step(sole, alloc, *step) != *times {
             return Some(at);
         }
     }
@@ -96,9 +96,9 @@ fn first_miscalled<R: Wait>(trial: &mut Trial<'_, R>, alloc: Global) -> Option<u
 
 #[test]
 fn a_gate_is_called_once_a_step(rt: HostRuntime) -> Result<(), Fail> {
-    let mut trial = Trial::open(&rt, rt.alloc())?;
-    let first = first_miscalled(&mut trial, rt.alloc());
-    let of_flush = calls_of_step(&mut trial, rt.alloc(), (1010, b"", Ask::Flush(0)));
+    let mut sole = Sole::filled(&rt, rt.alloc())?;
+    let first = first_miscalled(&mut sole, rt.alloc());
+    let of_flush = calls_of_step(&mut sole, rt.alloc(), (1010, b"", Ask::Flush(0)));
     assert_eq!(rt; (first, of_flush), (None, 0));
     Ok(())
 }

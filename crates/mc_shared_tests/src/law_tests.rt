@@ -103,12 +103,26 @@ fn set_a<R: Wait>(
     Ok(())
 }
 
-/// Returns the replies to two reads of `a` in a new store, after a set by the first caller.
-fn replies_to_reads<R: Wait>(rt: &R, alloc: Global) -> Result<(Reply, Reply), StepFault> {
-    let (shared, mut me) = empty_store(alloc)?;
+/// Returns the replies to two reads of `a` by two callers, after a set by the first.
+fn replies_after_set<R: Wait>(
+    rt: &R,
+    shared: &Shared<Fnv>,
+    alloc: Global,
+    me: Caller,
+) -> Result<(Reply, Reply), StepFault>
+    requires own { me.table ≡ shared.now.table }
+    requires drawn { HasDrawnNumbers shared.now.began.plain }
+{
+    let mut me = me;
     let mut other = shared.caller(&mut me);
-    set_a(rt, &shared, alloc, &mut me)?;
-    reads_of_two(rt, &shared, alloc, me, &mut other, b"a")
+    set_a(rt, shared, alloc, &mut me)?;
+    reads_of_two(rt, shared, alloc, me, &mut other, b"a")
+}
+
+/// Returns the same for a new store.
+fn replies_to_reads<R: Wait>(rt: &R, alloc: Global) -> Result<(Reply, Reply), StepFault> {
+    let (shared, me) = empty_store(alloc)?;
+    replies_after_set(rt, &shared, alloc, me)
 }
 
 /// Returns whether both replies are as wanted.

@@ -8,9 +8,8 @@ use mc_shared::{Asking, NoGate};
 use mc_testing::{Ask, Row, Want, first_unlike, set, step_of};
 use mc_time::Moment;
 use std::alloc::{AllocError, Global};
-use std::process::Abort;
 use std::sync::Wait;
-use std::test::Fail;
+use std::test::*;
 
 /// The bytes of a block that takes a page.
 const PAGE: usize = 600_000;
@@ -64,6 +63,11 @@ impl Reader {
         }
     }
 
+    /// Returns how many parts have bytes, and how many of them are in shared memory.
+    fn counts(&self) -> (usize, usize) {
+        (self.parts, self.lent)
+    }
+
     /// Returns whether it has a first part of as many bytes, which are all the same.
     fn has(&self, len: usize, byte: u8) -> bool {
         match &self.first {
@@ -96,14 +100,18 @@ fn is_set<R: Wait>(
 }
 
 /// Sets `a` to a block of a page, and reads it.
-fn set_and_read<R: Wait + Abort>(
-    rt: &R,
+///
+/// The reader is without a part if the set isn't stored.
+fn set_and_read<R: Wait>(
     asking: &mut Asking<'_, R, Fnv, NoGate>,
     alloc: Global,
     byte: u8,
 ) -> Result<Reader, StepFault> {
-    assert!(rt; is_set(asking, alloc, PAGE, byte)?);
-    Ok(read(asking, alloc, b'a'))
+    if is_set(asking, alloc, PAGE, byte)? {
+        Ok(read(asking, alloc, b'a'))
+    } else {
+        Ok(Reader::new())
+    }
 }
 
 /// Changes of an item that leave its block.
@@ -112,57 +120,87 @@ static CHANGES: [Row<'static>; 2] = [
     (1000, b"a", Ask::Delete, Want::Told("deleted")),
 ];
 
-/// Checks that blocks of two readers stay where the item is changed, deleted and set.
-fn both_stay<R: Wait + Abort>(
-    rt: &R,
+/// Returns whether the blocks of two readers stay where the item is changed, deleted and set.
+fn both_stay<R: Wait>(
     asking: &mut Asking<'_, R, Fnv, NoGate>,
     alloc: Global,
     old: &Reader,
     new: &Reader,
-) -> Result<(), StepFault> {
-    assert!(rt; old.has(PAGE, b'x') && new.has(PAGE, b'y'));
-    assert_eq!(rt; first_unlike(asking, alloc, &CHANGES)?, None);
-    let last = set_and_read(rt, asking, alloc, b'z')?;
-    assert!(rt; last.has(PAGE, b'z') && old.has(PAGE, b'x') && new.has(PAGE, b'y'));
-    Ok(())
+) -> Result<bool, StepFault> {
+    if !have_pages(old, new) || first_unlike(asking, alloc, &CHANGES)?.is_some() {
+        return Ok(false);
+    }
+    let last = set_and_read(asking, alloc, b'z')?;
+    Ok(last.has(PAGE, b'z') && have_pages(old, new))
 }
 
-/// Checks that a block of a page is lent, and stays where the item is set, changed and deleted.
-fn block_stays<R: Wait + Abort>(
-    rt: &R,
+/// Returns whether two readers have the first two blocks.
+fn have_pages(old: &Reader, new: &Reader) -> bool {
+    old.has(PAGE, b'x') && new.has(PAGE, b'y')
+}
+
+/// Returns whether a reader's block is lent, and stays where the item is set, changed and deleted.
+fn one_stays<R: Wait>(
     asking: &mut Asking<'_, R, Fnv, NoGate>,
     alloc: Global,
-) -> Result<(), StepFault> {
-    let old = set_and_read(rt, asking, alloc, b'x')?;
-    assert!(rt; (old.parts, old.lent) == (1, 1) && old.has(PAGE, b'x'));
-    let new = set_and_read(rt, asking, alloc, b'y')?;
-    both_stay(rt, asking, alloc, &old, &new)
+    old: &Reader,
+) -> Result<bool, StepFault> {
+    if old.counts() != (1, 1) || !old.has(PAGE, b'x') {
+        return Ok(false);
+    }
+    let new = set_and_read(asking, alloc, b'y')?;
+    both_stay(asking, alloc, old, &new)
+}
+
+/// Returns the same for a reader of a new block of a page.
+fn block_stays<R: Wait>(
+    asking: &mut Asking<'_, R, Fnv, NoGate>,
+    alloc: Global,
+) -> Result<bool, StepFault> {
+    let old = set_and_read(asking, alloc, b'x')?;
+    one_stays(asking, alloc, &old)
+}
+
+/// Returns the same for a new store.
+fn block_stays_in_new_store<R: Wait>(rt: &R, alloc: Global) -> Result<bool, StepFault> {
+    let (shared, caller) = shared_store(alloc, LARGE)?;
+    let mut asking = Asking::new(rt, &shared, caller, &NoGate);
+    block_stays(&mut asking, alloc)
 }
 
 #[test]
 fn a_block_that_is_lent_stays(rt: HostRuntime) -> Result<(), Fail> {
-    let (shared, caller) = shared_store(rt.alloc(), LARGE)?;
-    let mut asking = Asking::new(&rt, &shared, caller, &NoGate);
-    Ok(block_stays(&rt, &mut asking, rt.alloc())?)
+    assert!(rt; block_stays_in_new_store(&rt, rt.alloc())?);
+    Ok(())
 }
 
-/// Checks that each page of a block is lent, and that a small block isn't.
-fn pages_are_lent<R: Wait + Abort>(
-    rt: &R,
+/// Returns the parts of a block of three pages and of a small one, and how many of each are lent.
+///
+/// It is `None` if the large block isn't stored.
+fn parts_lent<R: Wait>(
     asking: &mut Asking<'_, R, Fnv, NoGate>,
     alloc: Global,
-) -> Result<(), StepFault> {
-    assert!(rt; is_set(asking, alloc, PAGES, b'x')?);
-    let reader = read(asking, alloc, b'a');
-    assert!(rt; (reader.parts, reader.lent) == (3, 3));
-    let reader = read(asking, alloc, b'k');
-    assert!(rt; (reader.parts, reader.lent) == (1, 0));
-    Ok(())
+) -> Result<Option<[(usize, usize); 2]>, StepFault> {
+    if !is_set(asking, alloc, PAGES, b'x')? {
+        return Ok(None);
+    }
+    let large = read(asking, alloc, b'a').counts();
+    Ok(Some([large, read(asking, alloc, b'k').counts()]))
+}
+
+/// Returns the same for a new store.
+fn parts_lent_in_new_store<R: Wait>(
+    rt: &R,
+    alloc: Global,
+) -> Result<Option<[(usize, usize); 2]>, StepFault> {
+    let (shared, caller) = shared_store(alloc, LARGE)?;
+    let mut asking = Asking::new(rt, &shared, caller, &NoGate);
+    parts_lent(&mut asking, alloc)
 }
 
 #[test]
 fn each_page_of_a_block_is_lent(rt: HostRuntime) -> Result<(), Fail> {
-    let (shared, caller) = shared_store(rt.alloc(), LARGE)?;
-    let mut asking = Asking::new(&rt, &shared, caller, &NoGate);
-    Ok(pages_are_lent(&rt, &mut asking, rt.alloc())?)
+    let counts = parts_lent_in_new_store(&rt, rt.alloc())?;
+    assert_eq!(rt; counts, Some([(3, 3), (1, 0)]));
+    Ok(())
 }

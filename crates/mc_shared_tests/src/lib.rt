@@ -4,12 +4,16 @@
 //! program uses this crate.
 //!
 //! Stores are set up by `src/stores.rt`. A store with its one caller is one value, so that tests
-//! need no clauses: a `Trial` (`src/trial.rt`) takes steps as every store does, and a `Sole`
-//! (`src/sole.rt`) runs rows that check which keys are absent.
+//! need no clauses: a `Sole` (`src/sole.rt`) takes steps as every store does, and runs rows that
+//! check which keys are absent.
+//!
+//! What is outside the modules of tests is proved twice, so only `src/asked.rt` is, which an edit of
+//! `must-fail/` changes.
 #![tactic(auto)]
 
 #[cfg(test)]
 mod absent_tests;
+mod asked;
 #[cfg(test)]
 mod busy_tests;
 #[cfg(test)]
@@ -26,9 +30,11 @@ mod law_tests;
 mod lent_tests;
 #[cfg(test)]
 mod presence_tests;
+#[cfg(test)]
 mod sole;
 #[cfg(test)]
 mod step_tests;
+#[cfg(test)]
 mod stores;
 #[cfg(test)]
 mod survey_tests;
@@ -36,4 +42,3 @@ mod survey_tests;
 mod telling_tests;
 #[cfg(test)]
 mod thread_tests;
-mod trial;

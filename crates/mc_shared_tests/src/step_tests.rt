@@ -1,10 +1,10 @@
 //! Steps of one caller, up to the last unique number. If memory is refused they are taken again.
 
-use crate::trial::Trial;
+use crate::sole::Sole;
+use mc_hop::Fnv;
 use mc_protocol::{Steps, Verb};
-use mc_testing::{Ask, Row, Want, ask_step, first_unlike, is_wanted, step_of};
-use mc_time::Moment;
-use std::alloc::Global;
+use mc_testing::{Ask, Row, Want, first_unlike, first_unread};
+use std::alloc::{AllocError, Global};
 use std::sync::Wait;
 use std::test::*;
 
@@ -56,46 +56,62 @@ static OF_STORE: [Row<'static>; 2] = [
     (1000, b"k", Ask::Get, Want::Hit(5, b"2")),
 ];
 
+/// Closes a store, and returns whether it answers the last steps. It is `None` if a bay is held.
+fn is_answered_closed<R: Wait>(sole: Sole<'_, R, Fnv>, alloc: Global) -> Option<bool> {
+    let mut store = sole.into_store(alloc)?;
+    Some(are_answered(&mut store, alloc, &OF_STORE))
+}
+
 /// Returns whether steps are answered by two callers and then by the store, closed.
 ///
 /// It is `None` if a bay is held.
-fn are_answered_in_turn<R: Wait>(trial: Trial<'_, R>, alloc: Global) -> Option<[bool; 3]> {
-    let mut trial = trial;
-    let first = are_answered(&mut trial, alloc, &OF_FIRST);
-    let mut made = trial.passed_on();
+fn are_answered_in_turn<R: Wait>(sole: Sole<'_, R, Fnv>, alloc: Global) -> Option<[bool; 3]> {
+    let mut sole = sole;
+    let first = are_answered(&mut sole, alloc, &OF_FIRST);
+    let mut made = sole.passed_on();
     let second = are_answered(&mut made, alloc, &OF_SECOND);
-    let mut store = made.into_store(alloc)?;
-    Some([first, second, are_answered(&mut store, alloc, &OF_STORE)])
+    let third = is_answered_closed(made, alloc)?;
+    Some([first, second, third])
 }
 
 #[test]
 fn steps_are_answered_as_by_a_store_of_one_thread(rt: HostRuntime) -> Result<(), Fail> {
-    let trial = Trial::open(&rt, rt.alloc())?;
-    let answered = are_answered_in_turn(trial, rt.alloc());
+    let sole = Sole::filled(&rt, rt.alloc())?;
+    let answered = are_answered_in_turn(sole, rt.alloc());
     assert_eq!(rt; answered, Some([true, true, true]));
     Ok(())
 }
 
-/// Steps on `a` in an empty store with one unique number left.
-static LAST: [(Ask<'static>, Want<'static>); 7] = [
-    (Ask::Store(Verb::Set, 0, b"x"), Want::Told("stored")),
-    (Ask::Get, Want::Hit(18446744073709551614, b"x")),
-    (Ask::Store(Verb::Set, 0, b"y"), Want::Told("numbers spent")),
-    (Ask::Incr(1), Want::Told("not numeric")),
-    (Ask::Store(Verb::Add, 0, b"y"), Want::Told("not stored")),
-    (Ask::Get, Want::Hit(18446744073709551614, b"x")),
-    (Ask::Delete, Want::Told("deleted")),
+/// Steps in an empty store with one unique number left.
+static LAST: [Row<'static>; 7] = [
+    (
+        1000,
+        b"a",
+        Ask::Store(Verb::Set, 0, b"x"),
+        Want::Told("stored"),
+    ),
+    (1000, b"a", Ask::Get, Want::Hit(18446744073709551614, b"x")),
+    (
+        1000,
+        b"a",
+        Ask::Store(Verb::Set, 0, b"y"),
+        Want::Told("numbers spent"),
+    ),
+    (1000, b"a", Ask::Incr(1), Want::Told("not numeric")),
+    (
+        1000,
+        b"a",
+        Ask::Store(Verb::Add, 0, b"y"),
+        Want::Told("not stored"),
+    ),
+    (1000, b"a", Ask::Get, Want::Hit(18446744073709551614, b"x")),
+    (1000, b"a", Ask::Delete, Want::Told("deleted")),
 ];
 
 /// Returns the place of the first of them with an unexpected answer.
-fn first_unlike_last<R: Wait>(trial: &mut Trial<'_, R>, alloc: Global) -> Option<usize> {
-    for (at, (ask, want)) in LAST.iter().enumerate() {
-        let now = Moment::from_seconds_at_most(1000);
-        if !is_wanted(&ask_step(trial, alloc, &step_of(b"a", *ask), now), *want) {
-            return Some(at);
-        }
-    }
-    None
+fn first_unlike_last<R: Wait>(rt: &R, alloc: Global) -> Result<Option<usize>, AllocError> {
+    let mut sole = Sole::at_the_last_number(rt, alloc)?;
+    Ok(first_unread(&mut sole, alloc, &LAST))
 }
 
 /// One write is left. Then each write that needs a number gets the error that they are used up.
@@ -103,8 +119,6 @@ fn first_unlike_last<R: Wait>(trial: &mut Trial<'_, R>, alloc: Global) -> Option
 /// All other steps are answered as before.
 #[test]
 fn unique_numbers_end(rt: HostRuntime) -> Result<(), Fail> {
-    let mut trial = Trial::at_the_last_number(&rt, rt.alloc())?;
-    let unlike = first_unlike_last(&mut trial, rt.alloc());
-    assert_eq!(rt; unlike, None);
+    assert_eq!(rt; first_unlike_last(&rt, rt.alloc())?, None);
     Ok(())
 }

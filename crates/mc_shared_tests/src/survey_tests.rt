@@ -2,15 +2,14 @@
 
 ghost use Rattle.std.specs.Prelude.{◌≡◌};
 
-use crate::sole::{Act, Row, Sole};
+use crate::sole::{Act, FLUSH, Row, SET, SET_FOR_5, SET_FOR_10, Sole};
 use crate::stores::{MANY, ONE, SOME};
 use mc_hop::Fnv;
-use mc_protocol::Verb;
 use mc_shared::{Caller, Shared};
 use mc_shelf::{Settings, ShelfCounts};
 use mc_slab::{Account, Class, class_of};
 use mc_testing::{Ask, filled_block};
-use std::alloc::Global;
+use std::alloc::{AllocError, Global};
 use std::sync::Wait;
 use std::test::*;
 
@@ -68,27 +67,21 @@ fn account<R: Wait>(sole: &mut Sole<'_, R, Fnv>, charge: u64) -> Option<(u32, u3
     Some((pages, out))
 }
 
-/// An item of 50 bytes with its head, in a chunk of 96, which is dead at 1010.
-const FIRST: Row = (
-    1000,
-    b"a",
-    Act::Told(Ask::Store(Verb::Set, 10, b"x"), "stored"),
-);
-
-/// Another item in such a chunk.
-const SECOND: Row = (
-    1000,
-    b"k",
-    Act::Told(Ask::Store(Verb::Set, 0, b"y"), "stored"),
-);
+/// An item of 50 bytes with its head, in a chunk of 96, and another in such a chunk.
+///
+/// The first is dead at 1010.
+static BOTH: [Row; 2] = [(1000, b"a", SET_FOR_10), (1000, b"k", SET)];
 
 /// Drops the first item.
-const TIDY: Row = (1010, b"a", Act::Tidy);
+static TIDY: Row = (1010, b"a", Act::Tidy);
 
-/// Sets a third item, of 1049 bytes with its head, in a chunk of 1184.
-fn set_third<R: Wait>(sole: &mut Sole<'_, R, Fnv>, alloc: Global) -> Result<&'static str, Fail> {
+/// Returns whether they are set, and a third item of 1049 bytes with its head, in a chunk of 1184.
+fn are_set<R: Wait>(sole: &mut Sole<'_, R, Fnv>, alloc: Global) -> Result<bool, AllocError> {
+    if sole.first_untold(alloc, &BOTH).is_some() {
+        return Ok(false);
+    }
     let block = filled_block(alloc, 1000)?;
-    Ok(sole.set(alloc, b"b", block.as_slice()))
+    Ok(sole.set(alloc, b"b", block.as_slice()) == "stored")
 }
 
 /// The counts of the shelves of `a`, `k` and `b`, and the accounts of three classes.
@@ -107,21 +100,24 @@ fn told<R: Wait>(sole: &mut Sole<'_, R, Fnv>) -> Told {
 fn told_twice<R: Wait>(
     sole: &mut Sole<'_, R, Fnv>,
     alloc: Global,
-) -> Result<Option<(Told, Told)>, Fail> {
-    if sole.first_untold(alloc, &[FIRST, SECOND]) != None || set_third(sole, alloc)? != "stored" {
+) -> Result<Option<(Told, Told)>, AllocError> {
+    if !are_set(sole, alloc)? {
         return Ok(None);
     }
     let before = told(sole);
-    let _ = sole.first_untold(alloc, &[TIDY]);
+    let _ = sole.is_told(alloc, &TIDY);
     Ok(Some((before, told(sole))))
 }
 
-/// Returns both for a store with these settings.
+/// Returns both for a store with this many shelves.
 fn told_by<R: Wait>(
     rt: &R,
     alloc: Global,
-    settings: Settings,
-) -> Result<Option<(Told, Told)>, Fail> {
+    shelves: u32,
+) -> Result<Option<(Told, Told)>, AllocError> {
+    let Some(settings) = Settings::new(64, Settings::GREATEST, shelves) else {
+        return Ok(None);
+    };
     let mut sole = Sole::open(rt, alloc, settings, Fnv)?;
     told_twice(&mut sole, alloc)
 }
@@ -130,17 +126,17 @@ const BEFORE: [Option<(u32, u32)>; 3] = [Some((1, 2)), Some((0, 0)), Some((1, 1)
 
 const AFTER: [Option<(u32, u32)>; 3] = [Some((1, 1)), Some((0, 0)), Some((1, 1))];
 
-/// Settings of a store, and its expected counts.
-const ROWS: [(Settings, (Told, Told)); 3] = [
-    (ONE, (([3, 3, 3], BEFORE), ([2, 2, 2], AFTER))),
-    (SOME, (([1, 1, 1], BEFORE), ([0, 1, 1], AFTER))),
-    (MANY, (([1, 1, 1], BEFORE), ([0, 1, 1], AFTER))),
+/// The number of a store's shelves, and its expected counts.
+const COUNTS: [(u32, (Told, Told)); 3] = [
+    (1, (([3, 3, 3], BEFORE), ([2, 2, 2], AFTER))),
+    (64, (([1, 1, 1], BEFORE), ([0, 1, 1], AFTER))),
+    (256, (([1, 1, 1], BEFORE), ([0, 1, 1], AFTER))),
 ];
 
 #[test]
 fn items_and_chunks_are_counted(rt: HostRuntime) -> Result<(), Fail> {
-    for (settings, wanted) in &ROWS {
-        let told = told_by(&rt, rt.alloc(), *settings)?;
+    for (shelves, wanted) in &COUNTS {
+        let told = told_by(&rt, rt.alloc(), *shelves)?;
         assert!(rt; told == Some(*wanted));
     }
     Ok(())
@@ -156,39 +152,25 @@ fn reclaimed<R: Wait>(sole: &mut Sole<'_, R, Fnv>) -> [u64; 2] {
 /// Calls, and the number of items reclaimed after each of the shelves of `a` and `k`.
 ///
 /// The first numbers are those of a store with one shelf, which both keys have. A step that finds
-/// its key's item dead drops it, and it isn't counted.
-static DROPS: [(Row, [u64; 2], [u64; 2]); 10] = [
-    (FIRST, [0, 0], [0, 0]),
-    (SECOND, [0, 0], [0, 0]),
+/// its key's item dead drops it, and it isn't counted. The last flush drops all items.
+static DROPS: [(Row, [u64; 2], [u64; 2]); 11] = [
+    ((1000, b"a", SET_FOR_10), [0, 0], [0, 0]),
+    ((1000, b"k", SET), [0, 0], [0, 0]),
     ((1009, b"a", Act::Tidy), [0, 0], [0, 0]),
-    (TIDY, [1, 1], [1, 0]),
-    (AGAIN, [1, 1], [1, 0]),
+    ((1010, b"a", Act::Tidy), [1, 1], [1, 0]),
+    ((1010, b"a", SET_FOR_5), [1, 1], [1, 0]),
     ((1015, b"a", Act::Told(Ask::Get, "miss")), [1, 1], [1, 0]),
     ((1015, b"a", Act::Tidy), [1, 1], [1, 0]),
-    (LATER, [1, 1], [1, 0]),
+    ((1015, b"", FLUSH_AT_1020), [1, 1], [1, 0]),
     ((1020, b"k", Act::Tidy), [2, 2], [1, 1]),
-    (LAST, [2, 2], [1, 1]),
+    ((1020, b"a", SET), [2, 2], [1, 1]),
+    ((1020, b"", FLUSH), [3, 3], [2, 1]),
 ];
 
-/// An item that is dead at 1015, a flush at 1020, and an item that lives on.
-const AGAIN: Row = (
-    1010,
-    b"a",
-    Act::Told(Ask::Store(Verb::Set, 5, b"x"), "stored"),
-);
+/// A flush that is asked for at 1015.
+const FLUSH_AT_1020: Act = Act::Told(Ask::Flush(5), "flushed");
 
-const LATER: Row = (1015, b"", Act::Told(Ask::Flush(5), "flushed"));
-
-const LAST: Row = (
-    1020,
-    b"a",
-    Act::Told(Ask::Store(Verb::Set, 0, b"x"), "stored"),
-);
-
-/// Drops all items.
-const FLUSH: Row = (1020, b"", Act::Told(Ask::Flush(0), "flushed"));
-
-/// Returns whether the calls have their results and numbers, and a flush of one item counts it.
+/// Returns whether the calls have their results and numbers.
 fn are_counted<R: Wait>(sole: &mut Sole<'_, R, Fnv>, alloc: Global, has_one: bool) -> bool {
     for (row, of_one, of_many) in &DROPS {
         let wanted = if has_one { *of_one } else { *of_many };
@@ -196,14 +178,24 @@ fn are_counted<R: Wait>(sole: &mut Sole<'_, R, Fnv>, alloc: Global, has_one: boo
             return false;
         }
     }
-    sole.is_told(alloc, &FLUSH) && reclaimed(sole) == if has_one { [3, 3] } else { [2, 1] }
+    true
+}
+
+/// Returns the same for a new store with these settings.
+fn are_counted_in<R: Wait>(
+    rt: &R,
+    alloc: Global,
+    settings: Settings,
+    has_one: bool,
+) -> Result<bool, AllocError> {
+    let mut sole = Sole::open(rt, alloc, settings, Fnv)?;
+    Ok(are_counted(&mut sole, alloc, has_one))
 }
 
 #[test]
 fn items_that_purges_and_flushes_drop_are_counted(rt: HostRuntime) -> Result<(), Fail> {
     for (settings, has_one) in [(ONE, true), (SOME, false), (MANY, false)] {
-        let mut sole = Sole::open(&rt, rt.alloc(), settings, Fnv)?;
-        assert!(rt; are_counted(&mut sole, rt.alloc(), has_one));
+        assert!(rt; are_counted_in(&rt, rt.alloc(), settings, has_one)?);
     }
     Ok(())
 }

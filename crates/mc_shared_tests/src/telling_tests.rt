@@ -1,5 +1,7 @@
 //! Replies that are delivered to an `Answer`. If memory is refused the step is taken again.
 
+ghost use Rattle.std.specs.Prelude.{◌≡◌, refl};
+
 use crate::stores::{LARGE, SOME, shared_store};
 use mc_hop::Fnv;
 use mc_protocol::{Answer, Block, Bytes, KeyStep, Reply, StepFault, Steps, Unanswered, Verb};
@@ -98,8 +100,6 @@ impl<'a, R: Wait> Model for Heard<'a, R> {
 }
 
 impl<'a, R: Wait> Steps for Heard<'a, R> {
-    ghost use Rattle.std.specs.Prelude.{◌≡◌, refl};
-
     ghost took = { λ old step now reply new. new ≡ old };
 
     ghost spent = { λ old step now. old ≡ old };
@@ -198,13 +198,21 @@ type Unheard = (
     Option<(u64, &'static str)>,
 );
 
-/// Returns them for a new store that has `a` and `k`.
+/// Returns them for a store that has `a` and `k`.
+fn seen_by<R: Wait>(
+    asking: &mut Asking<'_, R, Fnv, NoGate>,
+    alloc: Global,
+    rows: &[Row<'_>],
+) -> Result<Unheard, StepFault> {
+    let told = unheard_each(asking, alloc);
+    Ok((told, first_unlike(asking, alloc, rows)?))
+}
+
+/// Returns the same for a new store.
 fn seen_unheard<R: Wait>(rt: &R, alloc: Global, rows: &[Row<'_>]) -> Result<Unheard, StepFault> {
     let (shared, caller) = shared_store(alloc, SOME)?;
     let mut asking = Asking::new(rt, &shared, caller, &NoGate);
-    let told = unheard_each(&mut asking, alloc);
-    let unlike = first_unlike(&mut asking, alloc, rows)?;
-    Ok((told, unlike))
+    seen_by(&mut asking, alloc, rows)
 }
 
 /// Reads behind replies that are refused.
@@ -218,9 +226,8 @@ static UNHEARD: [Row<'static>; 2] = [
 /// Any other step is taken.
 #[test]
 fn a_hit_that_is_not_heard_is_not_taken(rt: HostRuntime) -> Result<(), Fail> {
-    let (told, unlike) = seen_unheard(&rt, rt.alloc(), &UNHEARD)?;
-    assert_eq!(rt; told, ("not taken", "taken", true));
-    assert_eq!(rt; unlike, None);
+    let seen = seen_unheard(&rt, rt.alloc(), &UNHEARD)?;
+    assert_eq!(rt; seen, (("not taken", "taken", true), None));
     Ok(())
 }
 

@@ -10,7 +10,7 @@ use crate::seen::{account, dead_chunks};
 use crate::stores::set_up;
 use mc_hop::Constant;
 use mc_protocol::Verb;
-use mc_shelf::{Settings, Store, StoreParts};
+use mc_shelf::{Settings, Shelf, Store, StoreParts};
 use mc_slab::Chunks;
 use mc_testing::{Ask, ask_step, filled_block, step_of, told_of};
 use mc_time::Moment;
@@ -86,17 +86,27 @@ fn read_chunks(chunks: &[Chunks]) -> Before {
     before
 }
 
-/// Sets 63 items without a block, and returns what was in their chunks before.
+/// Sets 63 items without a block, which are dead at 1001.
+fn put_empty(store: &mut Store<Constant>, alloc: Global) {
+    for number in 0..63 {
+        let _ = put(store, alloc, number, 1, b"");
+    }
+}
+
+/// Returns what was in the chunks of the first shelf's dead items before.
 ///
 /// It is `None` if memory for a list of them was refused.
-fn chunks_that_come(mut store: Store<Constant>, alloc: Global) -> Option<Before> {
-    for number in 0..63 {
-        let _ = put(&mut store, alloc, number, 1, b"");
-    }
-    let StoreParts { mut shelves, .. } = store.into_parts();
+fn read_dead(alloc: Global, shelves: &mut [Shelf]) -> Option<Before> {
     let shelf = shelves.first_mut()?;
     let chunks = dead_chunks(alloc, shelf, Moment::from_seconds_at_most(1001))?;
     Some(read_chunks(&chunks))
+}
+
+/// Sets 63 items without a block, and returns what was in their chunks before.
+fn chunks_that_come(mut store: Store<Constant>, alloc: Global) -> Option<Before> {
+    put_empty(&mut store, alloc);
+    let StoreParts { mut shelves, .. } = store.into_parts();
+    read_dead(alloc, &mut shelves)
 }
 
 /// Returns the same for the chunks alone that were used before, in order.
@@ -154,10 +164,20 @@ fn takes_one_large(
     before: u8,
     large: &[u8],
 ) {
-    assert_eq!(rt; out(store), (0, 0));
+    are_out(rt, store, (0, 0));
     let told = put(store, alloc, 254, 0, large);
     assert!(rt; told == "stored", "{told} with {before} before it");
-    assert_eq!(rt; out(store), (0, 1));
+    are_out(rt, store, (0, 1));
+    takes_no_second(rt, alloc, store, large);
+}
+
+/// Checks how many chunks of the small items' class are out, and of the large item's.
+fn are_out(rt: &impl Abort, store: &mut Store<Constant>, want: (u32, u32)) {
+    assert_eq!(rt; out(store), want);
+}
+
+/// Checks that it takes no second large item.
+fn takes_no_second(rt: &impl Abort, alloc: Global, store: &mut Store<Constant>, large: &[u8]) {
     let told = put(store, alloc, 253, 0, large);
     assert!(rt; told == "no chunk", "{told} for a second one");
 }
@@ -171,22 +191,30 @@ fn are_left(alone: &Before, behind: &Before) -> bool {
     alone[0] == 0 && count_used(alone) == usize::from(SMALL) && used(alone) == *behind
 }
 
+/// Checks that a large item leaves the small ones aside, `before` of them set before it.
+fn leaves_others(rt: &impl Abort, alloc: Global, before: u8, large: &[u8]) -> Result<(), Fail> {
+    let alone = come_alone(alloc, before, large)?;
+    let behind = come_behind(rt, alloc, before, large)?;
+    let left = match (alone, behind) {
+        (Some(alone), Some(behind)) => are_left(&alone, &behind),
+        _ => false,
+    };
+    assert!(rt; left, "with {before} before it");
+    Ok(())
+}
+
+/// How many small items are set before the large one.
+static BEFORE: [u8; 3] = [1, 32, 39];
+
 /// Each small item has one chunk, and so has the large one.
 ///
 /// The large one is the second in the table that grows; the 33rd of one hash is a stray; and the
 /// 40th is in the new table.
 #[test]
 fn a_need_collects_its_own_class_alone(rt: HostRuntime) -> Result<(), Fail> {
-    let alloc = rt.alloc();
-    let large = filled_block(alloc, LARGE)?;
-    for before in [1, 32, 39] {
-        let alone = come_alone(alloc, before, large.as_slice())?;
-        let behind = come_behind(&rt, alloc, before, large.as_slice())?;
-        let left = match (alone, behind) {
-            (Some(alone), Some(behind)) => are_left(&alone, &behind),
-            _ => false,
-        };
-        assert!(rt; left, "with {before} before it");
+    let large = filled_block(rt.alloc(), LARGE)?;
+    for before in &BEFORE {
+        leaves_others(&rt, rt.alloc(), *before, large.as_slice())?;
     }
     Ok(())
 }

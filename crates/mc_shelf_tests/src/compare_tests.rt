@@ -6,10 +6,11 @@
 ghost use Rattle.std.specs.Prelude.{◌<◌, ◌≤◌, length};
 ghost use Rattle.mc_protocol.specs.Commands.{key_of};
 
+use crate::stores::small_items;
 use mc_command::{KeyTest, PlainStore};
 use mc_hop::{Constant, Fnv, KeyHash};
 use mc_protocol::{Bytes, KeyStep, StepFault, Verb};
-use mc_shelf::{Settings, Store};
+use mc_shelf::Store;
 use mc_testing::{Dice, ask_step, is_same};
 use mc_time::Moment;
 use std::alloc::{AllocError, Global};
@@ -181,28 +182,54 @@ fn purge_both<K: KeyHash + Drop>(store: &mut Store<K>, plain: &mut PlainStore, n
     plain.purge(now, &AllKeys);
 }
 
-/// A store and the plain store, of four pages, and the bytes that blocks are taken from.
+/// A store and the plain store, of four pages.
 #[derive(Drop)]
 struct Pair<K: KeyHash + Drop> {
     store: Store<K>,
     plain: PlainStore,
-    bytes: Vec<u8>,
 }
 
 impl<K: KeyHash + Drop> Pair<K> {
-    fn open(alloc: Global, hasher: K) -> Result<Pair<K>, AllocError> {
-        let mut bytes = Vec::new(alloc);
-        bytes.resize(600000, b'7')?;
-        let settings = Settings {
-            pages: 4,
-            greatest: 1048576,
-            shelves: 64,
-        };
-        Ok(Pair {
-            store: Store::new(alloc, settings, hasher)?,
-            plain: PlainStore::new(alloc, 4, 1048576)?,
-            bytes,
-        })
+    fn of(alloc: Global, store: Store<K>) -> Result<Pair<K>, AllocError> {
+        let plain = PlainStore::new(alloc, 4, 1048576)?;
+        Ok(Pair { store, plain })
+    }
+
+    /// Takes a random step in both, and returns whether the replies are equal.
+    fn answers_alike(
+        &mut self,
+        alloc: Global,
+        bytes: &[u8],
+        dice: &mut Dice,
+        now: Moment,
+    ) -> Result<bool, StepFault> {
+        let step = step_of(dice, bytes);
+        is_answered_alike(alloc, &mut self.store, &mut self.plain, &step, now)
+    }
+
+    /// Drops what is dead in both after one turn of fifty.
+    fn purge_at_times(&mut self, dice: &mut Dice, turn: u64) {
+        if dice.roll(50) == 0 {
+            let now = moment_after(dice, turn);
+            purge_both(&mut self.store, &mut self.plain, now);
+        }
+    }
+
+    /// Takes one turn, and returns whether an entry was moved.
+    fn take_turn(
+        &mut self,
+        rt: &impl Abort,
+        alloc: Global,
+        bytes: &[u8],
+        dice: &mut Dice,
+        turn: u64,
+    ) -> Result<bool, Fail> {
+        let now = moment_after(dice, turn);
+        let alike = self.answers_alike(alloc, bytes, dice, now)?;
+        assert!(rt; alike, "turn {turn}");
+        let moved = self.store.grow(0, 1) > 0;
+        self.purge_at_times(dice, turn);
+        Ok(moved)
     }
 
     /// Takes 4000 steps in both, and returns whether any entry was moved.
@@ -210,55 +237,74 @@ impl<K: KeyHash + Drop> Pair<K> {
     /// Each step is up to 11 seconds after a moment that rises, so that many are before the last
     /// one's. After each step one entry of the first shelf's old table is moved, and after some the
     /// items that are dead at another such moment are dropped.
-    fn compare(&mut self, rt: &impl Abort, alloc: Global) -> Result<bool, Fail> {
+    fn compare(&mut self, rt: &impl Abort, alloc: Global, bytes: &[u8]) -> Result<bool, Fail> {
         let mut dice = Dice::new(1);
         let mut moved = false;
         for turn in 0..4000 {
-            let now = moment_after(&mut dice, turn);
-            let step = step_of(&mut dice, &self.bytes);
-            let alike = is_answered_alike(alloc, &mut self.store, &mut self.plain, &step, now)?;
-            assert!(rt; alike, "turn {turn}");
-            moved |= self.store.grow(0, 1) > 0;
-            if dice.roll(50) == 0 {
-                let now = moment_after(&mut dice, turn);
-                purge_both(&mut self.store, &mut self.plain, now);
-            }
+            moved |= self.take_turn(rt, alloc, bytes, &mut dice, turn)?;
         }
         Ok(moved)
     }
 }
 
+/// Returns a pair of empty stores.
+fn open_once<K: KeyHash + Drop>(alloc: Global, hasher: K) -> Result<Pair<K>, AllocError> {
+    Pair::of(alloc, Store::new(alloc, small_items(4), hasher)?)
+}
+
+/// Returns the same. It allocates twice if memory is refused.
+fn open<K: KeyHash + Drop + Copy>(alloc: Global, hasher: K) -> Result<Pair<K>, AllocError> {
+    match open_once(alloc, hasher) {
+        Err(_) => open_once(alloc, hasher),
+        made => made,
+    }
+}
+
+/// Returns the bytes that blocks are taken from. It allocates twice if memory is refused.
+fn open_bytes(alloc: Global) -> Result<Vec<u8>, AllocError> {
+    match vec![in alloc; b'7'; 600000] {
+        Err(_) => vec![in alloc; b'7'; 600000],
+        bytes => bytes,
+    }
+}
+
+/// Compares two stores with these bytes, and returns whether any entry was moved.
+fn compare_with<K: KeyHash + Drop + Copy>(
+    rt: &impl Abort,
+    alloc: Global,
+    hasher: K,
+    bytes: &[u8],
+) -> Result<bool, Fail> {
+    let mut pair = open(alloc, hasher)?;
+    pair.compare(rt, alloc, bytes)
+}
+
+/// Compares two stores, and returns whether any entry was moved.
+fn compare<K: KeyHash + Drop + Copy>(
+    rt: &impl Abort,
+    alloc: Global,
+    hasher: K,
+) -> Result<bool, Fail> {
+    let bytes = open_bytes(alloc)?;
+    compare_with(rt, alloc, hasher, bytes.as_slice())
+}
+
 #[test]
 fn random_steps_are_answered_as_by_the_plain_store(rt: HostRuntime) -> Result<(), Fail> {
-    let alloc = rt.alloc();
-    let mut pair = match Pair::open(alloc, Fnv) {
-        Err(_) => Pair::open(alloc, Fnv)?,
-        Ok(pair) => pair,
-    };
-    pair.compare(&rt, alloc)?;
+    compare(&rt, rt.alloc(), Fnv)?;
     Ok(())
 }
 
 #[test]
 fn they_are_so_while_a_table_of_one_hash_grows(rt: HostRuntime) -> Result<(), Fail> {
-    let alloc = rt.alloc();
-    let mut pair = match Pair::open(alloc, Constant(0)) {
-        Err(_) => Pair::open(alloc, Constant(0))?,
-        Ok(pair) => pair,
-    };
-    let moved = pair.compare(&rt, alloc)?;
+    let moved = compare(&rt, rt.alloc(), Constant(0))?;
     assert!(rt; moved, "no entry was moved");
     Ok(())
 }
 
 #[test]
 fn they_are_so_while_a_table_of_eight_hashes_grows(rt: HostRuntime) -> Result<(), Fail> {
-    let alloc = rt.alloc();
-    let mut pair = match Pair::open(alloc, EightHashes) {
-        Err(_) => Pair::open(alloc, EightHashes)?,
-        Ok(pair) => pair,
-    };
-    let moved = pair.compare(&rt, alloc)?;
+    let moved = compare(&rt, rt.alloc(), EightHashes)?;
     assert!(rt; moved, "no entry was moved");
     Ok(())
 }

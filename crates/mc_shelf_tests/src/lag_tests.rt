@@ -1,26 +1,36 @@
 //! A shelf that gets all keys, and whose growth gets no other call.
 
-use crate::lengths::{ByLength, front};
+use crate::lengths::{ByLength, front, set_key};
 use crate::seen::counts;
 use crate::stores::open_with;
-use mc_protocol::Verb;
 use mc_shelf::{ShelfCounts, Store};
-use mc_testing::{Ask, ask_step, filled_block, step_of};
-use mc_time::Moment;
+use mc_testing::filled_block;
 use std::alloc::{AllocError, Global};
 use std::test::*;
+
+/// Sets keys of each length from 1 to `keys`, fronts of `long`.
+fn set_keys(store: &mut Store<ByLength>, alloc: Global, long: &[u8], keys: usize) {
+    for before in 0..keys {
+        set_key(store, alloc, front(long, before + 1));
+    }
+}
 
 /// Returns a store with keys of each length from 1 to `keys`, at most 250.
 fn store_of(alloc: Global, keys: usize) -> Result<Store<ByLength>, AllocError> {
     let long = filled_block(alloc, 250)?;
     let mut store = open_with(alloc, 64, ByLength)?;
-    let now = Moment::from_seconds_at_most(1000);
-    for before in 0..keys {
-        let key = front(long.as_slice(), before + 1);
-        let step = step_of(key, Ask::Store(Verb::Set, 0, b"x"));
-        let _ = ask_step(&mut store, alloc, &step, now);
-    }
+    set_keys(&mut store, alloc, long.as_slice(), keys);
     Ok(store)
+}
+
+/// Returns how many entries such a store has left to move.
+fn left_of(alloc: Global, keys: usize) -> Result<usize, AllocError> {
+    Ok(store_of(alloc, keys)?.grow(0, 1000))
+}
+
+/// Returns the counts of the first shelf of such a store.
+fn counts_of(alloc: Global, keys: usize) -> Result<Option<ShelfCounts>, AllocError> {
+    Ok(counts(store_of(alloc, keys)?))
 }
 
 /// The table of 64 homes grows before the 49th key comes.
@@ -42,7 +52,7 @@ fn a_growth_that_lags_is_moved_on_by_new_keys(rt: HostRuntime) -> Result<(), Fai
         (205, 204),
     ];
     for (keys, want) in &ROWS {
-        let left = store_of(rt.alloc(), *keys)?.grow(0, 1000);
+        let left = left_of(rt.alloc(), *keys)?;
         assert!(rt; left == *want, "{left} are left after {keys} keys");
     }
     Ok(())
@@ -62,7 +72,6 @@ fn a_shelf_counts_what_its_table_has(rt: HostRuntime) -> Result<(), Fail> {
         (205, 512, true, 204),
     ];
     for (keys, homes, growing, left) in &ROWS {
-        let store = store_of(rt.alloc(), *keys)?;
         let want = ShelfCounts {
             items: *keys as u64,
             homes: *homes,
@@ -70,7 +79,10 @@ fn a_shelf_counts_what_its_table_has(rt: HostRuntime) -> Result<(), Fail> {
             left: *left,
             strays: 0,
         };
-        assert!(rt; counts(store) == Some(want), "after {keys} keys");
+        assert!(rt;
+            counts_of(rt.alloc(), *keys)? == Some(want),
+            "after {keys} keys"
+        );
     }
     Ok(())
 }

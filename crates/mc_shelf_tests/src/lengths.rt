@@ -1,8 +1,13 @@
-//! A hash of keys by their lengths.
+//! A hash of keys by their lengths, and such keys.
 
 ghost use Rattle.std.specs.Prelude.{◌≤◌, length};
 
 use mc_hop::KeyHash;
+use mc_protocol::Verb;
+use mc_shelf::Store;
+use mc_testing::{Ask, ask_step, step_of};
+use mc_time::Moment;
+use std::alloc::Global;
 
 /// A hash for each length of key, on the first shelf, with a home of its own if there are enough.
 ///
@@ -26,4 +31,12 @@ pub(crate) fn front(bytes: &[u8], len: usize) -> &[u8]
 {
     let (front, _) = bytes.split_at(len.min(bytes.len()).min(250));
     front
+}
+
+/// Sets a key at 1000.
+pub(crate) fn set_key<K: KeyHash + Drop>(store: &mut Store<K>, alloc: Global, key: &[u8])
+    requires { length key.now ≤ 250 }
+{
+    let step = step_of(key, Ask::Store(Verb::Set, 0, b"x"));
+    let _ = ask_step(store, alloc, &step, Moment::from_seconds_at_most(1000));
 }

@@ -12,13 +12,17 @@
 //! replies.
 #![tactic(auto)]
 
+#[cfg(test)]
 mod aside;
 #[cfg(test)]
 mod aside_tests;
 #[cfg(test)]
+mod both;
+#[cfg(test)]
 mod compare_tests;
 #[cfg(test)]
 mod lag_tests;
+#[cfg(test)]
 mod lengths;
 #[cfg(test)]
 mod number_tests;
@@ -29,6 +33,7 @@ mod paged_tests;
 mod parted;
 #[cfg(test)]
 mod plays;
+#[cfg(test)]
 mod seen;
 #[cfg(test)]
 mod settings_tests;

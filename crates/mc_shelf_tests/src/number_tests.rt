@@ -1,12 +1,13 @@
 //! The number of items of a shelf, and of its keys by number, the hash modulo 4096.
 
-use crate::lengths::{ByLength, front};
+use crate::lengths::{ByLength, front, set_key};
 use crate::seen::{counts, dead_chunks, keys, reclaimed};
+use crate::store_tests::answers;
 use crate::stores::open_with;
 use mc_hop::{Constant, KeyHash};
 use mc_protocol::Verb;
-use mc_shelf::{Shelf, Store};
-use mc_testing::{Ask, Row, Want, ask_step, filled_block, first_unlike, step_of};
+use mc_shelf::{Shelf, ShelfCounts, Store, StoreParts};
+use mc_testing::{Ask, Row, Want, filled_block};
 use mc_time::Moment;
 use std::alloc::{AllocError, Global};
 use std::process::Abort;
@@ -65,16 +66,20 @@ fn counts_items(
     rows: &[(Row<'_>, bool, usize)],
 ) -> Result<(), Fail> {
     for (row, purges, want) in rows {
-        assert_eq!(rt; first_unlike(store, alloc, &[*row])?, None);
+        answers(rt, alloc, store, &[*row])?;
         purge_at(store, row.0, *purges);
-        let (len, count) = keys(store, 960);
-        assert!(rt;
-            len == *want && count == *want as u64,
-            "{len} and {count} at {}",
-            row.0
-        );
+        has_items(rt, store, *want, row.0);
     }
     Ok(())
+}
+
+/// Checks how many items and keys there are.
+fn has_items(rt: &impl Abort, store: &mut Store<Constant>, want: usize, seconds: u64) {
+    let (len, count) = keys(store, 960);
+    assert!(rt;
+        len == want && count == want as u64,
+        "{len} and {count} at {seconds}"
+    );
 }
 
 /// It expires in 5 seconds.
@@ -116,11 +121,16 @@ fn counts_the_dropped(
     rows: &[(Row<'_>, bool, u64)],
 ) -> Result<(), Fail> {
     for (row, purges, want) in rows {
-        assert_eq!(rt; first_unlike(store, alloc, &[*row])?, None);
+        answers(rt, alloc, store, &[*row])?;
         purge_at(store, row.0, *purges);
-        assert!(rt; reclaimed(store) == Some(*want), "not {want} at {}", row.0);
+        has_dropped(rt, store, *want, row.0);
     }
     Ok(())
+}
+
+/// Checks how many items were dropped.
+fn has_dropped(rt: &impl Abort, store: &mut Store<Constant>, want: u64, seconds: u64) {
+    assert!(rt; reclaimed(store) == Some(want), "not {want} at {seconds}");
 }
 
 /// Begins a purge of a shelf, and returns the number of removed items and of those left.
@@ -160,24 +170,37 @@ fn purges_begin(rt: &impl Abort, alloc: Global, shelf: &mut Shelf) {
 /// Returns a store of those items, in its first shelf.
 fn store_of_five(rt: &impl Abort, alloc: Global) -> Result<Store<Constant>, Fail> {
     let mut store = open_with(alloc, 64, Constant(5056))?;
-    assert_eq!(rt; first_unlike(&mut store, alloc, &DIE_LATER)?, None);
+    answers(rt, alloc, &mut store, &DIE_LATER)?;
     Ok(store)
+}
+
+/// Checks purges of the first of these shelves.
+fn purges_begin_at_first(rt: &impl Abort, alloc: Global, shelves: &mut [Shelf]) {
+    match shelves.first_mut() {
+        Some(shelf) => purges_begin(rt, alloc, shelf),
+        None => assert!(rt; false),
+    }
 }
 
 /// Dead items are removed once the purge has begun, and their chunks are kept for the desk.
 #[test]
 fn a_purge_begins_at_the_shelf_alone(rt: HostRuntime) -> Result<(), Fail> {
-    let mut shelves = store_of_five(&rt, rt.alloc())?.into_parts().shelves;
-    match shelves.first_mut() {
-        Some(shelf) => purges_begin(&rt, rt.alloc(), shelf),
-        None => assert!(rt; false),
-    }
+    let StoreParts { mut shelves, .. } = store_of_five(&rt, rt.alloc())?.into_parts();
+    purges_begin_at_first(&rt, rt.alloc(), &mut shelves);
     Ok(())
 }
 
-/// Returns a store with keys of each length from 1 to a length of at most 250.
+/// Sets keys of each length from 1 to `many`, fronts of `long`.
 ///
 /// A few entries are moved after each key, so that a growth runs for a while.
+fn set_keys<K: KeyHash + Drop>(store: &mut Store<K>, alloc: Global, long: &[u8], many: usize) {
+    for before in 0..many {
+        set_key(store, alloc, front(long, before + 1));
+        let _ = store.grow(0, 2);
+    }
+}
+
+/// Returns a store with keys of each length from 1 to a length of at most 250.
 fn store_of<K: KeyHash + Drop + Copy>(
     alloc: Global,
     hasher: K,
@@ -185,14 +208,19 @@ fn store_of<K: KeyHash + Drop + Copy>(
 ) -> Result<Store<K>, AllocError> {
     let long = filled_block(alloc, 250)?;
     let mut store = open_with(alloc, 64, hasher)?;
-    let now = Moment::from_seconds_at_most(1000);
-    for before in 0..many {
-        let key = front(long.as_slice(), before + 1);
-        let step = step_of(key, Ask::Store(Verb::Set, 0, b"x"));
-        let _ = ask_step(&mut store, alloc, &step, now);
-        let _ = store.grow(0, 2);
-    }
+    set_keys(&mut store, alloc, long.as_slice(), many);
     Ok(store)
+}
+
+/// Returns the number of such a store's items, and of its keys with a number.
+fn keys_of<K: KeyHash + Drop + Copy>(
+    alloc: Global,
+    hasher: K,
+    many: usize,
+    number: usize,
+) -> Result<(usize, u64), AllocError> {
+    let mut store = store_of(alloc, hasher, many)?;
+    Ok(keys(&mut store, number))
 }
 
 /// The table of 64 homes grows before the 49th key comes, and that of 128 before the 97th.
@@ -214,19 +242,23 @@ fn keys_are_counted_by_their_numbers(rt: HostRuntime) -> Result<(), Fail> {
         (250, 3840, 15),
     ];
     for (many, number, want) in &ROWS {
-        let mut store = store_of(rt.alloc(), ByLength, *many)?;
-        let (_, has) = keys(&mut store, *number);
+        let (_, has) = keys_of(rt.alloc(), ByLength, *many, *number)?;
         assert!(rt; has == *want, "{has} of {number} after {many} keys");
     }
     Ok(())
 }
 
 /// Returns how many entries of the first shelf are strays, and how many are in an old table.
-fn apart<K: KeyHash + Drop>(store: Store<K>) -> (u64, u64) {
-    match counts(store) {
+fn apart(counts: Option<ShelfCounts>) -> (u64, u64) {
+    match counts {
         Some(counts) => (counts.strays, counts.left),
         None => (0, 0),
     }
+}
+
+/// Returns the counts of the first shelf after keys of one hash.
+fn counts_of(alloc: Global, many: usize) -> Result<Option<ShelfCounts>, AllocError> {
+    Ok(counts(store_of(alloc, Constant(0), many)?))
 }
 
 /// A table takes 32 keys of one hash, and two are moved after each key.
@@ -241,7 +273,7 @@ fn keys_that_find_no_bucket_are_strays(rt: HostRuntime) -> Result<(), Fail> {
         (35, (1, 28)),
     ];
     for (many, want) in &ROWS {
-        let has = apart(store_of(rt.alloc(), Constant(0), *many)?);
+        let has = apart(counts_of(rt.alloc(), *many)?);
         assert!(rt; has == *want, "{} and {} after {many} keys", has.0, has.1);
     }
     Ok(())
@@ -261,8 +293,7 @@ fn strays_are_counted(rt: HostRuntime) -> Result<(), Fail> {
         (120, 0, 120),
     ];
     for (many, number, want) in &ROWS {
-        let mut store = store_of(rt.alloc(), Constant(0), *many)?;
-        let has = keys(&mut store, *number);
+        let has = keys_of(rt.alloc(), Constant(0), *many, *number)?;
         assert!(rt;
             has == (*many, *want),
             "{} of {number} after {many} keys",

@@ -3,14 +3,14 @@
 //! If their class has a free chunk, the new item goes into the chunk of the old one. If memory is
 //! refused the store is unchanged, and takes the step at the second try.
 
-use crate::plays::{Act, Play, first_unread, seen_of, small_items};
+use crate::plays::are_answered;
 use crate::seen::account;
 use crate::store_tests::answers;
-use crate::stores::open;
+use crate::stores::{open, small_items};
 use mc_hop::Fnv;
 use mc_protocol::{Bytes, KeyStep, Reply, Verb};
 use mc_shelf::Store;
-use mc_testing::{Ask, Row, Want, ask_step, set};
+use mc_testing::{Act, Ask, Play, Row, Want, ask_step, first_unread};
 use mc_time::Moment;
 use std::alloc::Global;
 use std::process::Abort;
@@ -69,7 +69,7 @@ fn has_its_flags(rt: &impl Abort, alloc: Global, store: &mut Store<Fnv>, flags: 
     let stored = set_flags(store, alloc, flags);
     assert!(rt; stored, "with flags {flags}");
     let read = flags_of(store, alloc);
-    assert_eq!(rt; read, Some(flags));
+    assert!(rt; read == Some(flags), "not {flags}");
 }
 
 #[test]
@@ -96,9 +96,14 @@ static KEEP_THE_ACCOUNT: [(Row<'static>, u32); 5] = [
 fn keeps_the_account(rt: &impl Abort, alloc: Global, store: &mut Store<Fnv>) -> Result<(), Fail> {
     for (row, want) in &KEEP_THE_ACCOUNT {
         answers(rt, alloc, store, &[*row])?;
-        assert_eq!(rt; account(store, 96), (1, *want));
+        has_account(rt, store, (1, *want));
     }
     Ok(())
+}
+
+/// Checks the account of the smallest class.
+fn has_account(rt: &impl Abort, store: &mut Store<Fnv>, want: (u32, u32)) {
+    assert_eq!(rt; account(store, 96), want);
 }
 
 /// The smallest class has a page and one chunk out after each set, and none after the delete.
@@ -120,11 +125,7 @@ static NO_PAGE: [Play; 4] = [
 /// With one page none is free beside the item's, and the old item stays.
 #[test]
 fn no_chunk_is_free_and_no_page_left(rt: HostRuntime) -> Result<(), Fail> {
-    assert_eq!(rt;
-        seen_of(rt.alloc(), small_items(1), &NO_PAGE)?,
-        (None, (1, 1))
-    );
-    Ok(())
+    are_answered(&rt, rt.alloc(), small_items(1), &NO_PAGE, (1, 1))
 }
 
 static A_PAGE: [Play; 5] = [
@@ -141,39 +142,55 @@ static A_PAGE: [Play; 5] = [
 /// page is taken.
 #[test]
 fn no_chunk_is_free_and_a_page_comes(rt: HostRuntime) -> Result<(), Fail> {
-    assert_eq!(rt;
-        seen_of(rt.alloc(), small_items(2), &A_PAGE)?,
-        (None, (2, 1))
-    );
-    Ok(())
+    are_answered(&rt, rt.alloc(), small_items(2), &A_PAGE, (2, 1))
 }
 
-/// A block of 49 bytes. Its middle 47 fill a chunk of the smallest class with a key of one.
+/// A block of 45 bytes, which other bytes come around.
+const MIDDLE: &[u8] = b"xxxxxxxxxxxxxxxxxxxxxxxxxxxxxxxxxxxxxxxxxxxxx";
+
+/// A block of 47 bytes fills a chunk of the smallest class with a key of one.
+const FILLS: &[u8] = b"axxxxxxxxxxxxxxxxxxxxxxxxxxxxxxxxxxxxxxxxxxxxxb";
+
+const ONE_MORE: &[u8] = b"axxxxxxxxxxxxxxxxxxxxxxxxxxxxxxxxxxxxxxxxxxxxxbc";
+
 const WHOLE: &[u8] = b"daxxxxxxxxxxxxxxxxxxxxxxxxxxxxxxxxxxxxxxxxxxxxxbc";
 
-/// Returns the row of a join.
-fn join<'a>(seconds: u64, verb: Verb, block: &'a [u8], told: &'static str) -> Row<'a> {
-    (seconds, b"k", Ask::Store(verb, 0, block), Want::Told(told))
-}
+/// Rows, and the chunks out of the two smallest classes after each.
+static JOIN_TO_THE_END: [(Row<'static>, u32, u32); 9] = [
+    ((1000, b"k", Ask::Store(Verb::Set, 0, b"a"), STORED), 1, 0),
+    (
+        (1000, b"k", Ask::Store(Verb::Append, 0, MIDDLE), STORED),
+        1,
+        0,
+    ),
+    (
+        (1000, b"k", Ask::Store(Verb::Append, 0, b"b"), STORED),
+        1,
+        0,
+    ),
+    ((1000, b"k", Ask::Store(Verb::Append, 0, b""), STORED), 1, 0),
+    ((1000, b"k", Ask::Get, Want::Hit(4, FILLS)), 1, 0),
+    (
+        (1000, b"k", Ask::Store(Verb::Append, 0, b"c"), STORED),
+        0,
+        1,
+    ),
+    ((1000, b"k", Ask::Get, Want::Hit(5, ONE_MORE)), 0, 1),
+    (
+        (1000, b"k", Ask::Store(Verb::Prepend, 0, b"d"), STORED),
+        0,
+        1,
+    ),
+    ((1000, b"k", Ask::Get, Want::Hit(6, WHOLE)), 0, 1),
+];
 
 /// Appended bytes stay in the chunk up to its last byte.
 ///
 /// One byte more takes a chunk of the next class, and the first is free.
 #[test]
 fn joins_end_where_a_chunk_does(rt: HostRuntime) -> Result<(), Fail> {
-    let rows: [(Row<'_>, u32, u32); 9] = [
-        (set(1000, b"k", 0, &WHOLE[1..2], "stored"), 1, 0),
-        (join(1000, Verb::Append, &WHOLE[2..47], "stored"), 1, 0),
-        (join(1000, Verb::Append, &WHOLE[47..48], "stored"), 1, 0),
-        (join(1000, Verb::Append, b"", "stored"), 1, 0),
-        ((1000, b"k", Ask::Get, Want::Hit(4, &WHOLE[1..48])), 1, 0),
-        (join(1000, Verb::Append, &WHOLE[48..49], "stored"), 0, 1),
-        ((1000, b"k", Ask::Get, Want::Hit(5, &WHOLE[1..49])), 0, 1),
-        (join(1000, Verb::Prepend, &WHOLE[..1], "stored"), 0, 1),
-        ((1000, b"k", Ask::Get, Want::Hit(6, WHOLE)), 0, 1),
-    ];
     let mut store = open(rt.alloc(), 2)?;
-    moves_between(&rt, rt.alloc(), &mut store, &rows)
+    moves_between(&rt, rt.alloc(), &mut store, &JOIN_TO_THE_END)
 }
 
 /// Checks after each row how many chunks of the two smallest classes are out.
@@ -185,10 +202,15 @@ fn moves_between(
 ) -> Result<(), Fail> {
     for (row, least, next) in rows {
         answers(rt, alloc, store, &[*row])?;
-        let out = (account(store, 96).1, account(store, 120).1);
-        assert_eq!(rt; out, (*least, *next));
+        are_out(rt, store, (*least, *next));
     }
     Ok(())
+}
+
+/// Checks how many chunks of the two smallest classes are out.
+fn are_out(rt: &impl Abort, store: &mut Store<Fnv>, want: (u32, u32)) {
+    let out = (account(store, 96).1, account(store, 120).1);
+    assert_eq!(rt; out, want);
 }
 
 static JOINED: [Row<'static>; 12] = [
@@ -217,8 +239,13 @@ static JOINED: [Row<'static>; 12] = [
 #[test]
 fn a_join_is_of_its_moment(rt: HostRuntime) -> Result<(), Fail> {
     let mut store = open(rt.alloc(), 4)?;
-    assert_eq!(rt; first_unread(&mut store, rt.alloc(), &JOINED), None);
+    answers_unread(&rt, rt.alloc(), &mut store, &JOINED);
     Ok(())
+}
+
+/// Checks that the store has the expected reply to each row. No key is read before its step.
+fn answers_unread(rt: &impl Abort, alloc: Global, store: &mut Store<Fnv>, rows: &[Row<'_>]) {
+    assert_eq!(rt; first_unread(store, alloc, rows), None);
 }
 
 static NO_JOIN: [Play; 4] = [
@@ -231,11 +258,7 @@ static NO_JOIN: [Play; 4] = [
 /// Without a free chunk and a page, a join that would stay in the chunk is refused too.
 #[test]
 fn a_join_wants_a_free_chunk(rt: HostRuntime) -> Result<(), Fail> {
-    assert_eq!(rt;
-        seen_of(rt.alloc(), small_items(1), &NO_JOIN)?,
-        (None, (1, 1))
-    );
-    Ok(())
+    are_answered(&rt, rt.alloc(), small_items(1), &NO_JOIN, (1, 1))
 }
 
 static JOINS: [Play; 4] = [
@@ -248,9 +271,5 @@ static JOINS: [Play; 4] = [
 /// The first join takes the second page. From then on a chunk is free, and joins stay in theirs.
 #[test]
 fn a_join_takes_a_page_once(rt: HostRuntime) -> Result<(), Fail> {
-    assert_eq!(rt;
-        seen_of(rt.alloc(), small_items(2), &JOINS)?,
-        (None, (2, 1))
-    );
-    Ok(())
+    are_answered(&rt, rt.alloc(), small_items(2), &JOINS, (2, 1))
 }

@@ -1,13 +1,17 @@
 //! Items of several pages: which chunks they take, and what a dead one gives back first.
 
-use crate::parted::{Both, asked_in_parts, first_apart, open_both};
-use crate::plays::{Act, PAGE, Play, is_answered, large_items, part, seen_of, seen_unread};
+use crate::both::{Both, asked_in_parts, first_apart, open_both};
+use crate::plays::{PAGE, are_answered, are_answered_unread};
 use crate::seen::account;
-use crate::stores::set_up;
+use crate::stores::{large_items, set_up};
+use core::mem::replace_with;
 use mc_hop::Fnv;
-use mc_protocol::{StepFault, Steps, Verb};
+use mc_protocol::{Steps, Verb};
 use mc_shelf::Store;
-use mc_testing::{Ask, Row, Want, filled_block, set, step_of, told_of};
+use mc_testing::{
+    Act, Ask, Play, Row, Want, bounded_block, filled_block, front, is_answered, join, set, step_of,
+    told_of,
+};
 use mc_time::Moment;
 use std::alloc::{AllocError, Global};
 use std::process::Abort;
@@ -34,8 +38,7 @@ static LIVE: [Play; 5] = [
 /// An item that isn't dead keeps its pages until the new one has its own.
 #[test]
 fn one_that_stands_gives_its_pages_last(rt: HostRuntime) -> Result<(), Fail> {
-    assert_eq!(rt; seen_of(rt.alloc(), large_items(4), &LIVE)?, (None, (2, 0)));
-    Ok(())
+    are_answered(&rt, rt.alloc(), large_items(4), &LIVE, (2, 0))
 }
 
 // The item of `k` dies at 1010, and the set then is the first step on `k`.
@@ -51,11 +54,7 @@ static SHORTER: [Play; 5] = [
 /// A dead item of three pages gives way to one of two, and another item takes the third.
 #[test]
 fn a_dead_one_gives_way_to_a_shorter(rt: HostRuntime) -> Result<(), Fail> {
-    assert_eq!(rt;
-        seen_unread(rt.alloc(), large_items(3), &SHORTER)?,
-        (None, (3, 3))
-    );
-    Ok(())
+    are_answered_unread(&rt, rt.alloc(), large_items(3), &SHORTER, (3, 3))
 }
 
 static FULL: [Play; 4] = [
@@ -68,38 +67,40 @@ static FULL: [Play; 4] = [
 /// The dead item is dropped even if its pages are also too few.
 #[test]
 fn a_dead_one_goes_where_no_room_is(rt: HostRuntime) -> Result<(), Fail> {
-    assert_eq!(rt;
-        seen_unread(rt.alloc(), large_items(3), &FULL)?,
-        (None, (3, 3))
-    );
-    Ok(())
+    are_answered_unread(&rt, rt.alloc(), large_items(3), &FULL, (3, 3))
 }
 
 /// Sets `k` at 1010, when its item of two pages is dead. Returns whether it is stored.
 ///
 /// If memory is refused the two pages must still be out, and the second try must store it.
 fn gives_way(store: &mut Store<Fnv>, alloc: Global, block: &[u8]) -> bool {
+    let told = set_told(store, alloc, block);
+    if told != "no memory" {
+        return told == "stored";
+    }
+    account(store, PAGE) == (2, 2) && set_told(store, alloc, block) == "stored"
+}
+
+/// Sets `k` at 1010 once, and returns the name of the result.
+fn set_told(store: &mut Store<Fnv>, alloc: Global, block: &[u8]) -> &'static str {
     let now = Moment::from_seconds_at_most(1010);
     let step = step_of(b"k", Ask::Store(Verb::Set, 0, block));
-    let first = store.step(alloc, &step, now);
-    match first {
-        Err(StepFault::NoMemory) => {
-            let has = account(store, PAGE);
-            let told = told_of(&store.step(alloc, &step, now));
-            has == (2, 2) && told == "stored"
-        }
-        _ => told_of(&first) == "stored",
-    }
+    told_of(&store.step(alloc, &step, now))
+}
+
+/// Sets an item of two pages, and one of three when it is dead. Returns whether it was right.
+fn gives_way_to_longer(store: &mut Store<Fnv>, alloc: Global, bytes: &[u8]) -> bool {
+    let dies = set(1000, b"k", 10, front(bytes, TWO), "stored");
+    let is_set = is_answered(store, alloc, dies);
+    let is_stored = gives_way(store, alloc, bytes);
+    let stands: Row<'_> = (1010, b"k", Ask::Get, Want::Hit(2, bytes));
+    is_set && is_stored && is_answered(store, alloc, stands)
 }
 
 /// Returns whether it was right in a store of three pages, and the account of their class then.
 fn seen_of_longer(alloc: Global, bytes: &[u8]) -> Result<(bool, (u32, u32)), AllocError> {
     let mut store = set_up(alloc, large_items(3), Fnv)?;
-    let dies = set(1000, b"k", 10, part(bytes, TWO), "stored");
-    let is_set = is_answered(&mut store, alloc, dies);
-    let is_stored = gives_way(&mut store, alloc, bytes);
-    let stands: Row<'_> = (1010, b"k", Ask::Get, Want::Hit(2, bytes));
-    let is_right = is_set && is_stored && is_answered(&mut store, alloc, stands);
+    let is_right = gives_way_to_longer(&mut store, alloc, bytes);
     Ok((is_right, account(&mut store, PAGE)))
 }
 
@@ -126,11 +127,7 @@ static GROWING: [Play; 4] = [
 /// A block in several pages is joined from others.
 #[test]
 fn joins_go_over_pages(rt: HostRuntime) -> Result<(), Fail> {
-    assert_eq!(rt;
-        seen_of(rt.alloc(), large_items(6), &GROWING)?,
-        (None, (6, 3))
-    );
-    Ok(())
+    are_answered(&rt, rt.alloc(), large_items(6), &GROWING, (6, 3))
 }
 
 static STAYING: [Play; 5] = [
@@ -146,29 +143,7 @@ static STAYING: [Play; 5] = [
 /// One that needs three finds too few.
 #[test]
 fn joins_stay_in_their_pages(rt: HostRuntime) -> Result<(), Fail> {
-    assert_eq!(rt;
-        seen_of(rt.alloc(), large_items(4), &STAYING)?,
-        (None, (4, 2))
-    );
-    Ok(())
-}
-
-/// Returns the row of a join.
-fn join<'a>(verb: Verb, block: &'a [u8]) -> Row<'a> {
-    let ask = Ask::Store(verb, 0, block);
-    (1000, b"k", ask, Want::Told("stored"))
-}
-
-/// Returns `many` bytes; the first and the last differ from the others.
-fn bounded(alloc: Global, many: usize) -> Result<Vec<u8>, AllocError> {
-    let mut bytes = filled_block(alloc, many)?;
-    if let Some(first) = bytes.get_mut(0) {
-        *first = b'a';
-    }
-    if let Some(last) = bytes.get_mut(many.saturating_sub(1)) {
-        *last = b'z';
-    }
-    Ok(bytes)
+    are_answered(&rt, rt.alloc(), large_items(4), &STAYING, (4, 2))
 }
 
 /// Returns the accounts of the last class in both.
@@ -180,30 +155,33 @@ fn accounts(both: Both) -> [(u32, u32); 2] {
     [account(&mut whole, PAGE), account(&mut parted, PAGE)]
 }
 
-/// Joins a block of 1,500,000 bytes, one of 900,000, the first byte and the last, in two stores.
-///
-/// `all` is the whole block. Returns the first row for which they differ, and their accounts.
+/// Returns the rows that join a block of 1,500,000 bytes, one of 900,000, the first byte and the
+/// last. `all` is the whole block.
+fn rows_of_joins(all: &[u8]) -> [Row<'_>; 5] {
+    let (_, inner) = all.split_at(all.len().min(1));
+    [
+        set(1000, b"k", 0, front(inner, 1_500_000), "stored"),
+        join(Verb::Append, front(inner, 900_000), "stored"),
+        join(Verb::Prepend, b"a", "stored"),
+        join(Verb::Append, b"z", "stored"),
+        (1000, b"k", Ask::Get, Want::Hit(4, all)),
+    ]
+}
+
+/// Returns the first row for which two stores differ, and their accounts.
 fn seen_of_joins(
     alloc: Global,
-    all: &[u8],
+    rows: &[Row<'_>],
 ) -> Result<(Option<usize>, [(u32, u32); 2]), AllocError> {
-    let (_, inner) = all.split_at(all.len().min(1));
-    let rows: [Row<'_>; 5] = [
-        set(1000, b"k", 0, part(inner, 1_500_000), "stored"),
-        join(Verb::Append, part(inner, 900_000)),
-        join(Verb::Prepend, b"a"),
-        join(Verb::Append, b"z"),
-        (1000, b"k", Ask::Get, Want::Hit(4, all)),
-    ];
-    let (both, apart) = first_apart(alloc, open_both(alloc, large_items(6))?, &rows);
+    let (both, apart) = first_apart(alloc, open_both(alloc, large_items(6))?, rows);
     Ok((apart, accounts(both)))
 }
 
 /// A join that is begun, with pages in exchange, and then finished is the whole join.
 #[test]
 fn joins_of_pages_go_in_two_parts(rt: HostRuntime) -> Result<(), Fail> {
-    let all = bounded(rt.alloc(), 2_400_002)?;
-    let seen = seen_of_joins(rt.alloc(), all.as_slice())?;
+    let all = bounded_block(rt.alloc(), 2_400_002)?;
+    let seen = seen_of_joins(rt.alloc(), &rows_of_joins(all.as_slice()))?;
     assert_eq!(rt; seen, (None, [(6, 3), (6, 3)]));
     Ok(())
 }
@@ -219,12 +197,8 @@ static LEFT: [(Verb, usize, bool); 5] = [
 ];
 
 /// Joins a block to `k` in two parts. Returns whether it is stored, and whether it was left.
-fn joined_in_parts(
-    store: Store<Fnv>,
-    alloc: Global,
-    verb: Verb,
-    block: &[u8],
-) -> (Store<Fnv>, (bool, bool)) {
+fn joined_in_parts(store: Store<Fnv>, joined: (Global, Verb, &[u8])) -> (Store<Fnv>, (bool, bool)) {
+    let (alloc, verb, block) = joined;
     let step = step_of(b"k", Ask::Store(verb, 0, block));
     let mut left = false;
     let now = Moment::from_seconds_at_most(1000);
@@ -232,16 +206,21 @@ fn joined_in_parts(
     (store, (told_of(&answer) == "stored", left))
 }
 
-/// Checks which joins are left, in a store of 16 pages that has a block of 400,000 bytes.
-fn joins_are_left(rt: &impl Abort, alloc: Global, bytes: &[u8]) -> Result<(), AllocError> {
-    let mut store = set_up(alloc, large_items(16), Fnv)?;
-    let first = set(1000, b"k", 0, part(bytes, 400_000), "stored");
-    assert!(rt; is_answered(&mut store, alloc, first));
+/// Checks which joins are left, in a store of 16 pages.
+fn joins_are_left_in(rt: &impl Abort, alloc: Global, store: &mut Store<Fnv>, bytes: &[u8]) {
+    let first = set(1000, b"k", 0, front(bytes, 400_000), "stored");
+    assert!(rt; is_answered(store, alloc, first));
     for (verb, len, want) in &LEFT {
-        let (same, seen) = joined_in_parts(store, alloc, *verb, part(bytes, *len));
-        store = same;
+        let joined = (alloc, *verb, front(bytes, *len));
+        let seen = replace_with(store, joined, joined_in_parts);
         assert_eq!(rt; seen, (true, *want));
     }
+}
+
+/// The same, in a new store.
+fn joins_are_left(rt: &impl Abort, alloc: Global, bytes: &[u8]) -> Result<(), AllocError> {
+    let mut store = set_up(alloc, large_items(16), Fnv)?;
+    joins_are_left_in(rt, alloc, &mut store, bytes);
     Ok(())
 }
 

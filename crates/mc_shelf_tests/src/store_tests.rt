@@ -3,14 +3,17 @@
 //!
 //! If memory is refused the store is unchanged, and takes the step at the second try.
 
-use crate::parted::{first_apart, open_both};
-use crate::plays::{Act, Play, first_wrong, seen_of, small_items};
+use crate::both::{Both, first_apart, open_both};
+use crate::plays::are_answered;
 use crate::seen::{account, may_have_dead, remade};
-use crate::stores::{open, open_with, set_up};
+use crate::stores::{open, open_with, set_up, small_items};
 use mc_hop::{Constant, Fnv};
 use mc_protocol::{StepFault, Steps, Verb};
 use mc_shelf::{Settings, Store};
-use mc_testing::{Ask, Row, Want, ask_step, filled_block, first_unlike, set, step_of, told_of};
+use mc_testing::{
+    Act, Ask, Play, Row, Want, ask_step, filled_block, first_unlike, first_wrong, front, set,
+    step_of, told_of,
+};
 use mc_time::Moment;
 use std::alloc::{AllocError, Global};
 use std::process::Abort;
@@ -38,22 +41,17 @@ const EACH: [Settings; 3] = [
 /// Returns a store of one page with one unique number left. It allocates twice if memory is
 /// refused.
 fn open_at_the_last(alloc: Global) -> Result<Store<Fnv>, AllocError> {
-    let settings = Settings {
-        pages: 1,
-        greatest: 1048576,
-        shelves: 64,
-    };
-    match Store::starting(alloc, settings, Fnv, u64::MAX - 1) {
-        Err(_) => Store::starting(alloc, settings, Fnv, u64::MAX - 1),
+    match Store::starting(alloc, small_items(1), Fnv, u64::MAX - 1) {
+        Err(_) => Store::starting(alloc, small_items(1), Fnv, u64::MAX - 1),
         made => made,
     }
 }
 
 /// Checks that the store has the expected reply to each row.
-pub(crate) fn answers(
+pub(crate) fn answers<S: Steps>(
     rt: &impl Abort,
     alloc: Global,
-    store: &mut Store<Fnv>,
+    store: &mut S,
     rows: &[Row<'_>],
 ) -> Result<(), Fail> {
     assert_eq!(rt; first_unlike(store, alloc, rows)?, None);
@@ -186,10 +184,15 @@ fn takes_and_frees(
     for (row, want) in rows {
         answers(rt, alloc, store, &[*row])?;
         purge_all(store, row.0);
-        let (_, out) = account(store, 96);
-        assert!(rt; out == *want, "{out} are out");
+        are_out(rt, store, *want);
     }
     Ok(())
+}
+
+/// Checks how many chunks of the smallest class are out.
+fn are_out(rt: &impl Abort, store: &mut Store<Fnv>, want: u32) {
+    let (_, out) = account(store, 96);
+    assert!(rt; out == want, "{out} are out");
 }
 
 /// Returns the name of the result of a step at 1000 that isn't tried again.
@@ -299,11 +302,7 @@ static OTHERS: [Play; 10] = [
 
 #[test]
 fn a_chunk_that_comes_back_serves_another_shelf(rt: HostRuntime) -> Result<(), Fail> {
-    assert_eq!(rt;
-        seen_of(rt.alloc(), small_items(1), &OTHERS)?,
-        (None, (1, 1))
-    );
-    Ok(())
+    are_answered(&rt, rt.alloc(), small_items(1), &OTHERS, (1, 1))
 }
 
 static DIES: [Play; 2] = [
@@ -336,14 +335,29 @@ fn seen_of_purges(
     Ok([before, between, after])
 }
 
+/// Checks those purges.
+fn drops_the_dead(
+    rt: &impl Abort,
+    alloc: Global,
+    store: &mut Store<Fnv>,
+    bytes: &[u8],
+) -> Result<(), Fail> {
+    let seen = seen_of_purges(store, alloc, bytes)?;
+    assert_eq!(rt; seen, [None, None, None]);
+    has_64_shelves(rt, store);
+    Ok(())
+}
+
+/// Checks that a store has 64 shelves.
+fn has_64_shelves(rt: &impl Abort, store: &Store<Fnv>) {
+    assert_eq!(rt; store.settings().shelves, 64);
+}
+
 #[test]
 fn a_purge_drops_the_dead_of_one_shelf(rt: HostRuntime) -> Result<(), Fail> {
     let bytes = filled_block(rt.alloc(), LARGE)?;
     let mut store = open(rt.alloc(), 1)?;
-    let seen = seen_of_purges(&mut store, rt.alloc(), bytes.as_slice())?;
-    assert_eq!(rt; seen, [None, None, None]);
-    assert_eq!(rt; store.settings().shelves, 64);
-    Ok(())
+    drops_the_dead(&rt, rt.alloc(), &mut store, bytes.as_slice())
 }
 
 const X: Ask<'static> = Ask::Store(Verb::Set, 0, b"x");
@@ -405,33 +419,51 @@ fn tells_of_dead(
 ) -> Result<(), Fail> {
     for (row, seconds, want) in rows {
         answers(rt, alloc, store, &[*row])?;
-        let may = may_have_dead(store, Moment::from_seconds_at_most(*seconds));
-        assert!(rt; may == *want, "{may} at {seconds}");
+        tells_whether_dead(rt, store, *seconds, *want);
     }
     Ok(())
 }
 
+/// Checks whether an item may be dead at a second.
+fn tells_whether_dead(rt: &impl Abort, store: &mut Store<Fnv>, seconds: u64, want: bool) {
+    let may = may_have_dead(store, Moment::from_seconds_at_most(seconds));
+    assert!(rt; may == want, "{may} at {seconds}");
+}
+
+/// Steps on a store, and then on one that is made again from its parts.
+static BEFORE: [Row<'static>; 4] = [
+    (1000, b"a", Ask::Store(Verb::Set, 0, b"x"), STORED),
+    (1000, b"b", Ask::Store(Verb::Set, 10, b"y"), STORED),
+    (1000, b"k", Ask::Store(Verb::Set, 0, b"9"), STORED),
+    (1000, b"k", Ask::Flush(20), Want::Told("flushed")),
+];
+
+static AFTER: [Row<'static>; 6] = [
+    (1001, b"a", Ask::Get, Want::Hit(1, b"x")),
+    (1001, b"k", Ask::Incr(1), Want::Number(10)),
+    (1001, b"k", Ask::Get, Want::Hit(4, b"10")),
+    (1010, b"b", Ask::Get, Want::Told("miss")),
+    (1019, b"a", Ask::Get, Want::Hit(1, b"x")),
+    (1020, b"a", Ask::Get, Want::Told("miss")),
+];
+
+/// Returns a store that had the first of them.
+fn store_before(rt: &impl Abort, alloc: Global) -> Result<Store<Fnv>, Fail> {
+    let mut store = open(alloc, 64)?;
+    answers(rt, alloc, &mut store, &BEFORE)?;
+    Ok(store)
+}
+
+/// Checks a store that was made again.
+fn answers_as_before(rt: &impl Abort, alloc: Global, store: &mut Store<Fnv>) -> Result<(), Fail> {
+    has_64_shelves(rt, store);
+    answers(rt, alloc, store, &AFTER)
+}
+
 #[test]
 fn a_store_of_parts_answers_as_before(rt: HostRuntime) -> Result<(), Fail> {
-    static FIRST: [Row<'static>; 4] = [
-        (1000, b"a", Ask::Store(Verb::Set, 0, b"x"), STORED),
-        (1000, b"b", Ask::Store(Verb::Set, 10, b"y"), STORED),
-        (1000, b"k", Ask::Store(Verb::Set, 0, b"9"), STORED),
-        (1000, b"k", Ask::Flush(20), Want::Told("flushed")),
-    ];
-    static THEN: [Row<'static>; 6] = [
-        (1001, b"a", Ask::Get, Want::Hit(1, b"x")),
-        (1001, b"k", Ask::Incr(1), Want::Number(10)),
-        (1001, b"k", Ask::Get, Want::Hit(4, b"10")),
-        (1010, b"b", Ask::Get, Want::Told("miss")),
-        (1019, b"a", Ask::Get, Want::Hit(1, b"x")),
-        (1020, b"a", Ask::Get, Want::Told("miss")),
-    ];
-    let mut store = open(rt.alloc(), 64)?;
-    answers(&rt, rt.alloc(), &mut store, &FIRST)?;
-    let mut store = remade(store);
-    assert_eq!(rt; store.settings().shelves, 64);
-    answers(&rt, rt.alloc(), &mut store, &THEN)
+    let mut store = remade(store_before(&rt, rt.alloc())?);
+    answers_as_before(&rt, rt.alloc(), &mut store)
 }
 
 /// Returns the reply to a step on the key of one byte at 1000.
@@ -485,6 +517,51 @@ fn entries_are_moved_while_a_table_grows(rt: HostRuntime) -> Result<(), Fail> {
     Ok(())
 }
 
+/// Blocks of 60, 61 and 62 bytes.
+const OF_60: &[u8] = b"xxxxxxxxxxxxxxxxxxxxxxxxxxxxxxxxxxxxxxxxxxxxxxxxxxxxxxxxxxxx";
+
+const OF_61: &[u8] = b"xxxxxxxxxxxxxxxxxxxxxxxxxxxxxxxxxxxxxxxxxxxxxxxxxxxxxxxxxxxxx";
+
+const OF_62: &[u8] = b"xxxxxxxxxxxxxxxxxxxxxxxxxxxxxxxxxxxxxxxxxxxxxxxxxxxxxxxxxxxxxx";
+
+static SHORT: [Row<'static>; 16] = [
+    (1000, b"k", Ask::Store(Verb::Set, 0, b"x"), STORED),
+    (1000, b"k", Ask::Get, Want::Hit(1, b"x")),
+    (1000, b"k", Ask::Store(Verb::Set, 0, b"yy"), STORED),
+    (1000, b"k", Ask::Get, Want::Hit(2, b"yy")),
+    (1000, b"k", Ask::Store(Verb::Set, 10, OF_60), STORED),
+    (1009, b"k", Ask::Get, Want::Hit(3, OF_60)),
+    (1010, b"k", Ask::Store(Verb::Set, 0, OF_61), STORED),
+    (1010, b"k", Ask::Get, Want::Hit(4, OF_61)),
+    (1010, b"k", Ask::Store(Verb::Append, 0, b"x"), STORED),
+    (1010, b"k", Ask::Get, Want::Hit(5, OF_62)),
+    (1010, b"k", Ask::Store(Verb::Set, 0, b"99"), STORED),
+    (1010, b"k", Ask::Incr(1), Want::Number(100)),
+    (1010, b"k", Ask::Get, Want::Hit(7, b"100")),
+    (1010, b"a", Ask::Store(Verb::Set, 0, b""), STORED),
+    (1010, b"k", Ask::Delete, Want::Told("deleted")),
+    (1010, b"k", Ask::Get, Want::Told("miss")),
+];
+
+/// Returns rows of fronts of a large block.
+fn rows_of_large(large: &[u8]) -> [Row<'_>; 6] {
+    [
+        set(1010, b"k", 0, front(large, 4096), "stored"),
+        set(1010, b"k", 0, front(large, 4100), "stored"),
+        (1010, b"k", Ask::Get, Want::Hit(10, front(large, 4100))),
+        set(1010, b"k", 10, large, "stored"),
+        set(1020, b"k", 0, front(large, 5999), "stored"),
+        (1020, b"k", Ask::Get, Want::Hit(12, front(large, 5999))),
+    ]
+}
+
+/// Checks that both have the expected reply to each row, and equal desks after it.
+fn are_answered_alike(rt: &impl Abort, alloc: Global, both: Both, rows: &[Row<'_>]) -> Both {
+    let (both, apart) = first_apart(alloc, both, rows);
+    assert_eq!(rt; apart, None);
+    both
+}
+
 /// A step that is begun and then finished has the reply and the result of the whole step.
 ///
 /// Steps: of a new key; of a live item that is replaced by one of its class, and by one of another;
@@ -492,34 +569,9 @@ fn entries_are_moved_while_a_table_grows(rt: HostRuntime) -> Result<(), Fail> {
 /// copied last.
 #[test]
 fn a_step_in_two_parts_is_the_whole_step(rt: HostRuntime) -> Result<(), Fail> {
-    let long = [b'x'; 62];
     let large = [b'y'; 6000];
-    let rows: [Row<'_>; 22] = [
-        set(1000, b"k", 0, b"x", "stored"),
-        (1000, b"k", Ask::Get, Want::Hit(1, b"x")),
-        set(1000, b"k", 0, b"yy", "stored"),
-        (1000, b"k", Ask::Get, Want::Hit(2, b"yy")),
-        set(1000, b"k", 10, &long[..60], "stored"),
-        (1009, b"k", Ask::Get, Want::Hit(3, &long[..60])),
-        set(1010, b"k", 0, &long[..61], "stored"),
-        (1010, b"k", Ask::Get, Want::Hit(4, &long[..61])),
-        (1010, b"k", Ask::Store(Verb::Append, 0, b"x"), STORED),
-        (1010, b"k", Ask::Get, Want::Hit(5, &long)),
-        set(1010, b"k", 0, b"99", "stored"),
-        (1010, b"k", Ask::Incr(1), Want::Number(100)),
-        (1010, b"k", Ask::Get, Want::Hit(7, b"100")),
-        set(1010, b"a", 0, b"", "stored"),
-        (1010, b"k", Ask::Delete, Want::Told("deleted")),
-        (1010, b"k", Ask::Get, Want::Told("miss")),
-        set(1010, b"k", 0, &large[..4096], "stored"),
-        set(1010, b"k", 0, &large[..4100], "stored"),
-        (1010, b"k", Ask::Get, Want::Hit(10, &large[..4100])),
-        set(1010, b"k", 10, &large, "stored"),
-        set(1020, b"k", 0, &large[..5999], "stored"),
-        (1020, b"k", Ask::Get, Want::Hit(12, &large[..5999])),
-    ];
     let both = open_both(rt.alloc(), small_items(4))?;
-    let (_, apart) = first_apart(rt.alloc(), both, &rows);
-    assert_eq!(rt; apart, None);
+    let both = are_answered_alike(&rt, rt.alloc(), both, &SHORT);
+    let _ = are_answered_alike(&rt, rt.alloc(), both, &rows_of_large(&large));
     Ok(())
 }

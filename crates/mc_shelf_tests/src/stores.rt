@@ -7,6 +7,28 @@ use mc_hop::{Fnv, KeyHash};
 use mc_shelf::{Settings, Store};
 use std::alloc::{AllocError, Global};
 
+/// Returns settings of stores with some pages, and with items of at most one.
+pub(crate) fn small_items(pages: u32) -> Settings
+    requires { (1 ≤ pages) × (pages ≤ 65536) }
+{
+    Settings {
+        pages,
+        greatest: Settings::GREATEST,
+        shelves: 64,
+    }
+}
+
+/// Returns settings of stores with some pages, and with items of up to eight.
+pub(crate) fn large_items(pages: u32) -> Settings
+    requires { (1 ≤ pages) × (pages ≤ 65536) }
+{
+    Settings {
+        pages,
+        greatest: Settings::MOST_GREATEST,
+        shelves: 64,
+    }
+}
+
 /// Returns an empty store with these settings.
 pub(crate) fn set_up<K: KeyHash + Drop + Copy>(
     alloc: Global,
@@ -32,12 +54,7 @@ pub(crate) fn open_with<K: KeyHash + Drop + Copy>(
 ) -> Result<Store<K>, AllocError>
     requires { (1 ≤ pages) × (pages ≤ 65536) }
 {
-    let settings = Settings {
-        pages,
-        greatest: Settings::GREATEST,
-        shelves: 64,
-    };
-    set_up(alloc, settings, hasher)
+    set_up(alloc, small_items(pages), hasher)
 }
 
 /// Returns the same, with Fnv as the hash of keys.

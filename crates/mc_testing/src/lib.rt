@@ -12,7 +12,7 @@
 //!
 //! A [`Row`] is a step at a moment with its expected answer. [`first_unlike`] takes the steps of
 //! rows over any store (`mc_protocol`'s `Steps`), and returns the first whose answer differs. So
-//! every store is tested with the same rows.
+//! every store is tested with the same rows. A [`Play`] is a row that gives its block by a length.
 //!
 //! It has hardly any contracts, and is proved safe as all else is. It uses only mc_time, mc_hop and
 //! mc_protocol, so that tests of every store can use it. The rows of the plain store are in
@@ -26,6 +26,7 @@
 mod calls;
 mod dice;
 mod marks;
+mod plays;
 mod sessions;
 mod steps;
 mod streams;
@@ -33,8 +34,10 @@ mod streams;
 pub use calls::{Call, Calls};
 pub use dice::Dice;
 pub use marks::{Mark, add_mark, fill_marks, marks_table};
+pub use plays::{Act, Play, first_wrong, first_wrong_unread, front};
 pub use sessions::SESSIONS;
 pub use steps::{
-    Ask, Row, Want, ask_step, filled_block, first_unlike, is_same, is_wanted, set, step_of, told_of,
+    Ask, Row, Want, ask_step, bounded_block, filled_block, first_unlike, first_unread, is_answered,
+    is_same, is_wanted, join, set, step_of, told_of,
 };
 pub use streams::{Drip, Sip};

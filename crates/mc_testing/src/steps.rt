@@ -51,6 +51,11 @@ pub fn set<'a>(
     (seconds, key, ask, Want::Told(want))
 }
 
+/// Returns the row of a join to `k` at 1000.
+pub fn join<'a>(verb: Verb, block: &'a [u8], want: &'static str) -> Row<'a> {
+    (1000, b"k", Ask::Store(verb, 0, block), Want::Told(want))
+}
+
 /// Returns this step on a key of at most 250 bytes.
 pub fn step_of<'a>(key: &'a [u8], ask: Ask<'a>) -> KeyStep<'a>
     requires { length key.now ≤ longest_key }
@@ -162,6 +167,19 @@ pub fn ask_step<S: Steps>(
     }
 }
 
+/// Returns whether a step has the expected answer. It is taken again if memory is refused.
+///
+/// The key isn't read before the step, so the step meets the key's dead item.
+pub fn is_answered<S: Steps>(store: &mut S, alloc: Global, row: Row<'_>) -> bool {
+    let (seconds, key, ask, want) = row;
+    if key.len() > LONGEST_KEY {
+        return false;
+    }
+    let now = Moment::from_seconds_at_most(seconds);
+    let step = step_of(key, ask);
+    is_wanted(&ask_step(store, alloc, &step, now), want)
+}
+
 /// Takes a step, and once more if memory is refused.
 ///
 /// Returns `None` if the refusal changed the key's item.
@@ -215,10 +233,32 @@ pub fn first_unlike<S: Steps>(
     Ok(None)
 }
 
+/// Returns the place of the first row with an unexpected answer. No key is read before its step.
+pub fn first_unread<S: Steps>(store: &mut S, alloc: Global, rows: &[Row<'_>]) -> Option<usize> {
+    for (at, row) in rows.iter().enumerate() {
+        if !is_answered(store, alloc, *row) {
+            return Some(at);
+        }
+    }
+    None
+}
+
 /// Returns `len` bytes. It allocates once more if memory is refused.
 pub fn filled_block(alloc: Global, len: usize) -> Result<Vec<u8>, AllocError> {
     match vec![in alloc; b'x'; len] {
         Err(_) => vec![in alloc; b'x'; len],
         bytes => bytes,
     }
+}
+
+/// Returns `len` bytes; the first and the last differ from the others.
+pub fn bounded_block(alloc: Global, len: usize) -> Result<Vec<u8>, AllocError> {
+    let mut bytes = filled_block(alloc, len)?;
+    if let Some(first) = bytes.first_mut() {
+        *first = b'a';
+    }
+    if let Some(last) = bytes.last_mut() {
+        *last = b'z';
+    }
+    Ok(bytes)
 }

@@ -1,10 +1,13 @@
 //! The reports that a tally gets.
 
-use crate::held::{HeldLink, HeldLinks, Seen};
+ghost use Rattle.std.specs.Prelude.{◌≡◌};
+
+use crate::held::{HeldLink, Seen};
+use crate::serving::HeldLinks;
 use mc_guests::{Outcome, Tally};
 use mc_hop::Fnv;
 use mc_protocol::{Answer, Bytes, KeyStep, Reply, Steps, Verb};
-use mc_shared::{NoGate, Shared};
+use mc_shared::{Caller, NoGate, Shared};
 use mc_shelf::{Settings, Store};
 use mc_testing::{Ask, filled_block, step_of};
 use mc_time::{Fixed, Moment};
@@ -105,7 +108,7 @@ fn take<S: Steps>(store: &mut S, alloc: Global, key: &[u8], ask: Ask<'_>, way: W
 /// A key, a step on it, and its outcome.
 type Row = (&'static [u8], Ask<'static>, Outcome);
 
-const ROWS: [Row; 12] = [
+static ROWS: [Row; 12] = [
     (b"a", Ask::Get, Outcome::Miss),
     (b"a", Ask::Store(Verb::Set, 0, b"x"), Outcome::Stored),
     (b"a", Ask::Store(Verb::Add, 0, b"y"), Outcome::NotStored),
@@ -120,20 +123,34 @@ const ROWS: [Row; 12] = [
     (b"", Ask::Flush(0), Outcome::Flushed),
 ];
 
+/// Returns whether a step is reported once more, with the row's outcome.
+fn is_heard<S: Steps>(store: &mut S, alloc: Global, heard: &Heard, row: &Row, way: Way) -> bool {
+    let (key, ask, outcome) = *row;
+    let (times, ..) = heard.hearing.get();
+    take(store, alloc, key, ask, way);
+    heard.hearing.get() == (times.saturating_add(1), key.len(), Some(outcome))
+}
+
 /// Returns the first step that isn't reported once with the row's outcome.
+fn first_unheard_by<S: Steps>(
+    store: &mut S,
+    alloc: Global,
+    heard: &Heard,
+    way: Way,
+) -> Option<usize> {
+    for (at, row) in ROWS.iter().enumerate() {
+        if !is_heard(store, alloc, heard, row, way) {
+            return Some(at);
+        }
+    }
+    None
+}
+
+/// Returns the same for a new store.
 fn first_unheard(alloc: Global, way: Way) -> Result<Option<usize>, AllocError> {
     let heard = Heard::nothing();
     let mut counting = Counting::new(Store::new(alloc, SETTINGS, Fnv)?, &heard);
-    let mut wanted = heard.hearing.get();
-    for (at, row) in ROWS.iter().enumerate() {
-        let (key, ask, outcome) = *row;
-        take(&mut counting, alloc, key, ask, way);
-        wanted = (wanted.0.saturating_add(1), key.len(), Some(outcome));
-        if heard.hearing.get() != wanted {
-            return Ok(Some(at));
-        }
-    }
-    Ok(None)
+    Ok(first_unheard_by(&mut counting, alloc, &heard, way))
 }
 
 #[test]
@@ -144,43 +161,63 @@ fn a_tally_hears_how_each_step_came_out(rt: HostRuntime) -> Result<(), Fail> {
     Ok(())
 }
 
-/// Returns the report of a set of a block of this length, where `a` has the one page.
-fn heard_of_set(alloc: Global, length: usize, way: Way) -> Result<Hearing, AllocError> {
-    let (large, block) = (filled_block(alloc, 600000)?, filled_block(alloc, length)?);
+/// Returns a new store whose one page has `a`, which is set to this block.
+fn full_store(alloc: Global, block: &[u8]) -> Result<Store<Fnv>, AllocError> {
     let mut store = Store::new(alloc, SETTINGS, Fnv)?;
-    let set = Ask::Store(Verb::Set, 0, large.as_slice());
+    let set = Ask::Store(Verb::Set, 0, block);
     take(&mut store, alloc, b"a", set, Way::Answered);
+    Ok(store)
+}
+
+/// Returns the report of a set of `bb` to a block.
+fn heard_in(store: Store<Fnv>, alloc: Global, block: &[u8], way: Way) -> Hearing {
     let heard = Heard::nothing();
     let mut counting = Counting::new(store, &heard);
-    let set = Ask::Store(Verb::Set, 0, block.as_slice());
+    let set = Ask::Store(Verb::Set, 0, block);
     take(&mut counting, alloc, b"bb", set, way);
-    Ok(heard.hearing.get())
+    heard.hearing.get()
 }
+
+/// Returns the report of a set of `bb` to a block, where `a` has the one page.
+fn heard_of_block(
+    alloc: Global,
+    large: &[u8],
+    block: &[u8],
+    way: Way,
+) -> Result<Hearing, AllocError> {
+    Ok(heard_in(full_store(alloc, large)?, alloc, block, way))
+}
+
+/// Returns the report of a set of a block of this length, where `a` has the one page.
+fn heard_of_set(alloc: Global, length: usize, way: Way) -> Result<Hearing, AllocError> {
+    let large = filled_block(alloc, 600000)?;
+    let block = filled_block(alloc, length)?;
+    heard_of_block(alloc, large.as_slice(), block.as_slice(), way)
+}
+
+/// How a set is taken, the length of its block, and its outcome.
+static REFUSED: [(Way, usize, Outcome); 6] = [
+    (Way::Answered, 1, Outcome::NoChunk),
+    (Way::Answered, 1048576, Outcome::TooLarge),
+    (Way::Told, 1, Outcome::NoChunk),
+    (Way::Told, 1048576, Outcome::TooLarge),
+    (Way::Untold, 1, Outcome::NoChunk),
+    (Way::Untold, 1048576, Outcome::TooLarge),
+];
 
 #[test]
 fn a_tally_hears_of_sets_that_store_nothing(rt: HostRuntime) -> Result<(), Fail> {
-    for way in [Way::Answered, Way::Told, Way::Untold] {
-        let no_chunk = heard_of_set(rt.alloc(), 1, way)?;
-        assert_eq!(rt; no_chunk, (1, 2, Some(Outcome::NoChunk)));
-        let too_large = heard_of_set(rt.alloc(), 1048576, way)?;
-        assert_eq!(rt; too_large, (1, 2, Some(Outcome::TooLarge)));
+    for (way, length, outcome) in &REFUSED {
+        let heard = heard_of_set(rt.alloc(), *length, *way)?;
+        assert_eq!(rt; heard, (1, 2, Some(*outcome)));
     }
     Ok(())
 }
 
 /// Returns the report of a set with used-up unique numbers.
 fn heard_of_none(alloc: Global, way: Way) -> Result<Hearing, AllocError> {
-    let heard = Heard::nothing();
     let store = Store::starting(alloc, SETTINGS, Fnv, 18446744073709551615)?;
-    let mut counting = Counting::new(store, &heard);
-    take(
-        &mut counting,
-        alloc,
-        b"a",
-        Ask::Store(Verb::Set, 0, b"x"),
-        way,
-    );
-    Ok(heard.hearing.get())
+    Ok(heard_in(store, alloc, b"x", way))
 }
 
 #[test]
@@ -189,6 +226,28 @@ fn a_tally_hears_of_no_step_that_is_not_taken(rt: HostRuntime) -> Result<(), Fai
         assert_eq!(rt; heard_of_none(rt.alloc(), way)?, (0, 0, None));
     }
     Ok(())
+}
+
+/// Lets a worker with this tally serve a link.
+fn work_heard<R: Wait>(
+    rt: &R,
+    alloc: Global,
+    shared: &Shared<Fnv>,
+    caller: Caller,
+    link: HeldLink<'_>,
+    heard: &Heard,
+)
+    requires { caller.table ≡ shared.now.table }
+{
+    let clock = Fixed(Moment::from_seconds_at_most(1000));
+    let worker = Worker {
+        gate: &NoGate,
+        tally: heard,
+        clock: &clock,
+        first: 0,
+        share: usize::MAX,
+    };
+    let _ = worker.work(rt, alloc, shared, caller, &mut HeldLinks::one(link));
 }
 
 /// Returns the reports of the steps of one link.
@@ -200,17 +259,9 @@ fn heard_of_link<R: Wait>(
 ) -> Result<Hearing, AllocError> {
     let seen = Seen::nothing();
     let heard = Heard::nothing();
+    let link = HeldLink::new(alloc, input, output, &seen);
     let (shared, caller) = Shared::new(alloc, SETTINGS, Fnv)?;
-    let mut links = HeldLinks::one(HeldLink::new(alloc, input, output, &seen));
-    let clock = Fixed(Moment::from_seconds_at_most(1000));
-    let worker = Worker {
-        gate: &NoGate,
-        tally: &heard,
-        clock: &clock,
-        first: 0,
-        share: usize::MAX,
-    };
-    let _ = worker.work(rt, alloc, &shared, caller, &mut links);
+    work_heard(rt, alloc, &shared, caller, link, &heard);
     Ok(heard.hearing.get())
 }
 

@@ -2,13 +2,12 @@
 
 ghost use Rattle.std.specs.Prelude.{◌≡◌, IfOk};
 
-use crate::held::{HeldLink, HeldLinks, Seen};
+use crate::held::{HeldLink, Seen};
+use crate::serving::serves;
 use mc_guests::WorkEnd;
 use mc_hop::Fnv;
 use mc_shared::{Caller, Gate, NoGate, Shared};
-use mc_shelf::{Settings, Store};
-use mc_time::{Fixed, Moment};
-use mc_workers::work;
+use mc_shelf::Settings;
 use std::alloc::{AllocError, Global};
 use std::sync::Wait;
 use std::sync::atomic::{AtomicU64, Ordering};
@@ -44,23 +43,6 @@ impl<'a> Gate for HoldsShelf<'a> {
         }
         self.gave_up.store(1, Ordering::SeqCst);
     }
-}
-
-/// Serves one link at second 1000, and returns the caller.
-fn serves<R: Wait, G: Gate>(
-    rt: &R,
-    alloc: Global,
-    shared: &Shared<Fnv>,
-    caller: Caller,
-    link: HeldLink<'_>,
-    gate: &G,
-) -> (Caller, WorkEnd)
-    requires { caller.table ≡ shared.now.table }
-    ensures { result.0.table ≡ shared.now.table }
-{
-    let clock = Fixed(Moment::from_seconds_at_most(1000));
-    let mut links = HeldLinks::one(link);
-    work(rt, alloc, shared, caller, &mut links, gate, &clock)
 }
 
 /// A link's input, and its expected output.
@@ -145,16 +127,16 @@ fn both_get<R: Threads + Wait + Sync>(
     Met::of(&gave_up, &first, &second)
 }
 
+const SETTINGS: Settings = Settings {
+    pages: 64,
+    greatest: 1048576,
+    shelves: 64,
+};
+
 /// Makes a store, and serves a link that sets `a` and `b`.
 fn filled<R: Wait>(rt: &R, alloc: Global) -> Result<(Shared<Fnv>, Caller), AllocError>
     ensures { IfOk result (λ made. made.1.table ≡ made.0.table) }
 {
-    let settings = Settings {
-        pages: 64,
-        greatest: 1048576,
-        shelves: 64,
-    };
-    let (shared, me) = Shared::over(alloc, Store::new(alloc, settings, Fnv)?)?;
     let seen = Seen::nothing();
     let link = HeldLink::new(
         alloc,
@@ -162,37 +144,46 @@ fn filled<R: Wait>(rt: &R, alloc: Global) -> Result<(Shared<Fnv>, Caller), Alloc
         b"STORED\r\nSTORED\r\n",
         &seen,
     );
+    let (shared, me) = Shared::new(alloc, SETTINGS, Fnv)?;
     let (me, _) = serves(rt, alloc, &shared, me, link, &NoGate);
     Ok((shared, me))
 }
 
-/// The bytes that each link takes, all as expected.
-const ANSWERED: (u64, u64) = (21, 0);
+/// Returns what two workers did whose links took 21 bytes each, all as expected.
+fn all_taken(gave_up: bool) -> Met {
+    Met {
+        gave_up,
+        first: (21, 0),
+        second: (21, 0),
+    }
+}
+
+/// Fills a store, and serves `get a` and another link in two threads.
+///
+/// Returns the shelves of `a` and `b`, and what the workers did.
+fn met_over_new_store<R: Threads + Wait + Sync>(
+    rt: &R,
+    alloc: Global,
+    input: &[u8],
+    expected: &[u8],
+) -> Result<((u32, u32), Met), AllocError> {
+    let (shared, me) = filled(rt, alloc)?;
+    let shelves = (shared.shelf_of(b"a"), shared.shelf_of(b"b"));
+    Ok((shelves, both_get(rt, alloc, &shared, me, input, expected)))
+}
 
 #[test]
 fn a_held_step_leaves_other_shelves_free(rt: HostRuntime) -> Result<(), Fail> {
-    let (shared, me) = filled(&rt, rt.alloc())?;
-    assert_eq!(rt; (shared.shelf_of(b"a"), shared.shelf_of(b"b")), (12, 37));
-    let met = both_get(&rt, rt.alloc(), &shared, me, GET_B.0, GET_B.1);
-    let free = Met {
-        gave_up: false,
-        first: ANSWERED,
-        second: ANSWERED,
-    };
-    assert_eq!(rt; met, free);
+    let (shelves, met) = met_over_new_store(&rt, rt.alloc(), GET_B.0, GET_B.1)?;
+    assert_eq!(rt; shelves, (12, 37));
+    assert_eq!(rt; met, all_taken(false));
     Ok(())
 }
 
 /// So the test above fails if a step holds the whole store.
 #[test]
 fn a_held_step_holds_up_those_on_its_own_shelf(rt: HostRuntime) -> Result<(), Fail> {
-    let (shared, me) = filled(&rt, rt.alloc())?;
-    let met = both_get(&rt, rt.alloc(), &shared, me, GET_A.0, GET_A.1);
-    let held_up = Met {
-        gave_up: true,
-        first: ANSWERED,
-        second: ANSWERED,
-    };
-    assert_eq!(rt; met, held_up);
+    let (_, met) = met_over_new_store(&rt, rt.alloc(), GET_A.0, GET_A.1)?;
+    assert_eq!(rt; met, all_taken(true));
     Ok(())
 }

@@ -1,6 +1,6 @@
 //! Links in memory, for tests.
 
-use mc_guests::{Got, Link, LinkFault, Links, Next, Took};
+use mc_guests::{Got, Link, LinkFault, Took};
 use mc_testing::{Call, Calls};
 use std::alloc::Global;
 use std::marker::Model;
@@ -182,62 +182,4 @@ impl<'a> Link for HeldLink<'a> {
     fn faults(&self) -> u64 {
         self.calls.faults()
     }
-}
-
-/// One link or two, and then none. It names them in turn.
-#[derive(Drop)]
-pub struct HeldLinks<'a> {
-    first: Option<HeldLink<'a>>,
-    second: Option<HeldLink<'a>>,
-    named: u64,
-}
-
-impl<'a> HeldLinks<'a> {
-    pub fn one(link: HeldLink<'a>) -> HeldLinks<'a> {
-        HeldLinks {
-            first: Some(link),
-            second: None,
-            named: 0,
-        }
-    }
-
-    pub fn two(first: HeldLink<'a>, second: HeldLink<'a>) -> HeldLinks<'a> {
-        HeldLinks {
-            first: Some(first),
-            second: Some(second),
-            named: 0,
-        }
-    }
-}
-
-impl<'a> Links<HeldLink<'a>> for HeldLinks<'a> {
-    fn next(&mut self) -> Next<HeldLink<'a>> {
-        let link = match self.first.take() {
-            Some(link) => Some(link),
-            None => self.second.take(),
-        };
-        match link {
-            Some(link) => Next::Link(link),
-            None => Next::Closed,
-        }
-    }
-
-    fn ready(&mut self) -> Option<u64> {
-        let name = self.named;
-        if name < 2 {
-            self.named = name + 1;
-            Some(name)
-        } else {
-            self.named = 0;
-            None
-        }
-    }
-
-    fn rest(&mut self) {}
-
-    fn is_due(&self) -> bool {
-        false
-    }
-
-    fn look(&mut self) {}
 }

@@ -1,60 +1,38 @@
 //! Shelves are tidied in turn, as the clock rises.
 
-ghost use Rattle.std.specs.Prelude.{◌≡◌};
+ghost use Rattle.std.specs.Prelude.{◌≡◌, ◌≤◌, length};
+ghost use Rattle.mc_protocol.specs.Commands.{key_of};
 
-use crate::held::{HeldLink, HeldLinks, Seen};
+use crate::held::{HeldLink, Seen};
+use crate::serving::HeldLinks;
 use mc_guests::NoTally;
 use mc_hop::Fnv;
-use mc_protocol::Verb;
+use mc_protocol::{KeyStep, Verb};
 use mc_shared::{Caller, NoGate, Shared};
 use mc_shelf::Settings;
 use mc_testing::{Ask, filled_block, step_of, told_of};
 use mc_time::{Clock, Moment};
 use mc_workers::Worker;
-use std::alloc::Global;
+use std::alloc::{AllocError, Global};
 use std::cell::Cell;
 use std::sync::Wait;
 use std::sync::atomic::{AtomicU64, Ordering};
 use std::test::*;
 
-/// The settings of a store with one page.
-const ONE: Settings = Settings {
-    pages: 1,
-    greatest: Settings::GREATEST,
-    shelves: 1,
-};
-
-const SOME: Settings = Settings {
-    pages: 1,
-    greatest: Settings::GREATEST,
-    shelves: 64,
-};
-
-const MORE: Settings = Settings {
-    pages: 1,
-    greatest: Settings::GREATEST,
-    shelves: 128,
-};
-
-const MOST: Settings = Settings {
-    pages: 1,
-    greatest: Settings::GREATEST,
-    shelves: 256,
-};
-
-/// The shelf at which tidying begins, and the tidying in which the shelf of `b` has its turn.
+/// The number of shelves, the shelf at which tidying begins, and the tidying in which the shelf of
+/// `b` has its turn.
 ///
 /// That is shelf 37 of 64 and of 128, and 165 of 256.
-const ROWS: [(Settings, u32, u32); 9] = [
-    (ONE, 0, 1),
-    (ONE, 5, 1),
-    (SOME, 0, 38),
-    (SOME, 30, 8),
-    (SOME, 38, 64),
-    (SOME, 100, 2),
-    (MORE, 0, 19),
-    (MORE, 36, 1),
-    (MOST, 0, 42),
+static ROWS: [(u32, (u32, u32)); 9] = [
+    (1, (0, 1)),
+    (1, (5, 1)),
+    (64, (0, 38)),
+    (64, (30, 8)),
+    (64, (38, 64)),
+    (64, (100, 2)),
+    (128, (0, 19)),
+    (128, (36, 1)),
+    (256, (0, 42)),
 ];
 
 /// A clock that rises by a second at each look, a given number of times, and then sets a flag.
@@ -116,34 +94,92 @@ fn tidied<R: Wait>(
     caller
 }
 
-/// Returns the reply to a set of `c` after some tidyings that begin with this shelf.
+/// Takes a step at a second, and returns the name of the reply.
+fn told_at<R: Wait>(
+    rt: &R,
+    alloc: Global,
+    shared: &Shared<Fnv>,
+    caller: &mut Caller,
+    step: &KeyStep<'_>,
+    second: u64,
+) -> &'static str
+    requires own { caller.old.table ≡ shared.now.table }
+    requires key { length (key_of step.now) ≤ 250 }
+    ensures { caller.new.table ≡ caller.old.table }
+{
+    let now = Moment::from_seconds_at_most(second);
+    told_of(&shared.step(rt, alloc, caller, step, now))
+}
+
+/// Sets `b` to a block, lets a worker tidy some times, first this shelf, and sets `c` to the block.
 ///
-/// `b`, which is dead by then, has the one page.
-fn told_after<R: Wait>(
+/// Returns the name of the last reply. `b` is dead by then.
+fn told_of_second<R: Wait>(
+    rt: &R,
+    alloc: Global,
+    shared: &Shared<Fnv>,
+    caller: Caller,
+    turns: (u32, u32),
+    block: &[u8],
+) -> &'static str
+    requires { caller.table ≡ shared.now.table }
+{
+    let (first, tidyings) = turns;
+    let mut caller = caller;
+    let set_b = step_of(b"b", Ask::Store(Verb::Set, 10, block));
+    let _ = told_at(rt, alloc, shared, &mut caller, &set_b, 1000);
+    let mut caller = tidied(rt, alloc, shared, caller, first, tidyings);
+    let set_c = step_of(b"c", Ask::Store(Verb::Set, 0, block));
+    told_at(rt, alloc, shared, &mut caller, &set_c, 1010)
+}
+
+/// Returns the same for a new store of one page with these settings.
+fn told_in_new_store<R: Wait>(
     rt: &R,
     alloc: Global,
     settings: Settings,
-    first: u32,
-    tidyings: u32,
-) -> Result<&'static str, Fail> {
+    turns: (u32, u32),
+    block: &[u8],
+) -> Result<&'static str, AllocError> {
+    let (shared, caller) = Shared::new(alloc, settings, Fnv)?;
+    Ok(told_of_second(rt, alloc, &shared, caller, turns, block))
+}
+
+/// Returns the reply to a set of `c` after some tidyings that begin with this shelf.
+///
+/// The store has one page, which `b` has, and `b` is dead by then.
+fn told_after<R: Wait>(
+    rt: &R,
+    alloc: Global,
+    shelves: u32,
+    turns: (u32, u32),
+) -> Result<&'static str, AllocError> {
+    let Some(settings) = Settings::new(1, Settings::GREATEST, shelves) else {
+        return Ok("no such store");
+    };
     let large = filled_block(alloc, 600000)?;
-    let set_b = step_of(b"b", Ask::Store(Verb::Set, 10, large.as_slice()));
-    let set_c = step_of(b"c", Ask::Store(Verb::Set, 0, large.as_slice()));
-    let (shared, mut caller) = Shared::new(alloc, settings, Fnv)?;
-    let then = Moment::from_seconds_at_most(1000);
-    let _ = shared.step(rt, alloc, &mut caller, &set_b, then);
-    let mut caller = tidied(rt, alloc, &shared, caller, first, tidyings);
-    let now = Moment::from_seconds_at_most(1010);
-    let told = shared.step(rt, alloc, &mut caller, &set_c, now);
-    Ok(told_of(&told))
+    told_in_new_store(rt, alloc, settings, turns, large.as_slice())
+}
+
+/// Returns the replies before and after the tidying in which the shelf of `b` has its turn.
+fn told_around<R: Wait>(
+    rt: &R,
+    alloc: Global,
+    shelves: u32,
+    (first, turn): (u32, u32),
+) -> Result<(&'static str, &'static str), AllocError> {
+    let before = told_after(rt, alloc, shelves, (first, turn.saturating_sub(1)))?;
+    let then = told_after(rt, alloc, shelves, (first, turn))?;
+    Ok((before, then))
 }
 
 #[test]
 fn each_shelf_has_its_turn(rt: HostRuntime) -> Result<(), Fail> {
-    for (settings, first, turn) in &ROWS {
-        let before = told_after(&rt, rt.alloc(), *settings, *first, turn.saturating_sub(1))?;
-        let then = told_after(&rt, rt.alloc(), *settings, *first, *turn)?;
-        assert_eq!(rt; (before, then), ("no chunk", "stored"));
+    for (shelves, turn) in &ROWS {
+        assert_eq!(rt;
+            told_around(&rt, rt.alloc(), *shelves, *turn)?,
+            ("no chunk", "stored")
+        );
     }
     Ok(())
 }

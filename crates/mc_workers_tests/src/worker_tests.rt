@@ -1,15 +1,19 @@
 //! Workers over links in memory, in one thread.
 
-use crate::held::{HeldLink, HeldLinks, Seen};
+ghost use Rattle.std.specs.Prelude.{◌≡◌};
+
+use crate::held::{HeldLink, Seen};
+use crate::serving::{HeldLinks, serves};
 use mc_guests::WorkEnd;
 use mc_hop::Fnv;
 use mc_protocol::{Reply, StepFault};
-use mc_shared::{NoGate, Shared};
-use mc_shelf::{Settings, Store};
+use mc_shared::{Caller, NoGate, Shared};
+use mc_shelf::Settings;
 use mc_testing::{Ask, SESSIONS, step_of};
 use mc_time::{Fixed, Moment};
 use mc_workers::work;
-use std::alloc::Global;
+use std::alloc::{AllocError, Global};
+use std::process::Abort;
 use std::sync::Wait;
 use std::test::*;
 
@@ -25,12 +29,11 @@ fn served<R: Wait>(
     alloc: Global,
     input: &[u8],
     expected: &[u8],
-) -> Result<(WorkEnd, (u64, u64)), Fail> {
-    let now = Moment::from_seconds_at_most(1000);
+) -> Result<(WorkEnd, (u64, u64)), AllocError> {
     let seen = Seen::nothing();
-    let (shared, caller) = Shared::over(alloc, Store::new(alloc, SETTINGS, Fnv)?)?;
-    let mut links = HeldLinks::one(HeldLink::new(alloc, input, expected, &seen));
-    let (_caller, end) = work(rt, alloc, &shared, caller, &mut links, &NoGate, &Fixed(now));
+    let link = HeldLink::new(alloc, input, expected, &seen);
+    let (shared, caller) = Shared::new(alloc, SETTINGS, Fnv)?;
+    let (_, end) = serves(rt, alloc, &shared, caller, link, &NoGate);
     Ok((end, seen.right_and_wrong()))
 }
 
@@ -41,18 +44,25 @@ const ONE_SERVED: WorkEnd = WorkEnd {
     refused: 0,
 };
 
-#[test]
-fn links_take_what_sessions_write(rt: HostRuntime) -> Result<(), Fail> {
-    for (input, output) in SESSIONS {
-        let (end, told) = served(&rt, rt.alloc(), input.as_bytes(), output.as_bytes())?;
-        assert_eq!(rt; end, ONE_SERVED);
-        assert_eq!(rt; told, (output.len() as u64, 0));
+/// Checks that each session takes its input, and its link the output.
+fn are_taken<R: Abort + Wait>(rt: &R, alloc: Global, rows: &[(&str, &str)]) -> Result<(), Fail> {
+    for (input, output) in rows {
+        let told = served(rt, alloc, input.as_bytes(), output.as_bytes())?;
+        assert_eq!(rt; told, (ONE_SERVED, (output.len() as u64, 0)));
     }
     Ok(())
 }
 
+/// The sessions of all crates' tests.
+static OF_ALL: [(&str, &str); 11] = SESSIONS;
+
+#[test]
+fn links_take_what_sessions_write(rt: HostRuntime) -> Result<(), Fail> {
+    are_taken(&rt, rt.alloc(), &OF_ALL)
+}
+
 /// Input and output of sessions over a new store, besides those of all crates' tests.
-const ROWS: [(&str, &str); 8] = [
+static ROWS: [(&str, &str); 8] = [
     (
         "set a 0 0 1 noreply\r\nx\r\nget a\r\nquit\r\nget a\r\n",
         "VALUE a 0 1\r\nx\r\nEND\r\n",
@@ -89,12 +99,7 @@ const ROWS: [(&str, &str); 8] = [
 
 #[test]
 fn links_take_the_texts_of_more_rows(rt: HostRuntime) -> Result<(), Fail> {
-    for (input, output) in ROWS {
-        let (end, told) = served(&rt, rt.alloc(), input.as_bytes(), output.as_bytes())?;
-        assert_eq!(rt; end, ONE_SERVED);
-        assert_eq!(rt; told, (output.len() as u64, 0));
-    }
-    Ok(())
+    are_taken(&rt, rt.alloc(), &ROWS)
 }
 
 /// The result of two links, if the first fails at a call.
@@ -138,17 +143,48 @@ const SECOND: (&[u8], &[u8]) = (
     b"NOT_STORED\r\nSTORED\r\nSTORED\r\nSTORED\r\nVALUE c 7 3\r\nabc\r\nEND\r\n",
 );
 
-/// Serves two links over a new store; the first fails at a call.
-fn served_with_fault<R: Wait>(rt: &R, alloc: Global, call: u64) -> Result<Faulty, Fail> {
-    let now = Moment::from_seconds_at_most(1000);
-    let seen = [Seen::nothing(), Seen::nothing()];
-    let (shared, caller) = Shared::over(alloc, Store::new(alloc, SETTINGS, Fnv)?)?;
+/// Serves two links, the first of which fails at a call, and returns the caller.
+fn serves_both<R: Wait>(
+    rt: &R,
+    alloc: Global,
+    shared: &Shared<Fnv>,
+    caller: Caller,
+    call: u64,
+    seen: &[Seen; 2],
+) -> (Caller, WorkEnd)
+    requires { caller.table ≡ shared.now.table }
+    ensures { result.0.table ≡ shared.now.table }
+{
+    let clock = Fixed(Moment::from_seconds_at_most(1000));
     let first = HeldLink::new(alloc, FIRST.0, FIRST.1, &seen[0]).failing_at(call);
     let second = HeldLink::new(alloc, SECOND.0, SECOND.1, &seen[1]);
     let mut links = HeldLinks::two(first, second);
-    let (mut caller, end) = work(rt, alloc, &shared, caller, &mut links, &NoGate, &Fixed(now));
+    work(rt, alloc, shared, caller, &mut links, &NoGate, &clock)
+}
+
+/// Serves both, and returns how they ended, and the result of a read of `a` by the returned caller.
+fn ended_and_found<R: Wait>(
+    rt: &R,
+    alloc: Global,
+    shared: &Shared<Fnv>,
+    caller: Caller,
+    call: u64,
+    seen: &[Seen; 2],
+) -> (WorkEnd, Found)
+    requires { caller.table ≡ shared.now.table }
+{
+    let (mut caller, end) = serves_both(rt, alloc, shared, caller, call, seen);
     let read = step_of(b"a", Ask::Get);
+    let now = Moment::from_seconds_at_most(1000);
     let found = found_by(&shared.step(rt, alloc, &mut caller, &read, now));
+    (end, found)
+}
+
+/// Serves two links over a new store; the first fails at a call.
+fn served_with_fault<R: Wait>(rt: &R, alloc: Global, call: u64) -> Result<Faulty, AllocError> {
+    let seen = [Seen::nothing(), Seen::nothing()];
+    let (shared, caller) = Shared::new(alloc, SETTINGS, Fnv)?;
+    let (end, found) = ended_and_found(rt, alloc, &shared, caller, call, &seen);
     Ok(Faulty {
         end,
         first: seen[0].right_and_wrong(),
@@ -184,15 +220,24 @@ fn both_served(was: &Faulty) -> bool {
     counts && all && read
 }
 
+/// Returns whether a run met its fault, and whether its sessions ended as they must.
+fn met_and_ended<R: Wait>(rt: &R, alloc: Global, call: u64) -> Result<(bool, bool), AllocError> {
+    let was = served_with_fault(rt, alloc, call)?;
+    if was.end.broken == 0 {
+        Ok((false, both_served(&was)))
+    } else {
+        Ok((true, ended_alone(&was)))
+    }
+}
+
 #[test]
 fn a_fault_of_a_link_ends_its_session_alone(rt: HostRuntime) -> Result<(), Fail> {
     for call in 1..1000u64 {
-        let was = served_with_fault(&rt, rt.alloc(), call)?;
-        if was.end.broken == 0 {
-            assert!(rt; both_served(&was));
+        let (has_met, is_right) = met_and_ended(&rt, rt.alloc(), call)?;
+        assert!(rt; is_right);
+        if !has_met {
             return Ok(());
         }
-        assert!(rt; ended_alone(&was));
     }
     panic!(rt; "each run met a fault")
 }

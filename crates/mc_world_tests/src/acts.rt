@@ -1,6 +1,6 @@
 //! Events for the tables of tests.
 
-use crate::worlds::run;
+use crate::runs::run;
 use mc_hop::Fnv;
 use mc_protocol::Bytes;
 use mc_time::Moment;

@@ -4,10 +4,11 @@
 //! function's length.
 
 use crate::acts::{Act, run_acts};
+use crate::runs::{opened_twice, opened_with};
 use crate::set_ups::{EACH, SHELF_OF_A, SHELF_OF_B, SOME};
 use crate::texts::{HIT, MISS};
-use crate::told::{answers, is_told, second_finds};
-use crate::worlds::{opened_twice, opened_with, world_with};
+use crate::told::{answers, is_refused, is_told, second_finds};
+use crate::worlds::world_with;
 use mc_hop::Fnv;
 use mc_protocol::Bytes;
 use mc_shelf::Settings;
@@ -37,6 +38,26 @@ fn standing(world: &World<Fnv>, session: u32) -> &'static str {
     }
 }
 
+/// Checks the standing of a session.
+fn stands(rt: &impl Abort, world: &World<Fnv>, session: u32, want: &str) {
+    let stands = standing(world, session);
+    assert!(rt; stands == want, "session {session} is {stands}");
+}
+
+/// Runs the events of a row, and compares its session's output and standing.
+fn row_is_told(
+    rt: &impl Abort,
+    alloc: Global,
+    world: &mut World<Fnv>,
+    row: &Row,
+) -> Result<(), Fail> {
+    let (acts, session, output, want) = *row;
+    run_acts(world, alloc, acts)?;
+    is_told(rt, world, session, output.as_bytes());
+    stands(rt, world, session, want);
+    Ok(())
+}
+
 /// Runs the events of rows in order, and compares their sessions' outputs and standings.
 fn rows_are_told_in(
     rt: &impl Abort,
@@ -44,10 +65,8 @@ fn rows_are_told_in(
     world: &mut World<Fnv>,
     rows: &[Row],
 ) -> Result<(), Fail> {
-    for (acts, session, output, stands) in rows {
-        run_acts(world, alloc, acts)?;
-        is_told(rt, world, *session, output.as_bytes());
-        assert_eq!(rt; standing(world, *session), *stands);
+    for row in rows {
+        row_is_told(rt, alloc, world, row)?;
     }
     Ok(())
 }
@@ -78,7 +97,7 @@ fn rows_are_told_with_each(rt: &impl Abort, alloc: Global, rows: &[Row]) -> Resu
 
 #[test]
 fn a_session_is_there_once_it_is_opened(rt: HostRuntime) -> Result<(), Fail> {
-    const ROWS: [Row; 6] = [
+    static ROWS: [Row; 6] = [
         (&[Act::Piece(1, "version\r\n")], 1, "", "neither"),
         (&[Act::Open, Act::Turn(1)], 1, "", "idle"),
         (
@@ -111,7 +130,7 @@ fn a_session_is_there_once_it_is_opened(rt: HostRuntime) -> Result<(), Fail> {
 
 #[test]
 fn a_closed_session_keeps_its_output(rt: HostRuntime) -> Result<(), Fail> {
-    const ROWS: [Row; 2] = [
+    static ROWS: [Row; 2] = [
         (
             &[
                 Act::Open,
@@ -135,7 +154,7 @@ fn a_closed_session_keeps_its_output(rt: HostRuntime) -> Result<(), Fail> {
 
 #[test]
 fn keys_of_a_get_are_asked_at_their_turns(rt: HostRuntime) -> Result<(), Fail> {
-    const ROWS: [Row; 2] = [
+    static ROWS: [Row; 2] = [
         (
             &[
                 Act::Open,
@@ -161,7 +180,7 @@ fn keys_of_a_get_are_asked_at_their_turns(rt: HostRuntime) -> Result<(), Fail> {
 
 #[test]
 fn a_dead_item_is_dropped_where_it_is_asked_for(rt: HostRuntime) -> Result<(), Fail> {
-    const ROWS: [Row; 3] = [
+    static ROWS: [Row; 3] = [
         (
             &[
                 Act::Open,
@@ -204,7 +223,7 @@ fn a_dead_item_is_dropped_where_it_is_asked_for(rt: HostRuntime) -> Result<(), F
 
 #[test]
 fn a_purge_drops_what_is_dead_on_its_shelf(rt: HostRuntime) -> Result<(), Fail> {
-    const ROWS: [Row; 3] = [
+    static ROWS: [Row; 3] = [
         (
             &[
                 Act::Open,
@@ -279,7 +298,7 @@ fn new_worlds_answer(rt: &impl Abort, alloc: Global, rows: &[Asked]) -> Result<(
 
 #[test]
 fn an_exptime_of_up_to_thirty_days_counts_from_now(rt: HostRuntime) -> Result<(), Fail> {
-    const ROWS: [Asked; 5] = [
+    static ROWS: [Asked; 5] = [
         (
             1000,
             "set a 0 2592000 1\r\nx\r\nset b 0 2592001 1\r\ny\r\n",
@@ -295,7 +314,7 @@ fn an_exptime_of_up_to_thirty_days_counts_from_now(rt: HostRuntime) -> Result<()
 
 #[test]
 fn a_flush_comes_at_its_moment(rt: HostRuntime) -> Result<(), Fail> {
-    const ROWS: [Asked; 6] = [
+    static ROWS: [Asked; 6] = [
         (1000, "flush_all 10\r\n", "OK\r\n"),
         (1005, "set a 0 0 1\r\nx\r\n", "STORED\r\n"),
         (1009, "get a\r\n", "VALUE a 0 1\r\nx\r\nEND\r\n"),
@@ -320,7 +339,7 @@ fn first_sets(rt: &impl Abort, alloc: Global, world: &mut World<Fnv>) -> &'stati
             HIT
         }
         Err(refused) => {
-            assert!(rt; refused.session == Some(1) && world.is_closed(1));
+            is_refused(rt, world, 1, &refused);
             if refused.decided || refused.at == 2 {
                 HIT
             } else {

@@ -1,9 +1,9 @@
 //! Keys of one hash, and what an event of growth moves. If memory is refused a test ends early.
 
-use crate::set_ups::EACH;
+use crate::runs::opened_with;
+use crate::set_ups::{EACH, SOME_SMALL};
 use crate::texts::{get_of, hit_of, set_of};
 use crate::told::{answers, answers_and_grows};
-use crate::worlds::opened_with;
 use mc_hop::Constant;
 use mc_protocol::Bytes;
 use mc_shelf::{Settings, Store};
@@ -34,7 +34,7 @@ fn key_is_found(
     answers(rt, alloc, world, 1000, &get, &hit)
 }
 
-fn forty_keys_are_apart(
+fn forty_keys_are_set(
     rt: &impl Abort,
     alloc: Global,
     world: &mut World<Constant>,
@@ -42,10 +42,27 @@ fn forty_keys_are_apart(
     for number in 1..41 {
         key_is_set(rt, alloc, world, number)?;
     }
+    Ok(())
+}
+
+fn forty_keys_are_found(
+    rt: &impl Abort,
+    alloc: Global,
+    world: &mut World<Constant>,
+) -> Result<(), Fail> {
     for number in 1..41 {
         key_is_found(rt, alloc, world, number)?;
     }
     Ok(())
+}
+
+fn forty_keys_are_apart(
+    rt: &impl Abort,
+    alloc: Global,
+    world: &mut World<Constant>,
+) -> Result<(), Fail> {
+    forty_keys_are_set(rt, alloc, world)?;
+    forty_keys_are_found(rt, alloc, world)
 }
 
 /// The same, in a new world whose store has these settings.
@@ -79,12 +96,7 @@ fn happen(
 
 /// Returns the parts of a world with one page and one hash.
 fn parts_of_one_hash(alloc: Global) -> Result<WorldParts<Constant>, AllocError> {
-    let settings = Settings {
-        pages: 1,
-        greatest: 1048576,
-        shelves: 64,
-    };
-    let store = Store::new(alloc, settings, Constant(0))?;
+    let store = Store::new(alloc, SOME_SMALL, Constant(0))?;
     Ok(WorldParts::new(alloc, store, Moment::from_seconds(1000)))
 }
 
@@ -94,12 +106,18 @@ fn set_key(parts: &mut WorldParts<Constant>, alloc: Global, number: u32) -> Resu
     happen(parts, alloc, &Event::Turn(1))
 }
 
-/// Sets the keys of 1 to 34. Returns how many entries one event of growth leaves in the old table.
-fn left_by_growth(parts: &mut WorldParts<Constant>, alloc: Global) -> Result<usize, AllocError> {
-    happen(parts, alloc, &Event::Open)?;
+/// Sets the keys of 1 to 34.
+fn set_keys(parts: &mut WorldParts<Constant>, alloc: Global) -> Result<(), AllocError> {
     for number in 1..35 {
         set_key(parts, alloc, number)?;
     }
+    Ok(())
+}
+
+/// Sets those keys. Returns how many entries one event of growth leaves in the old table.
+fn left_by_growth(parts: &mut WorldParts<Constant>, alloc: Global) -> Result<usize, AllocError> {
+    happen(parts, alloc, &Event::Open)?;
+    set_keys(parts, alloc)?;
     happen(parts, alloc, &Event::Grow(0))?;
     Ok(parts.store.grow(0, 100))
 }

@@ -3,11 +3,11 @@
 //!
 //! If memory is refused a test ends early.
 
+use crate::runs::{after, opened, run, take_turns};
+use crate::set_ups::SOME;
 use crate::told::{answers, answers_and_grows, is_told};
-use crate::worlds::{opened, run, take_turns};
 use mc_hop::{Constant, Fnv};
 use mc_protocol::Bytes;
-use mc_shelf::Settings;
 use mc_time::Moment;
 use mc_world::{Event, World};
 use std::alloc::{AllocError, Global};
@@ -16,15 +16,9 @@ use std::test::Fail;
 
 /// Returns a world with session 1 open, and one unique number left.
 fn world_of_one_number(alloc: Global) -> Result<World<Fnv>, AllocError> {
-    let settings = Settings {
-        pages: 64,
-        greatest: 1048576,
-        shelves: 64,
-    };
     let now = Moment::from_seconds(1000);
-    let mut world = World::starting(alloc, settings, Fnv, now, 18446744073709551614)?;
-    run(&mut world, alloc, &[Event::Open])?;
-    Ok(world)
+    let world = World::starting(alloc, SOME, Fnv, now, 18446744073709551614)?;
+    after(alloc, world, &[Event::Open])
 }
 
 /// One write is left. Then each write that needs a number gets the error that they are used up.
@@ -81,18 +75,36 @@ fn key_is_found(
     answers_and_grows(rt, alloc, world, &get, &found)
 }
 
-/// Sets the keys, deletes each third, and finds the others.
-fn keys_are_apart(rt: &impl Abort, alloc: Global, world: &mut World<Constant>) -> Result<(), Fail> {
+fn keys_are_set(rt: &impl Abort, alloc: Global, world: &mut World<Constant>) -> Result<(), Fail> {
     for key in 1..301 {
         key_is_set(rt, alloc, world, key)?;
     }
+    Ok(())
+}
+
+fn thirds_are_deleted(
+    rt: &impl Abort,
+    alloc: Global,
+    world: &mut World<Constant>,
+) -> Result<(), Fail> {
     for third in 1..101 {
         key_is_deleted(rt, alloc, world, 3 * third)?;
     }
+    Ok(())
+}
+
+fn keys_are_found(rt: &impl Abort, alloc: Global, world: &mut World<Constant>) -> Result<(), Fail> {
     for key in 1..301 {
         key_is_found(rt, alloc, world, key)?;
     }
     Ok(())
+}
+
+/// Sets the keys, deletes each third, and finds the others.
+fn keys_are_apart(rt: &impl Abort, alloc: Global, world: &mut World<Constant>) -> Result<(), Fail> {
+    keys_are_set(rt, alloc, world)?;
+    thirds_are_deleted(rt, alloc, world)?;
+    keys_are_found(rt, alloc, world)
 }
 
 #[test]
@@ -136,13 +148,36 @@ fn tells(
 }
 
 /// Compares the output of a session that reads this whole, and returns whether it is closed.
+fn tells_whole_in(
+    rt: &impl Abort,
+    alloc: Global,
+    world: &mut World<Fnv>,
+    input: &[u8],
+    output: &[u8],
+) -> Result<bool, Fail> {
+    bring(alloc, world, input)?;
+    tells(rt, alloc, world, output)
+}
+
+/// The same, in a new world.
 fn tells_whole(rt: &impl Abort, alloc: Global, input: &[u8], output: &[u8]) -> Result<bool, Fail> {
     let mut world = opened(alloc, Fnv)?;
-    bring(alloc, &mut world, input)?;
-    tells(rt, alloc, &mut world, output)
+    tells_whole_in(rt, alloc, &mut world, input, output)
 }
 
 /// The same for pieces of one byte, with an empty piece and a turn after each.
+fn tells_bytewise_in(
+    rt: &impl Abort,
+    alloc: Global,
+    world: &mut World<Fnv>,
+    input: &[u8],
+    output: &[u8],
+) -> Result<bool, Fail> {
+    bring_each(alloc, world, input)?;
+    tells(rt, alloc, world, output)
+}
+
+/// The same, in a new world.
 fn tells_bytewise(
     rt: &impl Abort,
     alloc: Global,
@@ -150,8 +185,7 @@ fn tells_bytewise(
     output: &[u8],
 ) -> Result<bool, Fail> {
     let mut world = opened(alloc, Fnv)?;
-    bring_each(alloc, &mut world, input)?;
-    tells(rt, alloc, &mut world, output)
+    tells_bytewise_in(rt, alloc, &mut world, input, output)
 }
 
 /// Checks that a session has the same output byte by byte as whole, and is closed alike.
@@ -169,7 +203,7 @@ fn tells_in_any_pieces(
 
 #[test]
 fn bytes_come_one_by_one(rt: HostRuntime) -> Result<(), Fail> {
-    for (input, output) in [
+    static ROWS: [(&str, &str); 4] = [
         (
             "set a 0 0 3\r\nabcdef\r\n",
             "CLIENT_ERROR bad data chunk\r\nERROR\r\n",
@@ -183,7 +217,8 @@ fn bytes_come_one_by_one(rt: HostRuntime) -> Result<(), Fail> {
             "\r\nfoo\r\nget\r\nversion\n  version  \r\n",
             "ERROR\r\nERROR\r\nERROR\r\nVERSION 1.6.0\r\nVERSION 1.6.0\r\n",
         ),
-    ] {
+    ];
+    for (input, output) in &ROWS {
         tells_in_any_pieces(&rt, rt.alloc(), input.as_bytes(), output.as_bytes())?;
     }
     Ok(())
@@ -191,27 +226,38 @@ fn bytes_come_one_by_one(rt: HostRuntime) -> Result<(), Fail> {
 
 /// Appends a line that sets a key of this many letters, and its block.
 fn set_of_long_key(alloc: Global, input: &mut Vec<u8>, len: usize) -> Result<(), AllocError> {
+    let key = vec![in alloc; b'k'; len]?;
     input.extend_from_slice(b"set ")?;
-    input.extend_from_slice(&vec![in alloc; b'k'; len]?)?;
+    input.extend_from_slice(&key)?;
     input.extend_from_slice(b" 0 0 1\r\nx\r\n")
+}
+
+/// Returns sets of a key of 250 letters, and of one of 251.
+fn long_keys(alloc: Global) -> Result<Vec<u8>, AllocError> {
+    let mut input = Vec::new(alloc);
+    set_of_long_key(alloc, &mut input, 250)?;
+    set_of_long_key(alloc, &mut input, 251)?;
+    Ok(input)
 }
 
 #[test]
 fn long_keys_come_byte_by_byte(rt: HostRuntime) -> Result<(), Fail> {
-    let alloc = rt.alloc();
-    let mut input = Vec::new(alloc);
-    set_of_long_key(alloc, &mut input, 250)?;
-    set_of_long_key(alloc, &mut input, 251)?;
+    let input = long_keys(rt.alloc())?;
     let output = b"STORED\r\nCLIENT_ERROR bad command line format\r\nERROR\r\n";
-    tells_in_any_pieces(&rt, alloc, &input, output)
+    tells_in_any_pieces(&rt, rt.alloc(), &input, output)
+}
+
+/// Returns a line of 65536 letters, and 65537 letters of the next.
+fn long_lines(alloc: Global) -> Result<Vec<u8>, AllocError> {
+    let mut input = vec![in alloc; b'q'; 65536]?;
+    input.push(b'\n')?;
+    input.resize(131074, b'q')?;
+    Ok(input)
 }
 
 #[test]
 fn long_lines_come_byte_by_byte(rt: HostRuntime) -> Result<(), Fail> {
-    let alloc = rt.alloc();
-    let mut input = vec![in alloc; b'q'; 65536]?;
-    input.push(b'\n')?;
-    input.extend_from_slice(&vec![in alloc; b'q'; 65537]?)?;
+    let input = long_lines(rt.alloc())?;
     let output = b"ERROR\r\nCLIENT_ERROR line too long\r\n";
-    tells_in_any_pieces(&rt, alloc, &input, output)
+    tells_in_any_pieces(&rt, rt.alloc(), &input, output)
 }

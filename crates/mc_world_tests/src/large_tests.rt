@@ -1,33 +1,15 @@
 //! Items of several pages, in worlds whose stores have few. If memory is refused a test ends early.
 
+use crate::runs::{ask, opened_with};
+use crate::set_ups::{EIGHT_LARGE, THREE_LARGE, TWO_LARGE};
 use crate::texts::NO_CHUNK;
 use crate::told::{is_told, tells};
-use crate::worlds::{ask, opened_with};
 use mc_hop::Fnv;
 use mc_shelf::Settings;
 use mc_world::World;
 use std::alloc::{AllocError, Global};
 use std::process::Abort;
 use std::test::Fail;
-
-/// Settings of stores with two, three and eight pages, and items of up to eight.
-const TWO: Settings = Settings {
-    pages: 2,
-    greatest: Settings::MOST_GREATEST,
-    shelves: 64,
-};
-
-const THREE: Settings = Settings {
-    pages: 3,
-    greatest: Settings::MOST_GREATEST,
-    shelves: 64,
-};
-
-const EIGHT: Settings = Settings {
-    pages: 8,
-    greatest: Settings::MOST_GREATEST,
-    shelves: 64,
-};
 
 /// The reply to a set of a block that is too large.
 const TOO_LARGE: &str = "SERVER_ERROR object too large for cache\r\n";
@@ -100,39 +82,61 @@ fn text_of(alloc: Global, front: &[u8], letter: u8, end: &[u8]) -> Result<Vec<u8
     Ok(text)
 }
 
-/// Sets `k` to a letter 100000 times, in pieces of 8192 bytes, and gets it.
+/// Brings a text to session 1 in pieces of 8192 bytes.
+fn ask_in_pieces(alloc: Global, world: &mut World<Fnv>, text: &[u8]) -> Result<(), AllocError> {
+    for piece in text.chunks(8192) {
+        ask(alloc, world, 1000, piece)?;
+    }
+    Ok(())
+}
+
+/// Sets `k` to a letter 100000 times, in pieces.
+fn sets(rt: &impl Abort, alloc: Global, world: &mut World<Fnv>, letter: u8) -> Result<(), Fail> {
+    let set = text_of(alloc, b"set k 0 0 100000\r\n", letter, b"\r\n")?;
+    ask_in_pieces(alloc, world, set.as_slice())?;
+    tells(rt, world, "STORED\r\n");
+    Ok(())
+}
+
+/// Checks the output of session 1, which is then written.
+fn is_told_and_sent(rt: &impl Abort, world: &mut World<Fnv>, output: &[u8]) {
+    is_told(rt, world, 1, output);
+    let written = world.out(1).len();
+    world.sent(1, written);
+}
+
+/// Gets a letter 100000 times for `k`.
+fn gets(rt: &impl Abort, alloc: Global, world: &mut World<Fnv>, letter: u8) -> Result<(), Fail> {
+    let hit = text_of(alloc, b"VALUE k 0 100000\r\n", letter, b"\r\nEND\r\n")?;
+    ask(alloc, world, 1000, b"get k\r\n")?;
+    is_told_and_sent(rt, world, hit.as_slice());
+    Ok(())
+}
+
+/// Sets `k` to each letter, and gets it.
 fn sets_and_gets(
     rt: &impl Abort,
     alloc: Global,
     world: &mut World<Fnv>,
-    letter: u8,
+    letters: &[u8],
 ) -> Result<(), Fail> {
-    let set = text_of(alloc, b"set k 0 0 100000\r\n", letter, b"\r\n")?;
-    for piece in set.as_slice().chunks(8192) {
-        ask(alloc, world, 1000, piece)?;
+    for letter in letters {
+        sets(rt, alloc, world, *letter)?;
+        gets(rt, alloc, world, *letter)?;
     }
-    tells(rt, world, "STORED\r\n");
-    let hit = text_of(alloc, b"VALUE k 0 100000\r\n", letter, b"\r\nEND\r\n")?;
-    ask(alloc, world, 1000, b"get k\r\n")?;
-    is_told(rt, world, 1, hit.as_slice());
-    let written = world.out(1).len();
-    world.sent(1, written);
     Ok(())
 }
 
 /// The second block's memory becomes the item's, and the first one's that of the third.
 #[test]
 fn a_block_that_comes_in_pieces_is_set_over_others(rt: HostRuntime) -> Result<(), Fail> {
-    let mut world = opened_with(rt.alloc(), Fnv, TWO)?;
-    for letter in b"xyz" {
-        sets_and_gets(&rt, rt.alloc(), &mut world, *letter)?;
-    }
-    Ok(())
+    let mut world = opened_with(rt.alloc(), Fnv, TWO_LARGE)?;
+    sets_and_gets(&rt, rt.alloc(), &mut world, b"xyz")
 }
 
 #[test]
 fn items_of_several_pages_share_a_store(rt: HostRuntime) -> Result<(), Fail> {
-    const ROWS: [Row; 7] = [
+    static ROWS: [Row; 7] = [
         (Asks::Set('b', 3000000, 0), "STORED\r\n"),
         (Asks::Set('s', 1, 0), NO_CHUNK),
         (Asks::Set('b', 3000000, 0), NO_CHUNK),
@@ -141,35 +145,35 @@ fn items_of_several_pages_share_a_store(rt: HostRuntime) -> Result<(), Fail> {
         (Asks::Set('d', 1048527, 0), "STORED\r\n"),
         (Asks::Set('e', 1048527, 0), NO_CHUNK),
     ];
-    are_told(&rt, rt.alloc(), THREE, &ROWS)
+    are_told(&rt, rt.alloc(), THREE_LARGE, &ROWS)
 }
 
 #[test]
 fn an_item_has_at_most_eight_pages(rt: HostRuntime) -> Result<(), Fail> {
-    const ROWS: [Row; 2] = [
+    static ROWS: [Row; 2] = [
         (Asks::Set('k', 8388559, 0), "STORED\r\n"),
         (Asks::Set('k', 8388560, 0), TOO_LARGE),
     ];
-    are_told(&rt, rt.alloc(), EIGHT, &ROWS)
+    are_told(&rt, rt.alloc(), EIGHT_LARGE, &ROWS)
 }
 
 #[test]
 fn an_item_takes_all_its_pages_or_none(rt: HostRuntime) -> Result<(), Fail> {
-    const ROWS: [Row; 2] = [
+    static ROWS: [Row; 2] = [
         (Asks::Set('b', 3000000, 0), NO_CHUNK),
         (Asks::Set('s', 1, 0), "STORED\r\n"),
     ];
-    are_told(&rt, rt.alloc(), TWO, &ROWS)
+    are_told(&rt, rt.alloc(), TWO_LARGE, &ROWS)
 }
 
 /// A dead item gives its pages to a larger one and to a smaller one of its key.
 #[test]
 fn a_dead_item_gives_way_to_one_of_other_pages(rt: HostRuntime) -> Result<(), Fail> {
-    const ROWS: [Row; 4] = [
+    static ROWS: [Row; 4] = [
         (Asks::Set('b', 2000000, -1), "STORED\r\n"),
         (Asks::Set('b', 3000000, -1), "STORED\r\n"),
         (Asks::Set('b', 2000000, 0), "STORED\r\n"),
         (Asks::Set('c', 1048527, 0), "STORED\r\n"),
     ];
-    are_told(&rt, rt.alloc(), THREE, &ROWS)
+    are_told(&rt, rt.alloc(), THREE_LARGE, &ROWS)
 }

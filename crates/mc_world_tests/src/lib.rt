@@ -10,6 +10,7 @@
 //! Begin with `src/worlds.rt` and `src/event_tests.rt`.
 #![tactic(auto)]
 
+#[cfg(test)]
 mod acts;
 #[cfg(test)]
 mod event_tests;
@@ -24,8 +25,12 @@ mod refusal_tests;
 #[cfg(test)]
 mod room_tests;
 #[cfg(test)]
+mod runs;
+#[cfg(test)]
 mod serving_tests;
+#[cfg(test)]
 mod set_ups;
+#[cfg(test)]
 mod texts;
 #[cfg(test)]
 mod through_tests;

@@ -7,10 +7,9 @@
 ghost use Rattle.std.specs.Prelude.{◌≤◌};
 
 use crate::texts::{get_of, hit_of, set_of};
+use crate::worlds::retried_world;
 use mc_hop::{Constant, Fnv, KeyHash};
 use mc_protocol::Bytes;
-use mc_shelf::Settings;
-use mc_time::Moment;
 use mc_world::{Event, Refused, World};
 use std::alloc::{AllocError, Global};
 use std::process::Abort;
@@ -18,26 +17,6 @@ use std::test::Fail;
 
 /// The reply to a step without a chunk.
 const NO_CHUNK: &[u8] = b"SERVER_ERROR out of memory storing object\r\n";
-
-/// Returns a world at 1000 with this many pages. It allocates twice if memory is refused.
-fn world<K: KeyHash + Drop + Copy>(
-    alloc: Global,
-    hasher: K,
-    pages: u32,
-) -> Result<World<K>, AllocError>
-    requires { (1 ≤ pages) × (pages ≤ 65536) }
-{
-    let settings = Settings {
-        pages,
-        greatest: 1048576,
-        shelves: 64,
-    };
-    let now = Moment::from_seconds(1000);
-    match World::new(alloc, settings, hasher, now) {
-        Err(_) => World::new(alloc, settings, hasher, now),
-        made => made,
-    }
-}
 
 /// A world, and the session that sends commands.
 #[derive(Drop)]
@@ -58,14 +37,17 @@ impl<K: KeyHash + Drop> Asker<K> {
     fn open_next(&mut self, rt: &impl Abort, alloc: Global) {
         let opened = self.world.session_count();
         if self.world.run(alloc, &[Event::Open]).is_err() {
-            assert!(rt;
-                self.world.session_count() == opened,
-                "a refused session is there"
-            );
-            let again = self.world.run(alloc, &[Event::Open]);
-            assert!(rt; again.is_ok(), "a second refusal");
+            self.open_again(rt, alloc, opened);
         }
         self.session = self.session.wrapping_add(1);
+    }
+
+    /// Opens a session that was refused once. As many as before are there.
+    fn open_again(&mut self, rt: &impl Abort, alloc: Global, opened: usize) {
+        let has = self.world.session_count();
+        assert!(rt; has == opened, "a refused session is there");
+        let again = self.world.run(alloc, &[Event::Open]);
+        assert!(rt; again.is_ok(), "a second refusal");
     }
 
     /// Sends a command, and takes its turn.
@@ -115,6 +97,16 @@ impl<K: KeyHash + Drop> Asker<K> {
         }
     }
 
+    /// Sends a command that reads, until it has the expected reply.
+    fn reads(&mut self, rt: &impl Abort, alloc: Global, read: (&[u8], &[u8])) {
+        let session = self.session;
+        let (command, text) = read;
+        self.answers(rt, alloc, command, text);
+        if self.session != session {
+            self.answers(rt, alloc, command, text);
+        }
+    }
+
     /// Sends commands in order, and then one that reads, until it has the expected reply.
     fn rows(
         &mut self,
@@ -126,12 +118,13 @@ impl<K: KeyHash + Drop> Asker<K> {
         for (command, text) in rows {
             self.answers(rt, alloc, command, text);
         }
-        let session = self.session;
-        let (command, text) = read;
-        self.answers(rt, alloc, command, text);
-        if self.session != session {
-            self.answers(rt, alloc, command, text);
-        }
+        self.reads(rt, alloc, read);
+    }
+
+    /// Moves entries of the first shelf, which takes no memory.
+    fn grow(&mut self, rt: &impl Abort, alloc: Global) {
+        let grown = self.world.run(alloc, &[Event::Grow(0)]);
+        assert!(rt; grown.is_ok(), "growth took memory");
     }
 }
 
@@ -148,14 +141,14 @@ fn are_answered(
 ) -> Result<(), Fail>
     requires { (1 ≤ pages) × (pages ≤ 65536) }
 {
-    let mut asker = Asker::of(rt, alloc, world(alloc, Fnv, pages)?);
+    let mut asker = Asker::of(rt, alloc, retried_world(alloc, Fnv, pages)?);
     asker.rows(rt, alloc, rows, read);
     Ok(())
 }
 
 #[test]
 fn a_cas_stores_once(rt: HostRuntime) -> Result<(), Fail> {
-    const ROWS: [Row<'static>; 4] = [
+    static ROWS: [Row<'static>; 4] = [
         (b"set a 0 0 1\r\nx\r\n", b"STORED\r\n"),
         (b"gets a\r\n", b"VALUE a 0 1 1\r\nx\r\nEND\r\n"),
         (b"cas a 0 0 1 1\r\ny\r\n", b"STORED\r\n"),
@@ -167,7 +160,7 @@ fn a_cas_stores_once(rt: HostRuntime) -> Result<(), Fail> {
 
 #[test]
 fn appended_and_prepended_blocks_keep_flags(rt: HostRuntime) -> Result<(), Fail> {
-    const ROWS: [Row<'static>; 4] = [
+    static ROWS: [Row<'static>; 4] = [
         (b"append a 9 9 1\r\nx\r\n", b"NOT_STORED\r\n"),
         (b"set a 7 0 1\r\nb\r\n", b"STORED\r\n"),
         (b"append a 9 0 1\r\nc\r\n", b"STORED\r\n"),
@@ -179,7 +172,7 @@ fn appended_and_prepended_blocks_keep_flags(rt: HostRuntime) -> Result<(), Fail>
 
 #[test]
 fn a_number_that_leaves_its_class_finds_no_chunk(rt: HostRuntime) -> Result<(), Fail> {
-    const ROWS: [Row<'static>; 2] = [
+    static ROWS: [Row<'static>; 2] = [
         (
             b"set a_key_of_as_many_bytes_as_leave_room_for_one_01 0 0 1\r\n9\r\n",
             b"STORED\r\n",
@@ -252,10 +245,9 @@ fn set_key(
     asker: &mut Asker<Constant>,
     number: u32,
 ) -> Result<(), AllocError> {
-    let set = set_of(alloc, number).or_else(|_| set_of(alloc, number))?;
+    let set = set_of(alloc, number)?;
     asker.answers(rt, alloc, set.as_bytes(), b"STORED\r\n");
-    let grown = asker.world.run(alloc, &[Event::Grow(0)]);
-    assert!(rt; grown.is_ok(), "growth took memory");
+    asker.grow(rt, alloc);
     Ok(())
 }
 
@@ -266,9 +258,31 @@ fn find_key(
     asker: &mut Asker<Constant>,
     number: u32,
 ) -> Result<(), AllocError> {
-    let get = get_of(alloc, number).or_else(|_| get_of(alloc, number))?;
-    let hit = hit_of(alloc, number).or_else(|_| hit_of(alloc, number))?;
-    asker.rows(rt, alloc, &[], (get.as_bytes(), hit.as_bytes()));
+    let get = get_of(alloc, number)?;
+    let hit = hit_of(alloc, number)?;
+    asker.reads(rt, alloc, (get.as_bytes(), hit.as_bytes()));
+    Ok(())
+}
+
+fn set_forty_keys(
+    rt: &impl Abort,
+    alloc: Global,
+    asker: &mut Asker<Constant>,
+) -> Result<(), AllocError> {
+    for number in 1..41 {
+        set_key(rt, alloc, asker, number)?;
+    }
+    Ok(())
+}
+
+fn find_forty_keys(
+    rt: &impl Abort,
+    alloc: Global,
+    asker: &mut Asker<Constant>,
+) -> Result<(), AllocError> {
+    for number in 1..41 {
+        find_key(rt, alloc, asker, number)?;
+    }
     Ok(())
 }
 
@@ -277,19 +291,15 @@ fn forty_keys_are_apart(
     rt: &impl Abort,
     alloc: Global,
     asker: &mut Asker<Constant>,
-) -> Result<(), AllocError> {
-    for number in 1..41 {
-        set_key(rt, alloc, asker, number)?;
-    }
-    for number in 1..41 {
-        find_key(rt, alloc, asker, number)?;
-    }
+) -> Result<(), Fail> {
+    set_forty_keys(rt, alloc, asker)?;
+    find_forty_keys(rt, alloc, asker)?;
     Ok(())
 }
 
 #[test]
 fn keys_of_one_hash_are_apart_while_tables_grow(rt: HostRuntime) -> Result<(), Fail> {
-    let mut asker = Asker::of(&rt, rt.alloc(), world(rt.alloc(), Constant(0), 64)?);
-    forty_keys_are_apart(&rt, rt.alloc(), &mut asker)?;
-    Ok(())
+    let world = retried_world(rt.alloc(), Constant(0), 64)?;
+    let mut asker = Asker::of(&rt, rt.alloc(), world);
+    forty_keys_are_apart(&rt, rt.alloc(), &mut asker)
 }

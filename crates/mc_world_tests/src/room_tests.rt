@@ -1,12 +1,13 @@
 //! What makes room in a store of one page. If memory is refused a test ends early.
 
 use crate::acts::{Act, run_acts};
+use crate::runs::{ask, run};
 use crate::set_ups::{
     MANY_SMALL, ONE_SMALL, SHELF_OF_A, SHELF_OF_B, SHELF_OF_B_OF_MANY, SOME_SMALL,
 };
 use crate::texts::{NO_CHUNK, large_set};
 use crate::told::tells;
-use crate::worlds::{ask, run, world_with};
+use crate::worlds::world_with;
 use mc_hop::Fnv;
 use mc_shelf::Settings;
 use mc_world::{Event, World};

@@ -1,8 +1,8 @@
 //! Whole runs of a world's sessions. A test may refuse one allocation.
 
+use crate::worlds::world;
 use mc_hop::Fnv;
 use mc_session::ServeFault;
-use mc_shelf::Settings;
 use mc_testing::{Drip, SESSIONS, Sip};
 use mc_time::{Fixed, Moment};
 use mc_world::{World, serve_one};
@@ -14,16 +14,23 @@ use std::test::Fail;
 /// More calls than any test makes.
 const NEVER: usize = 10000;
 
-fn world(alloc: Global) -> Result<World<Fnv>, AllocError> {
-    let settings = Settings {
-        pages: 64,
-        greatest: 1048576,
-        shelves: 64,
-    };
-    World::new(alloc, settings, Fnv, Moment::from_seconds(1000))
+/// Serves a session over a reader and this writer, and returns how it ends.
+fn serve(
+    alloc: Global,
+    world: &mut World<Fnv>,
+    input: &[u8],
+    reads: usize,
+    writer: &mut Sip,
+) -> Result<Result<(), ServeFault>, AllocError> {
+    if world.session_count() >= 65535 {
+        return Err(AllocError);
+    }
+    let mut reader = Drip::failing(input, reads, ErrorKind::Other);
+    let clock = Fixed(Moment::from_seconds(1000));
+    Ok(serve_one(alloc, &mut reader, writer, world, &clock))
 }
 
-/// Serves a session over this reader and writer, and returns how it ends and what it wrote.
+/// Serves a session over a reader and a writer, and returns how it ends and what it wrote.
 fn run(
     alloc: Global,
     world: &mut World<Fnv>,
@@ -31,13 +38,8 @@ fn run(
     reads: usize,
     writes: usize,
 ) -> Result<(Result<(), ServeFault>, Vec<u8>), AllocError> {
-    let mut reader = Drip::failing(input, reads, ErrorKind::Other);
     let mut writer = Sip::failing(alloc, 1000, writes, ErrorKind::Other)?;
-    if world.session_count() >= 65535 {
-        return Err(AllocError);
-    }
-    let clock = Fixed(Moment::from_seconds(1000));
-    let ended = serve_one(alloc, &mut reader, &mut writer, world, &clock);
+    let ended = serve(alloc, world, input, reads, &mut writer)?;
     Ok((ended, writer.into_taken()))
 }
 
@@ -111,7 +113,7 @@ fn first_of(
 
 /// The same for a new world; `None` if there is none.
 fn first(rt: &impl Abort, alloc: Global, input: &[u8]) -> Result<Option<(bool, Vec<u8>)>, Fail> {
-    match world(alloc) {
+    match world(alloc, Fnv) {
         Ok(mut world) => first_of(rt, alloc, &mut world, input),
         Err(_) => Ok(None),
     }
@@ -123,18 +125,31 @@ fn first(rt: &impl Abort, alloc: Global, input: &[u8]) -> Result<Option<(bool, V
 fn written(rt: &impl Abort, alloc: Global, input: &[u8]) -> Result<Vec<u8>, Fail> {
     match first(rt, alloc, input)? {
         Some((true, whole)) => Ok(whole),
-        Some((false, part)) => {
-            let whole = again(rt, alloc, input)?;
-            assert!(rt; whole.as_slice().starts_with(part.as_slice()));
-            Ok(whole)
-        }
+        Some((false, part)) => again_behind(rt, alloc, input, part.as_slice()),
         None => again(rt, alloc, input),
     }
 }
 
+/// Returns the output of a run without a refusal, which begins with that of another.
+fn again_behind(
+    rt: &impl Abort,
+    alloc: Global,
+    input: &[u8],
+    part: &[u8],
+) -> Result<Vec<u8>, Fail> {
+    let whole = again(rt, alloc, input)?;
+    begins_with(rt, whole.as_slice(), part);
+    Ok(whole)
+}
+
+/// Checks that a text begins with another.
+fn begins_with(rt: &impl Abort, text: &[u8], front: &[u8]) {
+    assert!(rt; text.starts_with(front));
+}
+
 /// Returns the output of a run without a refusal.
 fn again(rt: &impl Abort, alloc: Global, input: &[u8]) -> Result<Vec<u8>, Fail> {
-    let mut world = world(alloc)?;
+    let mut world = world(alloc, Fnv)?;
     served(rt, alloc, &mut world, input)
 }
 
@@ -181,7 +196,7 @@ fn written_until_read_fails(
     input: &[u8],
     reads: usize,
 ) -> Result<Vec<u8>, Fail> {
-    let mut world = world(alloc)?;
+    let mut world = world(alloc, Fnv)?;
     read_fails(rt, alloc, &mut world, input, reads)
 }
 
@@ -194,8 +209,14 @@ fn front_is_answered(
 ) -> Result<(), Fail> {
     let (came, _) = input.split_at(reads.min(input.len()));
     let out = written_until_read_fails(rt, alloc, input, reads)?;
-    assert_eq!(rt; out, written(rt, alloc, came)?, "after {reads}");
+    let want = written(rt, alloc, came)?;
+    is_written(rt, out.as_slice(), want.as_slice(), reads);
     Ok(())
+}
+
+/// Checks the output of a session whose read failed.
+fn is_written(rt: &impl Abort, out: &[u8], want: &[u8], reads: usize) {
+    assert_eq!(rt; out, want, "after {reads}");
 }
 
 fn fronts_are_answered(rt: &impl Abort, alloc: Global, input: &[u8]) -> Result<(), Fail> {
@@ -239,12 +260,17 @@ fn goes_on(
     writes: usize,
     output: &[u8],
 ) -> Result<(), Fail> {
-    let (front, _) = output.split_at(writes.min(output.len()));
-    assert_eq!(rt; written.as_slice(), front);
+    is_front(rt, written.as_slice(), writes, output);
     let mut told = written;
     told.extend_from_slice(left)?;
-    assert!(rt; output.starts_with(told.as_slice()));
+    begins_with(rt, output, told.as_slice());
     Ok(())
+}
+
+/// Checks that this is a front of the output of that length.
+fn is_front(rt: &impl Abort, written: &[u8], writes: usize, output: &[u8]) {
+    let (front, _) = output.split_at(writes.min(output.len()));
+    assert_eq!(rt; written, front);
 }
 
 /// Checks that a write that fails after some bytes leaves the rest in its session's output.
@@ -261,7 +287,7 @@ fn rest_is_left_in(
 
 /// The same, in a new world.
 fn rest_is_left(rt: &impl Abort, alloc: Global, writes: usize, output: &[u8]) -> Result<(), Fail> {
-    let mut world = world(alloc)?;
+    let mut world = world(alloc, Fnv)?;
     rest_is_left_in(rt, alloc, &mut world, writes, output)
 }
 
@@ -311,11 +337,11 @@ fn three_write(
 
 #[test]
 fn a_second_session_finds_what_the_first_stored(rt: HostRuntime) -> Result<(), Fail> {
-    const ROWS: [(&str, &str); 3] = [
+    static ROWS: [(&str, &str); 3] = [
         ("set a 7 0 3\r\nabc\r\nquit\r\n", "STORED\r\n"),
         ("get a\r\n", "VALUE a 7 3\r\nabc\r\nEND\r\n"),
         ("delete a\r\nget a\r\n", "DELETED\r\nEND\r\n"),
     ];
-    let mut world = world(rt.alloc())?;
+    let mut world = world(rt.alloc(), Fnv)?;
     three_write(&rt, rt.alloc(), &mut world, &ROWS)
 }

@@ -10,19 +10,42 @@ pub(crate) const HIT: &[u8] = b"VALUE a 0 1\r\nx\r\nEND\r\n";
 
 pub(crate) const MISS: &[u8] = b"END\r\n";
 
+fn set_once(alloc: Global, number: u32) -> Result<String, AllocError> {
+    format!(in alloc; "set k{number:02} 0 0 2\r\n{number:02}\r\n")
+}
+
+fn get_once(alloc: Global, number: u32) -> Result<String, AllocError> {
+    format!(in alloc; "get k{number:02}\r\n")
+}
+
+fn hit_once(alloc: Global, number: u32) -> Result<String, AllocError> {
+    format!(in alloc; "VALUE k{number:02} 0 2\r\n{number:02}\r\nEND\r\n")
+}
+
+// Each of these three allocates twice if memory is refused.
+
 /// Returns the command that sets the key of a number to its two digits.
 pub(crate) fn set_of(alloc: Global, number: u32) -> Result<String, AllocError> {
-    format!(in alloc; "set k{number:02} 0 0 2\r\n{number:02}\r\n")
+    match set_once(alloc, number) {
+        Err(_) => set_once(alloc, number),
+        text => text,
+    }
 }
 
 /// Returns the command that gets the key of a number.
 pub(crate) fn get_of(alloc: Global, number: u32) -> Result<String, AllocError> {
-    format!(in alloc; "get k{number:02}\r\n")
+    match get_once(alloc, number) {
+        Err(_) => get_once(alloc, number),
+        text => text,
+    }
 }
 
 /// Returns the reply to a get of a number's key.
 pub(crate) fn hit_of(alloc: Global, number: u32) -> Result<String, AllocError> {
-    format!(in alloc; "VALUE k{number:02} 0 2\r\n{number:02}\r\nEND\r\n")
+    match hit_once(alloc, number) {
+        Err(_) => hit_once(alloc, number),
+        text => text,
+    }
 }
 
 /// Returns a set of a key to 600000 bytes: an item in the class of whole pages.

@@ -1,8 +1,9 @@
 //! Runs that go on past refusals. What is set up before a run is made again if memory is refused.
 
-use crate::texts::{HIT, MISS, get_of, hit_of, large_set, set_of};
-use crate::told::{is_told, second_finds};
-use crate::worlds::{opened_twice, world, world_of};
+use crate::runs::opened_twice;
+use crate::texts::{HIT, MISS, NO_CHUNK, get_of, hit_of, large_set, set_of};
+use crate::told::{is_refused, is_told, second_finds};
+use crate::worlds::retried_world;
 use mc_hop::{Constant, Fnv, KeyHash};
 use mc_protocol::Bytes;
 use mc_world::{Event, World};
@@ -22,7 +23,7 @@ fn set_turn(rt: &impl Abort, alloc: Global, world: &mut World<Fnv>) -> &'static 
     let (told, found) = match world.run(alloc, &[Event::Piece(1, Bytes::of(SET)), Event::Turn(1)]) {
         Ok(()) => (b"STORED\r\n".as_slice(), HIT),
         Err(refused) => {
-            assert!(rt; refused.session == Some(1) && world.is_closed(1));
+            is_refused(rt, world, 1, &refused);
             (b"".as_slice(), if refused.decided { HIT } else { MISS })
         }
     };
@@ -100,44 +101,70 @@ fn tells<K: KeyHash + Drop>(
         is_told(rt, world, 1, output);
     } else {
         assert!(rt; ended.refused == 1);
-        assert!(rt; world.session_count() == 0 || world.is_closed(1));
-        assert!(rt; output.starts_with(world.out(1)));
+        is_closed(rt, world, output);
     }
+}
+
+/// Checks that session 1 is closed, or wasn't opened, and that its output is a beginning of this.
+fn is_closed<K: KeyHash + Drop>(rt: &impl Abort, world: &World<K>, output: &[u8]) {
+    assert!(rt; world.session_count() == 0 || world.is_closed(1));
+    assert!(rt; output.starts_with(world.out(1)));
+}
+
+/// Appends commands that find no room behind a set of `b`, and then one that gets `b`.
+fn add_refused(alloc: Global, input: &mut Vec<u8>) -> Result<(), AllocError> {
+    let large = large_set(alloc, 'b', 0, b'z')?;
+    input.extend_from_slice(b"set s 0 0 1\r\ny\r\n")?;
+    input.extend_from_slice(&large)?;
+    input.extend_from_slice(b"get b\r\n")
+}
+
+fn full_store_asked_once(alloc: Global) -> Result<Vec<u8>, AllocError> {
+    let mut input = large_set(alloc, 'b', 0, b'x')?;
+    add_refused(alloc, &mut input)?;
+    Ok(input)
 }
 
 /// Returns commands for a store of one page: one fills the page, and the next finds no room.
 fn full_store_asked(alloc: Global) -> Result<Vec<u8>, AllocError> {
-    let mut input = large_set(alloc, 'b', 0, b'x')?;
-    input.extend_from_slice(b"set s 0 0 1\r\ny\r\n")?;
-    input.extend_from_slice(&large_set(alloc, 'b', 0, b'z')?)?;
-    input.extend_from_slice(b"get b\r\n")?;
-    Ok(input)
+    match full_store_asked_once(alloc) {
+        Err(_) => full_store_asked_once(alloc),
+        made => made,
+    }
+}
+
+/// Appends the output of these.
+fn add_full_store_told(output: &mut Vec<u8>) -> Result<(), AllocError> {
+    output.extend_from_slice(b"STORED\r\n")?;
+    output.extend_from_slice(NO_CHUNK.as_bytes())?;
+    output.extend_from_slice(NO_CHUNK.as_bytes())?;
+    output.extend_from_slice(b"VALUE b 0 600000\r\n")?;
+    output.resize(output.len() + 600000, b'x')?;
+    output.extend_from_slice(b"\r\nEND\r\n")
+}
+
+fn full_store_told_once(alloc: Global) -> Result<Vec<u8>, AllocError> {
+    let mut output = Vec::new(alloc);
+    add_full_store_told(&mut output)?;
+    Ok(output)
 }
 
 /// Returns the output of these.
 fn full_store_told(alloc: Global) -> Result<Vec<u8>, AllocError> {
-    let no_room = b"SERVER_ERROR out of memory storing object\r\n";
-    let mut output = Vec::new(alloc);
-    output.extend_from_slice(b"STORED\r\n")?;
-    output.extend_from_slice(no_room)?;
-    output.extend_from_slice(no_room)?;
-    output.extend_from_slice(b"VALUE b 0 600000\r\n")?;
-    output.resize(output.len() + 600000, b'x')?;
-    output.extend_from_slice(b"\r\nEND\r\n")?;
-    Ok(output)
+    match full_store_told_once(alloc) {
+        Err(_) => full_store_told_once(alloc),
+        made => made,
+    }
 }
 
-/// Opens session 1 of a world of one page, brings this to it, and takes four turns.
-fn full_store_tells(
+/// Opens session 1 of a world, brings this to it, and takes four turns.
+fn full_store_tells_in(
     rt: &impl Abort,
     alloc: Global,
+    world: &mut World<Fnv>,
     input: &[u8],
     output: &[u8],
-) -> Result<(), Fail> {
-    let mut world = match world_of(alloc, Fnv, 1) {
-        Err(_) => world_of(alloc, Fnv, 1)?,
-        Ok(world) => world,
-    };
+) {
     let events = [
         Event::Open,
         Event::Piece(1, Bytes::of(input)),
@@ -146,70 +173,139 @@ fn full_store_tells(
         Event::Turn(1),
         Event::Turn(1),
     ];
-    tells(rt, alloc, &mut world, &events, output);
+    tells(rt, alloc, world, &events, output);
+}
+
+/// The same, in a new world of one page.
+fn full_store_tells(
+    rt: &impl Abort,
+    alloc: Global,
+    input: &[u8],
+    output: &[u8],
+) -> Result<(), Fail> {
+    let mut world = retried_world(alloc, Fnv, 1)?;
+    full_store_tells_in(rt, alloc, &mut world, input, output);
     Ok(())
 }
 
 #[test]
 fn a_full_store_is_no_refusal(rt: HostRuntime) -> Result<(), Fail> {
-    let input = full_store_asked(rt.alloc()).or_else(|_| full_store_asked(rt.alloc()))?;
-    let output = full_store_told(rt.alloc()).or_else(|_| full_store_told(rt.alloc()))?;
+    let input = full_store_asked(rt.alloc())?;
+    let output = full_store_told(rt.alloc())?;
     full_store_tells(&rt, rt.alloc(), &input, &output)
+}
+
+/// Appends commands that set forty keys.
+fn add_sets(alloc: Global, input: &mut Vec<u8>) -> Result<(), AllocError> {
+    for key in 1..41 {
+        let set = set_of(alloc, key)?;
+        input.extend_from_slice(set.as_bytes())?;
+    }
+    Ok(())
+}
+
+/// Appends commands that get them.
+fn add_gets(alloc: Global, input: &mut Vec<u8>) -> Result<(), AllocError> {
+    for key in 1..41 {
+        let get = get_of(alloc, key)?;
+        input.extend_from_slice(get.as_bytes())?;
+    }
+    Ok(())
+}
+
+fn forty_keys_asked_once(alloc: Global) -> Result<Vec<u8>, AllocError> {
+    let mut input = Vec::new(alloc);
+    add_sets(alloc, &mut input)?;
+    add_gets(alloc, &mut input)?;
+    Ok(input)
 }
 
 /// Returns commands that set and then get forty keys.
 fn forty_keys_asked(alloc: Global) -> Result<Vec<u8>, AllocError> {
-    let mut input = Vec::new(alloc);
-    for key in 1..41 {
-        input.extend_from_slice(set_of(alloc, key)?.as_bytes())?;
+    match forty_keys_asked_once(alloc) {
+        Err(_) => forty_keys_asked_once(alloc),
+        made => made,
     }
-    for key in 1..41 {
-        input.extend_from_slice(get_of(alloc, key)?.as_bytes())?;
+}
+
+/// Appends the replies to the sets.
+fn add_stored(output: &mut Vec<u8>) -> Result<(), AllocError> {
+    for _key in 1..41 {
+        output.extend_from_slice(b"STORED\r\n")?;
     }
-    Ok(input)
+    Ok(())
+}
+
+/// Appends the replies to the gets.
+fn add_hits(alloc: Global, output: &mut Vec<u8>) -> Result<(), AllocError> {
+    for key in 1..41 {
+        let hit = hit_of(alloc, key)?;
+        output.extend_from_slice(hit.as_bytes())?;
+    }
+    Ok(())
+}
+
+fn forty_keys_told_once(alloc: Global) -> Result<Vec<u8>, AllocError> {
+    let mut output = Vec::new(alloc);
+    add_stored(&mut output)?;
+    add_hits(alloc, &mut output)?;
+    Ok(output)
 }
 
 /// Returns the output of these.
 fn forty_keys_told(alloc: Global) -> Result<Vec<u8>, AllocError> {
-    let mut output = Vec::new(alloc);
-    for _key in 1..41 {
-        output.extend_from_slice(b"STORED\r\n")?;
+    match forty_keys_told_once(alloc) {
+        Err(_) => forty_keys_told_once(alloc),
+        made => made,
     }
-    for key in 1..41 {
-        output.extend_from_slice(hit_of(alloc, key)?.as_bytes())?;
-    }
-    Ok(output)
 }
 
-/// Opens session 1, brings this to it, and takes eighty turns, each followed by growth.
-fn turns_with_growth(alloc: Global, input: &[u8]) -> Result<Vec<Event<'_>>, AllocError> {
-    let mut events = Vec::new(alloc);
-    events.push(Event::Open)?;
-    events.push(Event::Piece(1, Bytes::of(input)))?;
+/// Appends eighty turns, each followed by growth.
+fn add_turns(events: &mut Vec<Event<'_>>) -> Result<(), AllocError> {
     for _ in 0..80 {
         events.push(Event::Turn(1))?;
         events.push(Event::Grow(0))?;
     }
+    Ok(())
+}
+
+fn turns_with_growth_once(alloc: Global, input: &[u8]) -> Result<Vec<Event<'_>>, AllocError> {
+    let mut events = Vec::new(alloc);
+    events.push(Event::Open)?;
+    events.push(Event::Piece(1, Bytes::of(input)))?;
+    add_turns(&mut events)?;
     Ok(events)
+}
+
+/// Opens session 1, brings this to it, and takes eighty turns, each followed by growth.
+fn turns_with_growth(alloc: Global, input: &[u8]) -> Result<Vec<Event<'_>>, AllocError> {
+    match turns_with_growth_once(alloc, input) {
+        Err(_) => turns_with_growth_once(alloc, input),
+        made => made,
+    }
+}
+
+/// Checks the output of a world of one hash after events.
+fn one_hash_tells(
+    rt: &impl Abort,
+    alloc: Global,
+    events: &[Event<'_>],
+    output: &[u8],
+) -> Result<(), Fail> {
+    let mut world = retried_world(alloc, Constant(0), 64)?;
+    tells(rt, alloc, &mut world, events, output);
+    Ok(())
 }
 
 /// Checks the output of a world of one hash, while it grows.
 fn growing_tells(rt: &impl Abort, alloc: Global, input: &[u8], output: &[u8]) -> Result<(), Fail> {
-    let events = match turns_with_growth(alloc, input) {
-        Err(_) => turns_with_growth(alloc, input)?,
-        Ok(events) => events,
-    };
-    let mut world = match world(alloc, Constant(0)) {
-        Err(_) => world(alloc, Constant(0))?,
-        Ok(made) => made,
-    };
-    tells(rt, alloc, &mut world, &events, output);
-    Ok(())
+    let events = turns_with_growth(alloc, input)?;
+    one_hash_tells(rt, alloc, &events, output)
 }
 
 #[test]
 fn growth_is_no_refusal(rt: HostRuntime) -> Result<(), Fail> {
-    let input = forty_keys_asked(rt.alloc()).or_else(|_| forty_keys_asked(rt.alloc()))?;
-    let output = forty_keys_told(rt.alloc()).or_else(|_| forty_keys_told(rt.alloc()))?;
+    let input = forty_keys_asked(rt.alloc())?;
+    let output = forty_keys_told(rt.alloc())?;
     growing_tells(&rt, rt.alloc(), &input, &output)
 }

@@ -1,9 +1,9 @@
 //! Checks of sessions' outputs.
 
-use crate::worlds::{ask, run};
+use crate::runs::{ask, run};
 use mc_hop::{Constant, Fnv, KeyHash};
 use mc_protocol::Bytes;
-use mc_world::{Event, World};
+use mc_world::{Event, Refused, World};
 use std::alloc::Global;
 use std::process::Abort;
 use std::test::Fail;
@@ -65,11 +65,16 @@ pub(crate) fn second_finds(
     match world.run(alloc, &[get, Event::Turn(2)]) {
         Ok(()) => is_told(rt, world, 2, found),
         Err(refused) => {
-            assert!(rt; refused.session == Some(2) && world.is_closed(2));
+            is_refused(rt, world, 2, &refused);
             third_finds(rt, alloc, world, found)?;
         }
     }
     Ok(())
+}
+
+/// Checks that a session was refused memory, and is closed.
+pub(crate) fn is_refused(rt: &impl Abort, world: &World<Fnv>, session: u32, refused: &Refused) {
+    assert!(rt; refused.session == Some(session) && world.is_closed(session));
 }
 
 /// Opens session 3, and checks that it gets this for `a`.

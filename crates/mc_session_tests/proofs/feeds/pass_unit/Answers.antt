@@ -2,7 +2,7 @@ use Rattle.std.proofs.Common.{◌≡◌, ℕ, List, Option, Some, None, IfSome, 
 use Rattle.std.specs.Option.{option_map}
 use Rattle.mc_parse.specs.Units.{ProtocolUnit}
 use Rattle.mc_parse.specs.Peeks.{IsSpelled, unit_of}
-use Rattle.mc_session_tests.proofs.parse_tests.pass_unit.Goals as goal
+use Rattle.mc_session_tests.proofs.feeds.pass_unit.Goals as goal
 
 -- so many bytes spell what was found
 found_len : (greatest passed : ℕ) (bytes : List ℕ) (len : ℕ) (found : Option (ProtocolUnit × ℕ)) → IfSome found (λ p. (passed ≡ 0) × IsSpelled greatest p bytes)
