@@ -1,7 +1,7 @@
 """Runs the gate `rt ci`, judges the wrong bodies, looks at the documents, and tests the programs that were just built: `python3 -m tests.gate`
 
-All print as they go. The last line adds up what was counted: `N passed, N failed`. The status is 0 only where something passed in each
-stage, nothing failed and all ended well.
+All print as they go. At the end stands once more what failed, a line each, and the last line adds up what was counted: `N passed, N failed`.
+The status is 0 only where something passed in each stage, nothing failed and all ended well.
 
 `rt ci` tries each edit of must-fail/ alone, which costs the proof of its crate. So the edits are set aside in out/must-fail/ while it runs, and
 judged with the wrong bodies, by one check a crate.
@@ -25,6 +25,15 @@ STAGES = [
     ("refusals", "mc_server", "build"),
 ]
 COUNTS = re.compile(rb"(\d+) passed, (\d+) failed")
+# What a line says that `rt ci` or tests.wrong prints of a failure.
+FAILURE = re.compile(rb"FAILED|NOT PROVED|\bfailed:")
+# What the stages said of failures, for the end.
+failures = []
+
+
+def fails(stage, what):
+    """Notes a failure for the end."""
+    failures.append(f"{stage}: {what}"[:500])
 
 
 def command(name, words):
@@ -39,10 +48,13 @@ def command(name, words):
     for line in started.stdout:
         sys.stdout.buffer.write(line)
         sys.stdout.flush()
+        if FAILURE.search(line):
+            fails(name, line.strip().decode(errors="replace"))
         last = line.strip() or last
     status, found = started.wait(), COUNTS.fullmatch(last)
     passed, failed = map(int, found.groups()) if found else (0, 0)
     if status or not passed:
+        fails(name, f"ended with status {status}")
         print(f"{name}: ended with status {status}, and its last line is {last.decode(errors='replace')}", flush=True)
     # what fails without being counted, or runs nothing, is one failure
     return passed, failed or int(bool(status) or not passed)
@@ -74,6 +86,8 @@ def tests(kind):
     """Runs the tests of a kind, and gives their counts."""
     print(f"== {kind}: python3 -m tests {kind}", flush=True)
     result = run(kind)
+    for test, why in result.failures + result.errors:
+        fails(kind, f"{test.id()}: {why.strip().splitlines()[-1]}")
     return result.passed, result.failed or int(not result.wasSuccessful())
 
 
@@ -98,7 +112,7 @@ def main():
     with edits_aside():
         counts = [command("gate", ["rt", "ci"])]
     if counts[0][1]:
-        print("wrong bodies: not judged, as they stand over what the gate proves", flush=True)
+        fails("wrong bodies", "not judged, as they stand over what the gate proves")
         counts.append((0, 1))
     else:
         counts.append(command("wrong bodies", [sys.executable, "-m", "tests.wrong", "--left", "--edits"]))
@@ -112,9 +126,11 @@ def main():
         if stands:
             counts.append(tests(kind))
         else:
-            print(f"{kind}: no {program} to run on", flush=True)
+            fails(kind, f"no {program} to run on")
             counts.append((0, 1))
     passed, failed = map(sum, zip(*counts))
+    for line in failures:
+        print(f"failed in {line}", flush=True)
     print(f"{passed} passed, {failed} failed", flush=True)
     return 0 if passed and not failed else 1
 

@@ -20,8 +20,8 @@ IDLE = 8192
 UNREAD = [(100_000, 60), (20_000, 200), (1_000, 2000)]
 SILENT, EACH = 500, 72 * 1024
 # How many large requests are made before those that are counted, and how many page faults each of these may meet. A buffer of 8 MB
-# that comes from the system meets 2,000.
-FIRST, COUNTED, FAULTS = 3, 6, 16
+# that comes from the system meets 2,000, and the fourth to eleventh set of 8 MB some 10 each.
+FIRST, COUNTED, FAULTS = 12, 6, 8
 # How many pages a store of joined items has, how many workers, and how much each may have of pages that go to and fro.
 PAGES, WORKERS, EXCHANGED = 64, 4, 8 * MB
 
@@ -43,7 +43,8 @@ class Buffers(ProgramCase):
         for most, length, count in ONES:
             with self.subTest(most), limited(most) as server, Beside(server.port):
                 self.others_are_served(server, b"w" * length)
-                before = server.memory()
+                # the most, as what a block was read into is freed when it wasn't needed for a while
+                before = server.memory("VmHWM:")
                 with clients(server.port, count) as peers:
                     sent_as_far(peers, b"set half 0 0 %d\r\n" % length + b"h" * (length - 100), 2)
                     self.others_are_served(server, b"w" * length)

@@ -200,3 +200,34 @@ class LentMemory(ProgramCase):
             had = until(lambda: server.memory() <= before + 2 * LITTLE, GIVEN_BACK)
             self.assertTrue(had, f"it has {server.memory() - before >> 20} MB more")
             costs(server, before, 4 * LITTLE)
+
+
+class Pieces(ProgramCase):
+    """Pages of an item that lie in one memory: a page that serves another item, or is written, keeps nothing of the others."""
+
+    @contextlib.contextmanager
+    def store(self, pages, limit=16):
+        with StillServer(greatest=GREATEST, pages=pages, workers=1, buffers=limit) as server, Peer(server.port, LET_ON) as peer:
+            before = server.memory()
+            yield Told(peer, pages, GREATEST)
+            print(f"    {server.memory() - before >> 20} MB of {pages} pages")
+            costs(server, before, pages * MB + limit * MB + BESIDE)
+
+    def test_small_items_in_their_places(self):
+        """Eight items of eight pages are deleted one by one, and each time seven of a page come."""
+        with self.store(64) as told:
+            for number in range(8):
+                told.asks(setting(b"large%d" % number, block(number, 7_900_000)))
+            for number in range(8):
+                told.asks(b"delete large%d\r\n" % number)
+                for page in range(7):
+                    told.asks(setting(b"small%d" % (7 * number + page), block(page, 1_000_000)))
+            told.asks(b"get small0 small13 small55\r\n")
+
+    def test_appends(self):
+        """Items of two pages are appended to."""
+        with self.store(96) as told:
+            for number in range(48):
+                told.asks(setting(b"item%d" % number, block(number, 1_200_000)))
+                told.asks(b"append item%d 0 0 16\r\n%s\r\n" % (number, block(number, 16)))
+            told.asks(b"get item0 item47\r\n")
