@@ -3,15 +3,15 @@ use Rattle.std.proofs.Common.{◌≡◌, ℕ, ◌+◌, ◌-◌, ◌*◌, ◌<◌
 use Rattle.std.proofs.Common.{eqb-true, zero, suc, leb, le-leb, List, [], ◌∷◌, ◌++◌, length, length-set, replicate, get_or, set}
 use Rattle.std.proofs.Common.{Option, Some, slice_get, Ok, Err, Result, refl, sym, ap, subst, ◌∙◌, arith}
 use Rattle.mc_shelf.proofs.Common.{chunks_a_page, chunks_in, ChunksState, cond_both, count-empty, count-remove, count_of, empty, Entry, EntryState, full_fault}
-use Rattle.mc_shelf.proofs.Common.{get, get_or-replicate, get_or_from_slice_get, given, has_room_with, IsClass, IsFull, IsNeed, IsSlab, item_need, Items}
-use Rattle.mc_shelf.proofs.Common.{made_ready, need_in, NeedState, of_class, out_of, pages_of, pages_wanted, Readies, same_Some, set-get_or, ShelfState}
+use Rattle.mc_shelf.proofs.Common.{get, get_or-replicate, given, has_room_with, IsClass, IsFull, IsNeed, IsSlab, item_need, Items}
+use Rattle.mc_shelf.proofs.Common.{made_ready, need_in, NeedState, of_class, out_of, pages_of, pages_wanted, Readies, same_Some, ShelfState}
 use Rattle.mc_shelf.proofs.Common.{SlabState, Takes, TellsFull, unused, WantsPages}
 use Rattle.std.proofs.lemmas.List.Sums.{sum_by-set}
 use Rattle.mc_slab.specs.Slabs as slabs
 use Rattle.mc_slab.specs.declared.slab.TakeFault.{TakeFault}
 use Rattle.mc_slab.specs.declared.slab.TakeFault.TheVariants.{Full, NoMemory}
 use Rattle.mc_shelf.specs.Asides.{AreCollected, AreOff, GivesOwn, IsOff, LieAside, Suffices, all_out, count_in, seen}
-use Rattle.mc_shelf.proofs.StandLemmas.{out-given, out-taken, weight, weight_here}
+use Rattle.mc_shelf.proofs.StandLemmas.{out-given, out-taken, weight}
 
 -- ---- shelves one after another
 
@@ -60,10 +60,6 @@ off_last all rest after old new entry chunks all_is after_is =
     let behind = ap (λ l. count_in l class) after_is ∙ count_in-last rest new class in
     omega (arith, before, behind))
 
--- none has changed
-pub set_same : (xs : List ShelfState) (at : ℕ) (old new : ShelfState) → slice_get xs at ≡ Some old → new ≡ old → set xs at new ≡ xs
-set_same xs at old new here same = ap (set xs at) (same ∙ sym (get_or_from_slice_get xs at old old here)) ∙ set-get_or xs at old
-
 -- the last one has no items
 pub none_last : (all rest : List ShelfState) (last : ShelfState) → all ≡ rest ++ last ∷ [] → last.content.items ≡ empty → (class : ℕ)
     → count_in all class ≡ count_in rest class
@@ -87,15 +83,7 @@ module _ {slab : SlabState} {out : List ℕ} {shelves : List ShelfState} (lie : 
     most = lie.is_slab.most;
   }
 
-  -- the chunks of one item aside are out
-  pub off_out : {after : List ShelfState} {chunks : ChunksState} → AreOff shelves after chunks → chunks.count ≤ out_of slab chunks.class
-  off_out {after} {chunks} off =
-      let all = lie.account chunks.class off.is_need.is_class in
-      let one = off.counts chunks.class in
-      let here : chunks_in (need_in chunks) chunks.class ≡ chunks.count = weight_here chunks.class chunks.count in
-      omega (arith, all, one, here)
-
-  -- and they are given to the slab
+  -- the chunks of one item aside are given to the slab
   pub off_given : {after : List ShelfState} {chunks : ChunksState} {new : SlabState} → AreOff shelves after chunks → new ≡ given slab chunks.class chunks.count → IsSlab new
       → LieAside new out after
   off_given {after} {chunks} {new} off new_is is = record {
@@ -107,18 +95,6 @@ module _ {slab : SlabState} {out : List ℕ} {shelves : List ShelfState} (lie : 
         let less = ap (λ (s : SlabState). out_of s class) new_is ∙ out-given slab chunks.class off.is_need.is_class lie.is_slab.out chunks.count class is_class in
         omega (arith, all, one, less);
   }
-
--- the chunks of one item of a class are given to the slab
-pub gives_own : {slab new : SlabState} {out : List ℕ} {shelves after : List ShelfState} {chunks : ChunksState} → LieAside slab out shelves → AreOff shelves after chunks
-    → (class : ℕ) → chunks.class ≡ class
-    → new ≡ given slab chunks.class chunks.count → GivesOwn class slab new
-gives_own {slab} {new} {out} {shelves} {after} {chunks} lie off class same new_is = record {
-  is_class = subst IsClass same off.is_need.is_class;
-  count = chunks.count;
-  some = off.is_need.some;
-  within = subst (λ (k : ℕ). chunks.count ≤ out_of slab k) same (off_out lie off);
-  back = new_is ∙ ap (λ (k : ℕ). given slab k chunks.count) same;
-}
 
 pub fewer_own : {slab new : SlabState} {class : ℕ} → IsSlab slab → GivesOwn class slab new → all_out new < all_out slab
 fewer_own {slab} {new} {class} fits own =

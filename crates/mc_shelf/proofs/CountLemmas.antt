@@ -2,7 +2,7 @@
 use Rattle.std.proofs.Common.{◌≡◌, ℕ, ◌+◌, ◌*◌, ◌-◌, ◌≤◌, ◌^◌, ◌⊎◌, inl, inr, Bool, true, false, true≢false, not, ◌&&◌, ◌||◌}
 use Rattle.std.proofs.Common.{List, [], ◌∷◌, zero, suc, Result, Ok, Err, length, length-append, refl, sym, ap}
 use Rattle.std.proofs.Common.{subst, ◌∙◌, arith, ⊎_elim}
-use Rattle.std.specs.Prelude.{min, nat_lt, IfOk, OnOk, OnErr}
+use Rattle.std.specs.Prelude.{min, nat_lt, OnOk, OnErr}
 use Rattle.mc_shelf.proofs.Common.{and_parts, count, entries_of, Entry, EntryMap, EntryState, filled, hash_in, IndexState, is_due, ItemIsChanged, items_in}
 use Rattle.mc_shelf.proofs.Common.{items_of, key_in, lags, left, len, ltb-false, ltb-true, StandsAs}
 use Rattle.std.proofs.lemmas.Grind.{pow_more}
@@ -18,9 +18,6 @@ use Rattle.mc_shelf.specs.Counts.{Begins, BeginsToMove, CatchesUp, CaughtUp, Dro
 module _ (old new : IndexState EntryState) (same_k : new.k ≡ old.k) (same_growing : new.growing ≡ old.growing) where
   pub unmoved : left new ≡ left old → KeepsTable 0 (counts_in old) (counts_in new)
   unmoved same = record { homes = ap (λ k. 2 ^ k) same_k; growing = same_growing; less = omega (arith, same); few = omega (arith, same) }
-
-  pub one_gone : left new ≤ left old → left old ≤ left new + 1 → KeepsTable 1 (counts_in old) (counts_in new)
-  one_gone less few = record { homes = ap (λ k. 2 ^ k) same_k; growing = same_growing; less = less; few = few }
 
 -- ---- moves that catch up
 
@@ -195,14 +192,6 @@ kept_one old new is = record { homes = is.homes; growing = is.growing; less = is
 pub kept_whole : (counts : ShelfCounts) → KeepsTable 1 counts counts
 kept_whole counts = kept_one counts counts (kept counts)
 
-pub kept_then : (old mid new : ShelfCounts) → KeepsTable 1 old mid → KeepsTable 0 mid new → KeepsTable 1 old new
-kept_then old mid new one none = record {
-  homes = none.homes ∙ one.homes;
-  growing = none.growing ∙ one.growing;
-  less = omega (arith, one.less, none.less);
-  few = omega (arith, one.few, none.few);
-}
-
 pub ruleset table_rules = (kept, kept_one, kept_whole)
 
 -- an item was changed
@@ -210,9 +199,6 @@ pub changed_kept : (old new : IndexState EntryState) (key : List ℕ) (item : En
 changed_kept old new key item is = unmoved old new is.same_k is.same_growing is.same_left
 
 -- a step: room is made for an entry first, and then the key's own may go
-pub moved_none : (counts : ShelfCounts) → MovesFew 9 counts counts
-moved_none counts = inl (record { homes = refl; none_begins = λ e. e; less = omega arith; few = omega arith })
-
 pub moved_more : (old new : ShelfCounts) → MovesFew 8 old new → MovesFew 9 old new
 moved_more old new (inl goes) = inl (record { homes = goes.homes; none_begins = goes.none_begins; less = goes.less; few = omega (arith, goes.few) })
 moved_more old new (inr begins) = inr (record { begins = begins.begins; few = omega (arith, begins.few) })
@@ -235,20 +221,7 @@ moved_then old mid new (inl goes) keeps = inl (record {
 })
 moved_then old mid new (inr begins) keeps = inr (record { begins = begun_then old mid new begins.begins keeps; few = omega (arith, begins.few, keeps.few) })
 
--- it goes on in a growth that lags, too
-pub catches_then : (old mid new : ShelfCounts) → CatchesUp old mid → KeepsTable 1 mid new → CatchesUp old new
-catches_then old mid new catches keeps runs load =
-    ⊎_elim (λ less. inl (omega (arith, less, keeps.less)))
-    (λ begins. inr (begun_then old mid new begins keeps)) (catches runs load)
-
-pub ok_any : {T E A : Type 0} (r : Result T E) → A → IfOk r (λ _. A)
-ok_any (Ok x) a = a
-ok_any (Err e) a = tt
-
 -- a sweep
-pub drops_none : (counts : ShelfCounts) → DropsAlone counts counts
-drops_none counts = record { homes = refl; growing = refl; less = omega arith; fewer = omega arith; few = omega arith }
-
 pub drops_one : (old mid new : ShelfCounts) → DropsAlone old mid → KeepsTable 1 mid new → mid.items ≡ new.items + 1 → DropsAlone old new
 drops_one old mid new drops keeps one = record {
   homes = keeps.homes ∙ drops.homes;

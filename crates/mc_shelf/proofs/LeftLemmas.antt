@@ -1,6 +1,6 @@
 -- How many entries each shelf of a store has left to move, after a change of one shelf or of all.
 use Rattle.std.proofs.Common.{◌≡◌, ◌≢◌, ℕ, ◌<◌, ◌≤◌, inl, inr, List, length, Some, slice_get, slice_index, slice_set, take, drop, ◌++◌, sym, ap, subst, ◌∙◌, arith, ⊎_elim}
-use Rattle.mc_shelf.proofs.Common.{cases_eq, get_or-set_other, get_or-set_same, get_or_from_slice_get, IsOnKey, KeyStep, length-map, map-set, option_map, set-get_or, ShelfState, slice_get-map}
+use Rattle.mc_shelf.proofs.Common.{cases_eq, get_or-set_other, get_or-set_same, get_or_from_slice_get, IsOnKey, KeyStep, length-map, map-set, option_map, ShelfState, slice_get-map}
 use Rattle.mc_shelf.proofs.Common.{slice_get_within, take-append_seam}
 use Rattle.mc_protocol.specs.declared.step.KeyStep.TheVariants.{Flush}
 use Rattle.mc_shelf.specs.Counts.{MovesFew}
@@ -48,10 +48,6 @@ module _ (list : List ShelfState) (at : ℕ) {shelf : ShelfState} (shelf' : Shel
       ⊎_elim (λ same. let here_is : slice_index (lefts (slice_set list at shelf')) k ≡ shelf'.left = ap (slice_index (lefts (slice_set list at shelf'))) same ∙ is in
       let here_was : slice_index (lefts list) k ≡ shelf.left = ap (slice_index (lefts list)) same ∙ was in omega (arith, here_is, here_was, less))
       (λ other. let same = falls_elsewhere k other in omega (arith, same)) (cases_eq k at)
-
--- the shelf at a place stays
-pub falls_not : (at : ℕ) (left : List ℕ) → FallsAt at left left
-falls_not at left = (sym (set-get_or left at 0), omega arith)
 
 -- shelves in turn
 pub rises_none : (list : List ShelfState) → NoneRises (lefts list) (lefts list)

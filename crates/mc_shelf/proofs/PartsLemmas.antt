@@ -25,9 +25,6 @@ from_here : (parts : List (List ℕ)) (at : ℕ) (part : List ℕ) → slice_get
 from_here parts at part there =
     drop_more parts at [] (slice_get_within parts at part there) ∙ ap (λ (p : List ℕ). p ∷ drop (at + 1) parts) (get_or_from_slice_get parts at part [] there)
 
-pub blank_on : (parts : List (List ℕ)) (at : ℕ) (part : List ℕ) → slice_get parts at ≡ Some part → list_all is_space part ≡ true → are_blank (drop at parts) ≡ are_blank (drop (at + 1) parts)
-blank_on parts at part there blank = ap are_blank (from_here parts at part there) ∙ ap (λ (b : Bool). b && are_blank (drop (at + 1) parts)) blank
-
 pub blank_off : (parts : List (List ℕ)) (at : ℕ) (part : List ℕ) → slice_get parts at ≡ Some part → list_all is_space part ≡ false → are_blank (drop at parts) ≡ false
 blank_off parts at part there not_blank = ap are_blank (from_here parts at part there) ∙ ap (λ (b : Bool). b && are_blank (drop (at + 1) parts)) not_blank
 

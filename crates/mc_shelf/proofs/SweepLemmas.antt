@@ -1,13 +1,12 @@
 -- What a sweep over an index drops of a shelf, and gives back to a desk.
 use Rattle.std.proofs.Common.{◌≡◌, ◌≢◌, ℕ, ◌+◌, ◌<◌, ◌≤◌, true, false, cond, List, [], ◌∷◌, ◌++◌, get_or, Option, Some, None, is_some, is_none, refl, sym, ap, subst, ◌∙◌, arith}
 use Rattle.std.proofs.Common.{if◌then◌else◌, inl, inr}
-use Rattle.mc_shelf.proofs.Common.{alive, cases_lt, cells, chunks_in, ChunksState, cond_both, count-remove, count_from, count_of, DeskState, empty, entries_of}
+use Rattle.mc_shelf.proofs.Common.{alive, cases_lt, cells, chunks_in, ChunksState, cond_both, count-remove, count_of, DeskState, empty, entries_of}
 use Rattle.mc_shelf.proofs.Common.{Entry, entry_at, EntryState, get, get-empty, get-remove, given, Hashes, hashes_of, IndexState, is_dead, IsClass, IsFirstFrom}
 use Rattle.mc_shelf.proofs.Common.{EntriesAreKeyed, IsNeed, IsNext, IsSlab, item_need, Items, items_of, KeepsLower, KeyGoes, living, nat_list_cmp_total, need_in}
 use Rattle.mc_shelf.proofs.Common.{NeedState, none-some, of_class, option_copied, out_of, Place, remove, same_Some, ShelfContent, ShelfState}
 use Rattle.std.specs.Borrow.{Bor}
 use Rattle.mc_shelf.specs.Counts.{DropsAlone, KeepsTable, counts_in, counts_of}
-use Rattle.mc_shelf.specs.declared.counts.ShelfCounts.{ShelfCounts}
 use Rattle.mc_shelf.specs.Plans.{is_gone, item_in}
 use Rattle.mc_shelf.specs.Sweeps.{GivesFor, IsPurged, count_among}
 use Rattle.mc_shelf.specs.Deaths.{DieNoSooner, DiesNoSooner, NoneIsDead}
@@ -16,15 +15,12 @@ use Rattle.mc_shelf.proofs.KeyLemmas.{order, same_maps, get_kept, get_gone, get_
 use Rattle.mc_shelf.proofs.LabelLemmas.{same, same_list}
 use Rattle.mc_shelf.proofs.KeyMapLemmas.{hash_absent, item_held}
 use Rattle.mc_shelf.proofs.IndexLemmas.{numbered}
-use Rattle.mc_shelf.proofs.CountLemmas.{drops_none, drops_one}
+use Rattle.mc_shelf.proofs.CountLemmas.{drops_one}
 use Rattle.mc_shelf.proofs.LenLemmas.{one_less}
 use Rattle.mc_shelf.proofs.ShelfLemmas.{content_of}
 use Rattle.mc_shelf.proofs.StandLemmas.{out-given, weight, weight_here}
 
 -- ---- the desk
-
-pub gives_none : (items : Items) (desk : DeskState) → GivesFor items items desk desk
-gives_none items desk = record { out = λ class is. refl; pages = refl; limit = refl; next_unique = refl }
 
 module _ {items : Items} {was new : IndexState EntryState} {desk desk' : DeskState} (entry : EntryState) (chunks : ChunksState)
     (gives : GivesFor items (items_of was) desk desk') (are : (class : ℕ) → IsClass class → count_of items class ≤ out_of desk.slab class)
@@ -108,12 +104,6 @@ abbrev pub Below : IndexState EntryState → ℕ → (EntryState → Type 0) →
 Below index at P = (k : ℕ) (e : EntryState) → k < at → get_or (cells index) k None ≡ Some e → P e
 
 module _ {index : IndexState EntryState} {at number : ℕ} {place : Place} (first : IsFirstFrom index at number place) where
-  -- after a removal so many fewer are ahead
-  pub fewer_removed : {new : IndexState EntryState} → KeepsLower index new place.number → count_from new number < count_from index at
-  fewer_removed {new} keeps =
-      let count = subst (λ n. count_from index n ≡ count_from new n + 1) first.same keeps.count in
-      omega (arith, first.ahead, count)
-
   module _ (P : EntryState → Type 0) (below : Below index at P) where
     below_skipped : Below index number P
     below_skipped k e lt there = elim (cases_lt k at) [ inl less ↦ below k e less there | inr behind ↦ absurd (none-some e (sym (first.skipped k behind lt) ∙ there)) ]
@@ -215,15 +205,6 @@ pub record IsSwept (now : ℕ) (old : ShelfState) (greatest : ℕ) (cut : Option
   pub swept : Swept now old.content (content_of greatest cut index)
   pub table : DropsAlone (counts_of old) (counts_in index)
   pub below : Below index at (Stays cut now soonest)
-
-pub swept_start : {now greatest : ℕ} {cut : Option ℕ} {index : IndexState EntryState} {seen old : ShelfState} {soonest : Soonest} → seen ≡ old → content_of greatest cut index ≡ seen.content
-    → counts_in index ≡ counts_of seen → greatest ≤ 8388608 → IsSwept now old greatest cut index 0 soonest
-swept_start {now} {greatest} {cut} {index} is content counts most = record {
-  most = most;
-  swept = subst (λ (s : ShelfContent). Swept now s (content_of greatest cut index)) (content ∙ ap (λ (s : ShelfState). s.content) is) (swept_none now (content_of greatest cut index));
-  table = subst (λ (s : ShelfCounts). DropsAlone s (counts_in index)) (counts ∙ ap (λ (s : ShelfState). counts_of s) is) (drops_none (counts_in index));
-  below = λ k e lt there. absurd (omega arith);
-}
 
 module _ {now : ℕ} {old : ShelfState} {greatest : ℕ} {cut : Option ℕ} {index : IndexState EntryState} {at : ℕ} {soonest : Soonest} (held : IsSwept now old greatest cut index at soonest) where
   module _ {number : ℕ} {place : Place} (first : IsFirstFrom index at number place) (found : Option (Bor EntryState)) (copied : option_copied found ≡ entry_at index place) where

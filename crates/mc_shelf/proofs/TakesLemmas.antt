@@ -1,21 +1,20 @@
 -- What a shelf and a desk make of a plan is what the plain machine makes of the step.
-use Rattle.std.proofs.Common.{◌≡◌, ◌≢◌, ℕ, ◌+◌, ◌-◌, ◌<◌, ◌≤◌, ◌^◌, Bool, true, false, ◌&&◌, ◌||◌, List, [], decimal, Option, Some, None, inl, inr}
+use Rattle.std.proofs.Common.{◌≡◌, ◌≢◌, ℕ, ◌+◌, ◌-◌, ◌<◌, ◌≤◌, ◌^◌, Bool, true, false, ◌&&◌, ◌||◌, List, [], decimal, Option, Some, None}
 use Rattle.std.proofs.Common.{is_some, is_none, ◌*◌, ◌==◌, eqb, eqb-true, if◌then◌else◌, refl, sym, ap, subst, ◌∙◌, arith, le-leb, lt-ltb, not, true≢false}
 use Rattle.mc_shelf.proofs.Common.{alive, and_parts, and_right, Answered, Appended, block_need, block_of, Body, CanStandAt, changed, charge, chunks_a_page, chunks_in}
 use Rattle.mc_shelf.proofs.Common.{count-remove, count_of, Counted, DeskState, Draft, empty, Entry, Expiry, get, Given, given, has_room, insert, StandsAt, IsClass}
-use Rattle.mc_shelf.proofs.Common.{IsHash, IsNeed, IsOnKey, IsSlab, item_need, keeps_chunk, key_of, KeyStep, need_for, NeedState, NoChunk, of_class}
-use Rattle.mc_shelf.proofs.Common.{or_right, out_of, Plain, plain, Prepended, remove, Reply, same_need, same_Some, ShelfContent, SlabState, taken, with_chunk, write_reply}
+use Rattle.mc_shelf.proofs.Common.{IsHash, IsNeed, IsOnKey, IsSlab, item_need, keeps_chunk, key_of, KeyStep, made_ready, need_for, NeedState, NoChunk, of_class}
+use Rattle.mc_shelf.proofs.Common.{or_right, out_of, Plain, plain, Prepended, remove, Reply, same_need, same_Some, ShelfContent, ShelfState, SlabState, taken, with_chunk, write_reply}
 use Rattle.mc_shelf.proofs.Common.{written, written_block, wrote}
 use Rattle.mc_slab.specs.Slabs as slabs
 use Rattle.mc_protocol.specs.Plain as machine
 use Rattle.mc_shelf.specs.declared.plan.Action.{Action}
 use Rattle.mc_shelf.specs.declared.plan.Action.TheVariants.{Answer, Expire, Discard, Write}
 use Rattle.mc_shelf.specs.declared.write.Write.{Write as Writing}
-use Rattle.mc_shelf.specs.Overs.{GoesOver}
-use Rattle.mc_shelf.specs.Plans.{GivesBack, GivesChunks, MayBeLeft, gives_way, IsDropped, IsOut, IsPut, IsSpent, StepTaken, IsWriteOf, TakesStepAtKey, back_at}
+use Rattle.mc_shelf.specs.Plans.{GivesBack, GivesChunks, GoesOver, LiesInNeed, gives_way, IsDropped, IsOut, IsPut, IsSpent, StepTaken, IsWriteOf, TakesStepAtKey, back_at}
 use Rattle.mc_shelf.specs.Plans.{block_beside, block_in, counts, dead_chunks, drafted, made_block, has_need, is_gone, next_of, readied, reuses, row_at, stood, way_given}
 use Rattle.mc_shelf.proofs.StandLemmas.{base, step_is, at_none, at_dropped, at_put_again, counts_put, given_taken, out-given, out-taken, out-way}
-use Rattle.mc_shelf.proofs.StandLemmas.{out_found, out_some, pages-way, pages_after, pages_are, pages_stay, room_by_free, room_is, taken_is_slab, weight, weight_here}
+use Rattle.mc_shelf.proofs.StandLemmas.{out_found, out_some, pages-way, pages_after, pages_are, pages_stay, ready_unused, room_by_free, room_is, taken_is_slab, weight, weight_here}
 use Rattle.mc_shelf.proofs.NeedLemmas.{need_class, needs_same}
 use Rattle.mc_shelf.proofs.ShelfLemmas.{others_same}
 use Rattle.mc_shelf.proofs.StandLemmas.{wrote_full, wrote_kept, wrote_spent, wrote_taken}
@@ -107,16 +106,12 @@ module _ (step : KeyStep) (now : ℕ) (shelf : ShelfContent) (desk : DeskState) 
 
 -- ---- which chunks a write goes to
 
--- a body that counts, and one that may be left, may go into the item's own chunks
-pub goes_counted : (body : Body) → counts body ≡ true → GoesOver body
+-- a body that counts may go into the item's own chunks
+goes_counted : (body : Body) → counts body ≡ true → GoesOver body
 goes_counted Given e = tt
 goes_counted Appended e = tt
 goes_counted Prepended e = absurd (true≢false (sym e))
 goes_counted (Counted number) e = tt
-
-pub goes_left : (body : Body) → MayBeLeft body → GoesOver body
-goes_left body (inl given) = subst GoesOver (sym given) tt
-goes_left body (inr appended) = subst GoesOver (sym appended) tt
 
 same_needs : (a b : NeedState) → same_need a b ≡ true → a ≡ b
 same_needs a b e =
@@ -251,19 +246,6 @@ module _ {step : KeyStep} {now : ℕ} {shelf : ShelfContent} {desk : DeskState} 
   need_charge : need ≡ block_need its_key block
   need_charge = w.need_is ∙ ap need_for drafted_is.size_is
 
-  -- how the chunks of the item under the key suit it, where the key is known by another name
-  pub reuses_by : {key : List ℕ} {b : Bool} → key ≡ its_key → reuses shelf.cut now key (get shelf.items key) need draft.body ≡ b → Reuses b
-  reuses_by {key} {b} = subst (λ (k : List ℕ). reuses shelf.cut now k (get shelf.items k) need draft.body ≡ b)
-
-  pub has_by : {key : List ℕ} → key ≡ its_key → has_need key (get shelf.items key) need ≡ true → has_need its_key its_found need ≡ true
-  has_by = subst (λ (k : List ℕ). has_need k (get shelf.items k) need ≡ true)
-
-  pub free_by : {key : List ℕ} {Is : Type 0} → key ≡ its_key → (reuses shelf.cut now key (get shelf.items key) need draft.body ≡ false → Is) → Reuses false → Is
-  free_by {key} {Is} = subst (λ (k : List ℕ). reuses shelf.cut now k (get shelf.items k) need draft.body ≡ false → Is)
-
-  pub back_by : {key : List ℕ} {told : ℕ} → key ≡ its_key → told ≡ back_at shelf key now need → told ≡ back
-  back_by same is = is ∙ ap (λ (k : List ℕ). back_at shelf k now need) same
-
   pub room_by : {told : ℕ} {has b : Bool} → told ≡ back → has ≡ slabs.has_room_with desk.slab need told → has ≡ b → slabs.has_room_with desk.slab need back ≡ b
   room_by same is e = sym (is ∙ ap (slabs.has_room_with desk.slab need) same) ∙ e
 
@@ -299,20 +281,22 @@ module _ {step : KeyStep} {now : ℕ} {shelf : ShelfContent} {desk : DeskState} 
       by None is = drafted_is.given is
       by (Some old) is = absurd (true≢false (sym (counted_is e old is) ∙ none))
 
-  -- or it may be left
-  pub left_over : (Reuses false → MayBeLeft draft.body) → counts draft.body ≡ false → MayBeLeft draft.body
-  left_over left none = elim (reuses shelf.cut now its_key its_found need draft.body) as (λ b. Reuses b → MayBeLeft draft.body) [
-    | true ↦ λ e. inl (own_is e none)
-    | false ↦ left
+  -- either may go there
+  pub goes_over : (Reuses false → GoesOver draft.body) → GoesOver draft.body
+  goes_over over = elim (reuses shelf.cut now its_key its_found need draft.body) as (λ b. Reuses b → GoesOver draft.body) [
+    | true ↦ λ e. elim (counts draft.body) as (λ b. counts draft.body ≡ b → GoesOver draft.body) [ true ↦ goes_counted draft.body | false ↦ λ none. subst GoesOver (sym (own_is e none)) tt ] refl
+    | false ↦ over
   ] refl
 
   -- where the key's item has the chunks of the need, they are those of the block that is made beside it
-  pub need_beside : (item : Entry) → item_need its_key item ≡ need → item_need its_key item ≡ block_need its_key (block_beside shelf step draft)
-  need_beside item is = is ∙ need_charge ∙ ap (block_need its_key) (sym beside_is)
-
-  -- the item goes into the chunks of the key's item, where as many others are unused
-  pub item_over : has_need its_key its_found need ≡ true → (old : Entry) × (its_found ≡ Some old) × (item_need its_key old ≡ block_need its_key (block_beside shelf step draft))
-  item_over has = let there = need_of_found its_key its_found need has in (there.0, there.1, need_beside there.0 there.2)
+  pub item_over : (state : ShelfState) → state.content ≡ shelf → has_need its_key its_found need ≡ true → LiesInNeed its_key (block_beside shelf step draft) state
+  item_over state same has =
+      let there = need_of_found its_key its_found need has in
+      record {
+        item = there.0;
+        there = ap (λ (s : ShelfContent). get s.items its_key) same ∙ there.1;
+        need = there.2 ∙ need_charge ∙ ap (block_need its_key) (sym beside_is);
+      }
 
   pub block_given : draft.body ≡ Given → block_of step ≡ block_beside shelf step draft
   block_given given = ap (λ (b : Body). made_block b (block_of step) (block_in its_found)) (sym given)
@@ -333,6 +317,26 @@ module _ {step : KeyStep} {now : ℕ} {shelf : ShelfContent} {desk : DeskState} 
       let way = way_is e some in
       let its_class : IsClass (item_need its_key way.0).class = subst IsClass (sym (way.2 ∙ ap (λ (n : NeedState). n.class) w.need_is)) (need_class size) in
       subst (λ (t : ℕ × ℕ). t.0 ≤ out_of desk.slab t.1) (λ i. (way.3 i, way.2 i)) (is_out its_key shelf desk can way.0 way.1 its_class)
+
+  -- it was dropped, and its chunks went back to the desk, which was made ready: what is there then, and what the write makes
+  -- beside it
+  pub gave_way : Reuses false → IsSlab desk.slab → CanStandAt its_key shelf desk → {told own : ℕ} {mid : ShelfContent} {ready gave : DeskState} → told ≡ back → 0 < told
+      → ready ≡ readied need told desk → ((item : Entry) → its_found ≡ Some item → IsDropped its_key own shelf mid) → GivesBack its_key its_found ready gave
+      → IsDropped its_key own shelf mid × (gave ≡ record desk { slab = given (made_ready desk.slab need back) need.class back }) × (need.count ≤ slabs.unused gave.slab need.class)
+      × (block_beside mid step draft ≡ block_beside shelf step draft)
+  gave_way e is can {told} {own} {mid} {ready} {gave} told_is some ready_is dropped gives =
+      let more = subst (λ (n : ℕ). 0 < n) told_is some in
+      let way = way_is e more in
+      let readied_is : ready ≡ readied need back desk = ready_is ∙ ap (λ (n : ℕ). readied need n desk) told_is in
+      let one : GivesChunks (item_need its_key way.0) ready gave = subst (λ (o : Option Entry). GivesBack its_key o ready gave) way.1 gives in
+      let gave_is : gave ≡ record desk { slab = given (made_ready desk.slab need back) need.class back } =
+      one.given_is ∙ (λ i. record (readied_is i) { slab = given (readied_is i).slab (way.2 i) (way.3 i) }) in (
+        dropped way.0 way.1,
+        gave_is,
+        subst (λ (d : DeskState). need.count ≤ slabs.unused d.slab need.class) (sym gave_is)
+            (ready_unused desk.slab need (subst (λ (n : NeedState). IsClass n.class) (sym w.need_is) (need_class size)) is back (way_out e more can)),
+        ap (λ (b : Body). made_block b (block_of step) (block_in (get mid.items its_key))) way.4 ∙ block_given way.4,
+      )
 
   module _ (is_need : IsNeed need) (is : IsSlab desk.slab) (more : desk.next_unique < 2 ^ 64 - 1) where
     its_wrote : (s : Plain) → StandsAt its_key shelf desk s → plain s step now ≡ wrote_at shelf step now draft s
@@ -537,23 +541,6 @@ module _ {step : KeyStep} {now : ℕ} {shelf : ShelfContent} {desk : DeskState} 
             | true ↦ λ e. takes_again e told same
             | false ↦ λ e. takes_in_place e has (free e) told same
           ] refl
-
--- ---- a dead item that gives way
-
--- the dead item was dropped from its key, which is known by another name
-pub way_gone : (key k : List ℕ) (own : ℕ) (shelf mid : ShelfContent) (item : Entry) → k ≡ key → get shelf.items key ≡ Some item
-    → ((item : Entry) → get shelf.items k ≡ Some item → IsDropped k own shelf mid) → IsDropped key own shelf mid
-way_gone key k own shelf mid item same there dropped =
-    subst (λ (k : List ℕ). IsDropped k own shelf mid) same (dropped item (ap (λ (k : List ℕ). get shelf.items k) same ∙ there))
-
--- and what the desk is when its chunks went back
-pub way_desk : (key k : List ℕ) (shelf : ShelfContent) (item : Entry) (desk gave : DeskState) (need : NeedState) → k ≡ key → get shelf.items key ≡ Some item
-    → (item_need key item).class ≡ need.class → GivesBack k (get shelf.items k) desk gave
-    → gave ≡ record desk { slab = given desk.slab need.class (item_need key item).count }
-way_desk key k shelf item desk gave need same there class gives =
-    let one : GivesChunks (item_need key item) desk gave =
-    subst (λ (o : Option Entry). GivesBack key o desk gave) there (subst (λ (k : List ℕ). GivesBack k (get shelf.items k) desk gave) same gives) in
-    one.given_is ∙ (λ i. record desk { slab = given desk.slab (class i) (item_need key item).count })
 
 -- what is put after the key's item was dropped
 pub put_after_drop : (key : List ℕ) (own : ℕ) (old mid new : ShelfContent) (one : Entry) → IsDropped key own old mid → IsPut key own mid new one → IsPut key own old new one

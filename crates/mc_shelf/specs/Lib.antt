@@ -3,7 +3,6 @@ pub mod Counts
 pub mod KeyMaps
 pub mod Places
 pub mod Plans
-pub mod Overs
 pub mod Sweeps
 pub mod Deaths
 pub mod Parts

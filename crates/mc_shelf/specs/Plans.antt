@@ -1,5 +1,5 @@
 -- What a step asks of a shelf.
-use Rattle.std.specs.Prelude.{◌≡◌, ◌≢◌, ◌⊎◌, ℕ, ◌+◌, ◌-◌, ◌^◌, ◌<◌, ◌≤◌, ◌==◌, ◌&&◌, ◌||◌, not, Bool, true, false, List, [], ◌++◌, decimal, length, Option, Some, None, is_some, is_none, IfSome, nat_lt, if◌then◌else◌}
+use Rattle.std.specs.Prelude.{◌≡◌, ◌≢◌, ◌⊎◌, ℕ, ◌+◌, ◌-◌, ◌^◌, ◌≤◌, ◌==◌, ◌&&◌, ◌||◌, not, Bool, true, false, List, [], ◌++◌, decimal, length, Option, Some, None, is_some, is_none, IfSome, nat_lt, if◌then◌else◌}
 use Rattle.std.specs.FinMap.{get, insert}
 use Rattle.std.specs.Borrow.{Bor}
 use Rattle.mc_time.specs.declared.expiry.Expiry.{Expiry}
@@ -13,10 +13,10 @@ use Rattle.mc_protocol.specs.declared.row.Body.{Body}
 use Rattle.mc_protocol.specs.declared.row.Body.TheVariants.{Given, Appended, Prepended, Counted}
 use Rattle.mc_protocol.specs.Rows.{standing_in}
 use Rattle.mc_slab.specs.Classes.{IsClass}
-use Rattle.mc_slab.specs.Needs.{NeedState, IsNeed, need_for, same_need, size_in}
+use Rattle.mc_slab.specs.Needs.{NeedState, IsNeed, need_for, same_need}
 use Rattle.mc_slab.specs.Chunks.{ChunksState, need_in}
 use Rattle.mc_slab.specs.Slabs as slabs
-use Rattle.mc_slab.specs.Slabs.{IsSlab, WantsPages, out_of, has_room_with, made_ready, taken}
+use Rattle.mc_slab.specs.Slabs.{IsSlab, SlabState, WantsPages, out_of, has_room_with, made_ready, taken}
 use Rattle.mc_protocol.specs.Commands.{key_of, longest_key}
 use Rattle.mc_protocol.specs.Plain.{Plain, Entry, Outcome, Answered, Spent, MayFail, plain, charge, item_need, alive, hit_of, refusal_reply, block_of, written_block, write_reply, row_of}
 use Rattle.mc_protocol.specs.Laws.{IsOnKey, of_class}
@@ -261,10 +261,23 @@ abbrev pub block_beside : ShelfContent → KeyStep → Draft → List ℕ
 block_beside shelf step draft =
     made_block draft.body (block_of step) (block_in (get shelf.items (key_of step)))
 
--- a body whose block may be left to be written in the item's own chunks: it is the step's, or comes
--- behind the one that stands
-abbrev pub MayBeLeft : Body → Type 0
-MayBeLeft body = (body ≡ Given) ⊎ (body ≡ Appended)
+-- a body whose block may go into the chunks of the key's item: over the block that stands, or behind it
+abbrev pub GoesOver : Body → Type 0
+GoesOver Given = Unit {0}
+GoesOver Appended = Unit {0}
+GoesOver Prepended = ⊥
+GoesOver (Counted number) = Unit {0}
+
+-- a write goes into the chunks of the key's item, which are those that it needs: it reuses them, or as many others are unused
+pub record GoesInto (write : Writing) (step : KeyStep) (shelf : ShelfContent) (need : NeedState) (slab : SlabState) : Type 0 where
+  pub has : has_need (key_of step) (get shelf.items (key_of step)) need ≡ true
+  pub over : reuses shelf.cut write.moment (key_of step) (get shelf.items (key_of step)) need write.draft.body ≡ false → GoesOver write.draft.body
+  pub unused : reuses shelf.cut write.moment (key_of step) (get shelf.items (key_of step)) need write.draft.body ≡ false → need.count ≤ slabs.unused slab need.class
+
+-- it goes into others, before which a dead item gives back so many of their class
+pub record GoesApart (write : Writing) (step : KeyStep) (shelf : ShelfContent) (need : NeedState) (back : ℕ) : Type 0 where
+  pub other : reuses shelf.cut write.moment (key_of step) (get shelf.items (key_of step)) need write.draft.body ≡ false
+  pub back_is : back ≡ back_at shelf (key_of step) write.moment need
 
 -- the item of a write whose block is left, beside the item that the shelf has under the step's key
 abbrev pub left_item : Writing → Unwritten → KeyStep → ShelfContent → Entry
@@ -345,15 +358,17 @@ pub record LiesInNeed (key block : List ℕ) (shelf : ShelfState) : Type 0 where
   pub need : item_need key item ≡ need_for (charge key block)
 
 -- chunks are ready for the block that a body makes beside a key's item: those that wait, or else the
--- item's own, and then the block is one that may be left to be written there
+-- item's own, and then the body's block may go there
 abbrev pub ChunksAreReady : Option ChunksState → Body → (key block : List ℕ) → ShelfState → Type 0
-ChunksAreReady None body key block shelf = MayBeLeft body × LiesInNeed key block shelf
+ChunksAreReady None body key block shelf = GoesOver body × LiesInNeed key block shelf
 ChunksAreReady (Some chunks) body key block shelf = AreChunksFor chunks key block shelf
 
--- what stood under a key, where it had this item: the entry of the key and the item, or none
-abbrev pub StoodBefore : (key : List ℕ) → Option Entry → Option EntryState → Type 0
-StoodBefore key found None = found ≡ None
-StoodBefore key found (Some entry) = (entry.key ≡ key) × (found ≡ Some entry.item)
+-- what stood under a key, where it had this item: the entry of the key and the item, or none; nothing
+-- is known where no chunks waited
+abbrev pub StoodBefore : Option ChunksState → (key : List ℕ) → Option Entry → Option EntryState → Type 0
+StoodBefore None key found before = Unit {0}
+StoodBefore (Some chunks) key found None = found ≡ None
+StoodBefore (Some chunks) key found (Some entry) = (entry.key ≡ key) × (found ≡ Some entry.item)
 
 -- what is known of a key that may have lost its item since it was looked up: its hash, if the shelf
 -- has the key, and by a place where it may be
@@ -370,13 +385,19 @@ pub record CanWriteBlock (write : Writing) (rest : Unwritten) (step : KeyStep) (
     pub ready : ChunksAreReady rest.chunks write.draft.body (key_of step)
         (block_beside shelf.content step write.draft) shelf
 
+-- a write is left: what is left can be done, and is no number where it goes into the item's own chunks
+pub record IsLeft (write : Writing) (rest : Unwritten) (step : KeyStep) (shelf : ShelfState) : Type 0
+  where
+    pub can : CanWriteBlock write rest step shelf
+    pub own : rest.chunks ≡ None → counts write.draft.body ≡ false
+
 -- what is left of a step that comes next so can be done; nothing is asked unless it writes
 abbrev pub CanWriteNext : Plan → Action → Unwritten → KeyStep → ShelfState → Type 0
 CanWriteNext plan (Answer reply) rest step shelf = Unit {0}
 CanWriteNext plan (Expire expiry reply) rest step shelf = Unit {0}
 CanWriteNext plan (Discard reply) rest step shelf = Unit {0}
 CanWriteNext plan (Write charge draft) rest step shelf =
-    CanWriteBlock (write_of plan charge draft) rest step shelf
+    IsLeft (write_of plan charge draft) rest step shelf
 
 -- what is left of a step that was begun can be done
 abbrev pub CanFinish : Plan → Begun → KeyStep → ShelfState → Type 0
@@ -417,12 +438,12 @@ IsOut key shelf desk =
     → IsClass (item_need key item).class
     → (item_need key item).count ≤ out_of desk.slab (item_need key item).class
 
--- the item of a write can be put under its key: the key is known, there is room for a new key's entry, and the chunks of the
--- key's item are out
+-- the item of a write can be put under its key, which may have lost its item since it was looked up: there is room for a new
+-- key's entry, and the chunks of the key's item are out
 pub record CanPut (write : Writing) (step : KeyStep) (shelf : ShelfState) (desk : DeskState) : Type 0
   where
     pub short : length (key_of step) ≤ longest_key
-    pub known : IsKnown shelf.content (key_of step) write.hash write.place
+    pub sought : IsSought shelf.content (key_of step) write.hash write.place
     pub room : get shelf.content.items (key_of step) ≡ None → 1 ≤ shelf.room
     pub out : IsOut (key_of step) shelf.content desk
 
@@ -436,23 +457,6 @@ pub record GivesChunks (need : NeedState) (old new : DeskState) : Type 0 where
 abbrev pub GivesBack : (key : List ℕ) → Option Entry → DeskState → DeskState → Type 0
 GivesBack key None old new = new ≡ old
 GivesBack key (Some item) old new = GivesChunks (item_need key item) old new
-
--- the item of a write whose block is the step's own can be put in the place of a key's dead item, whose chunks go back, of the
--- same class: those that the write needs are unused then, a number is left, and there is room for an entry
-pub record CanGiveWay (write : Writing) (need : NeedState) (step : KeyStep) (shelf : ShelfState)
-    (desk : DeskState) : Type 0 where
-  pub short : length (key_of step) ≤ longest_key
-  pub item : Entry
-  pub there : get shelf.content.items (key_of step) ≡ Some item
-  pub class : (item_need (key_of step) item).class ≡ need.class
-  pub out : IsOut (key_of step) shelf.content desk
-  pub given : write.draft.body ≡ Given
-  pub need_is : need ≡ need_for (charge (key_of step) (block_of step))
-  pub fits : charge (key_of step) (block_of step) ≤ size_in need
-  pub room : 1 ≤ shelf.room
-  pub number : desk.next_unique < 2 ^ 64 - 1
-  pub enough : need.count
-      ≤ slabs.unused (slabs.given desk.slab need.class (item_need (key_of step) item).count) need.class
 
 -- a desk after a number was drawn
 abbrev pub drawn : DeskState → DeskState

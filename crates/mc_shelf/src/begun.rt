@@ -4,16 +4,9 @@
 //! are decided; `finish` copies. A block under 4096 bytes is copied at the desk, since coming back
 //! costs about 400 instructions.
 
-ghost use Rattle.std.specs.Prelude.{◌≡◌, Some};
+ghost use Rattle.std.specs.Prelude.{◌≡◌};
 ghost use Rattle.mc_shelf.specs.Counts.{KeepsTable, counts_of};
-ghost use Rattle.mc_shelf.specs.Plans.{
-  CanFinish,
-  CanWriteBlock,
-  finished,
-  told_next,
-  write_told,
-  written,
-};
+ghost use Rattle.mc_shelf.specs.Plans.{CanFinish, finished, told_next, write_told};
 
 use crate::plan::{Action, Plan};
 use crate::shelf::Shelf;
@@ -90,27 +83,11 @@ impl Shelf {
                         charge: *charge,
                         draft: *draft,
                     };
-                    self.write_block(&write, rest, step);
+                    // the old item's chunks are freed: the desk got others in exchange
+                    let _old = self.write_block(&write, rest, step);
                 }
                 reply
             }
-        }
-    }
-
-    /// Writes the item of a write whose block is left.
-    fn write_block(&mut self, write: &Write, rest: Unwritten, step: &KeyStep<'_>)
-        requires { CanWriteBlock write.now rest step.now self.old }
-        ensures content { self.new.content
-            ≡ written write.now (Some rest.entry) step.now self.old.content }
-        ensures table { KeepsTable 0 (counts_of self.old) (counts_of self.new) }
-    {
-        let Unwritten { unique, chunks } = rest;
-        match chunks {
-            Some(chunks) => {
-                // the old item's chunks are freed: the desk got others in exchange
-                let _old = self.put_into(write, unique, chunks, step);
-            }
-            None => self.write_over(write, unique, step),
         }
     }
 }

@@ -54,20 +54,8 @@ impl Entry {
         ensures { result ≡ entry_in parts.entry.hash parts.entry }
     {
         Entry {
-            item: Item::write(
-                chunks,
-                Parts {
-                    hash: parts.hash,
-                    key: parts.key,
-                    first: parts.first,
-                    second: parts.second,
-                    lent: parts.lent,
-                    flags: parts.flags,
-                    expiry: parts.expiry,
-                    unique: parts.unique,
-                    updated: parts.updated,
-                },
-            ),
+            // a copy: no proof covers a struct of references that is passed on
+            item: Item::write(chunks, Parts { ..parts }),
         }
     }
 
@@ -82,18 +70,7 @@ impl Entry {
         ensures length { length result.item.block ≡ block_len }
     {
         Entry {
-            item: Item::begin(
-                chunks,
-                Head {
-                    hash: head.hash,
-                    key: head.key,
-                    flags: head.flags,
-                    expiry: head.expiry,
-                    unique: head.unique,
-                    updated: head.updated,
-                },
-                block_len,
-            ),
+            item: Item::begin(chunks, Head { ..head }, block_len),
         }
     }
 
@@ -133,14 +110,7 @@ impl Entry {
         self.lies_in_need();
         self.item.rewrite(Parts {
             hash: self.item.hash(),
-            key: parts.key,
-            first: parts.first,
-            second: parts.second,
-            lent: parts.lent,
-            flags: parts.flags,
-            expiry: parts.expiry,
-            unique: parts.unique,
-            updated: parts.updated,
+            ..parts
         });
     }
 

@@ -13,9 +13,9 @@ ghost use Rattle.mc_slab.specs.Needs.{NeedState};
 ghost use Rattle.mc_protocol.specs.declared.step.KeyStep.{KeyStep as Step};
 ghost use Rattle.mc_shelf.specs.Plans.{
   GivesBack,
-  IsKnown,
   IsOut,
   IsPlan,
+  IsSought,
   exchange_for,
   left_behind,
   need_brought,
@@ -104,7 +104,7 @@ impl Shelf {
         exchange: Option<Chunks>,
         desk: &mut Desk,
     ) -> bool
-        requires known { IsKnown self.now.content key.now write.now.hash write.now.place }
+        requires sought { IsSought self.now.content key.now write.now.hash write.now.place }
         requires out { IsOut key.now self.now.content desk.old }
         ensures given { result ≡ true →
             GivesBack key.now (get self.now.content.items key.now) desk.old desk.new }

@@ -9,8 +9,7 @@ ghost use Rattle.std.specs.Prelude.{Some, None, IfOk, IfSome, OnOk, nat_lt, opti
 ghost use Rattle.std.specs.FinMap.{empty, get, len};
 ghost use Rattle.mc_slab.specs.Needs.{need_for};
 ghost use Rattle.mc_protocol.specs.Plain.{charge, item_need};
-ghost use Rattle.mc_shelf.specs.Overs.{GoesOver};
-ghost use Rattle.mc_shelf.specs.Plans.{drafted, made_block};
+ghost use Rattle.mc_shelf.specs.Plans.{GoesOver, drafted, made_block};
 ghost use Rattle.mc_grow.specs.Indexes.{IsFilled, IsNext, KeepsLower, count, entry_at, left};
 ghost use Rattle.mc_shelf.specs.Counts.{CatchesUp, CaughtUp, FitTogether, KeepsTable, MovesFew, counts_in};
 ghost use Rattle.mc_shelf.specs.Deaths.{DieNoSooner, NoneIsDead};

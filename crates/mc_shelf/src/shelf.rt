@@ -31,6 +31,7 @@ ghost use Rattle.mc_shelf.specs.Plans.{
   IsPlan,
   IsPut,
   PlanIsSettled,
+  IsSought,
   IsSpent,
   StepTaken,
   LookTakesMemory,
@@ -385,7 +386,7 @@ impl Shelf {
                 Ok(Begun::Done)
             }
             Action::Discard(_) => {
-                self.discard(plan.place, plan.hash, step.key(), desk);
+                self.discard(plan.place, plan.hash, step, desk);
                 Ok(Begun::Done)
             }
             Action::Write(charge, draft) => {
@@ -506,7 +507,7 @@ impl Shelf {
 
     /// Lends the entry of a key, or `None`.
     pub(crate) fn entry(&self, place: Option<Place>, hash: u64, key: &[u8]) -> Option<&Entry>
-        requires { IsKnown self.now.content key.now hash place }
+        requires { IsSought self.now.content key.now hash place }
         ensures item { item_in result ≡ get self.now.content.items key.now }
         ensures key { IfSome result (λ entry. entry.now.key ≡ key.now) }
     {
@@ -617,18 +618,25 @@ impl Shelf {
         }
     }
 
-    /// Drops a key's item, and gives its chunks back.
+    /// Drops the item of a step's key, and gives its chunks back.
     #[tactic(auto, using(crate::proofs::CountLemmas::table_rules))]
-    pub(crate) fn discard(&mut self, place: Option<Place>, hash: u64, key: &[u8], desk: &mut Desk)
-        requires known { IsKnown self.old.content key.now hash place }
-        requires out { IsOut key.now self.old.content desk.old }
-        ensures dropped { (item : Item) → get self.old.content.items key.now ≡ Some item →
-            IsDropped key.now hash self.old.content self.new.content }
-        ensures given { GivesBack key.now (get self.old.content.items key.now) desk.old desk.new }
+    pub(crate) fn discard(
+        &mut self,
+        place: Option<Place>,
+        hash: u64,
+        step: &KeyStep<'_>,
+        desk: &mut Desk,
+    )
+        requires known { IsKnown self.old.content (key_of step.now) hash place }
+        requires out { IsOut (key_of step.now) self.old.content desk.old }
+        ensures dropped { (item : Item) → get self.old.content.items (key_of step.now) ≡ Some item →
+            IsDropped (key_of step.now) hash self.old.content self.new.content }
+        ensures given { GivesBack (key_of step.now) (get self.old.content.items (key_of step.now))
+            desk.old desk.new }
         ensures room { self.old.room ≤ self.new.room }
         ensures table { KeepsTable 1 (counts_of self.old) (counts_of self.new) }
     {
-        if let Some(place) = self.index.find_again(place, hash, key) {
+        if let Some(place) = self.index.find_again(place, hash, step.key()) {
             let entry = self.index.remove(place);
             desk.give(entry.into_chunks());
         }

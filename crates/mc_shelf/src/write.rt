@@ -4,39 +4,36 @@
 //! because taking some and giving the item's back leaves the slab unchanged. An append goes behind
 //! the existing block under the same rule, so the existing block isn't copied.
 
-ghost use Rattle.std.specs.Prelude.{◌≡◌, ◌↔◌, ◌||◌, ◌++◌, ℕ, ◌+◌, ◌≤◌, ◌<◌, ◌-◌, ◌^◌, List, length};
+ghost use Rattle.std.specs.Prelude.{◌≡◌, ◌↔◌, ◌||◌, ℕ, ◌+◌, ◌≤◌, ◌<◌, ◌-◌, ◌^◌, List, length};
 ghost use Rattle.std.specs.Prelude.{Option, Some, None, Err, IfOk, IfSome, OnErr, true, false};
 ghost use Rattle.std.specs.FinMap.{get};
 ghost use Rattle.mc_slab.specs.Needs.{need_for, same_need};
 ghost use Rattle.mc_slab.specs.Slabs.{unused};
 ghost use Rattle.mc_slab.specs.Chunks.{need_in};
 ghost use Rattle.mc_protocol.specs.Commands.{key_of};
-ghost use Rattle.mc_protocol.specs.Plain.{Entry as Item, block_of, charge, item_need, write_reply};
+ghost use Rattle.mc_protocol.specs.Plain.{block_of, charge, item_need, write_reply};
 ghost use Rattle.mc_shelf.specs.Counts.{KeepsTable, counts_of};
 ghost use Rattle.mc_shelf.specs.States.{CanStandAt};
-ghost use Rattle.mc_shelf.specs.Overs.{GoesOver};
 ghost use Rattle.mc_shelf.specs.Plans as plans;
 ghost use Rattle.mc_shelf.specs.Plans.{
-  CanGiveWay,
-  AreChunksFor,
   CanPut,
   CanWrite,
   CanWriteBlock,
   GivesBack,
+  GoesApart,
+  GoesInto,
+  GoesOver,
   StoodBefore,
   IsDropped,
   IsKnown,
   IsOut,
   IsPut,
   StepTaken,
+  IsLeft,
   IsWriteOf,
-  IsSought,
-  LiesInNeed,
-  MayBeLeft,
   NeedsPages,
   PutsEntry,
   Suits,
-  back_at,
   block_beside,
   block_in,
   drafted,
@@ -46,10 +43,7 @@ ghost use Rattle.mc_shelf.specs.Plans.{
   item_in,
   left_of,
   made_block,
-  reuses,
-  with_item,
   write_told,
-  way_given,
   written,
 };
 
@@ -108,7 +102,7 @@ impl Write {
     /// giving the item's back would leave the slab unchanged.
     fn goes_over(&self, gone: bool, need: Need, desk: &Desk) -> bool
         ensures left { result ≡ true → plans.counts self.now.draft.body || gone ≡ false →
-            MayBeLeft self.now.draft.body }
+            GoesOver self.now.draft.body }
         ensures unused { result ≡ true → plans.counts self.now.draft.body || gone ≡ false →
             need.count ≤ unused desk.now.slab need.class }
         ensures other { result ≡ false → plans.counts self.now.draft.body || gone ≡ false }
@@ -153,81 +147,30 @@ impl Write {
               (block_in (item_in old.entry))) unique self.now.moment;
         } }
     {
+        let key = step.key();
         let block = step.block();
         match (self.draft.body, old) {
-            (Body::Appended, Some(old)) => self.append_block(
-                chunks,
-                unique,
-                step.key(),
-                old,
-                block,
-            ),
-            (Body::Prepended, Some(old)) => self.prepend_block(
-                chunks,
-                unique,
-                step.key(),
-                block,
-                old,
-            ),
+            (Body::Appended, Some(old)) => {
+                let front = old.block_len();
+                let mut entry = self.head_of(chunks, unique, key, front + block.len());
+                entry.fill_from(0, old);
+                entry.fill(front, block);
+                entry
+            }
+            (Body::Prepended, Some(old)) => {
+                let front = block.len();
+                let mut entry = self.head_of(chunks, unique, key, front + old.block_len());
+                entry.fill(0, block);
+                entry.fill_from(front, old);
+                entry
+            }
             (Body::Counted(number), _) => {
                 let mut buffer = Buffer::new();
                 let digits = buffer.format(number).as_bytes();
-                self.entry_of(chunks, unique, step.key(), &Bytes::of(digits))
+                self.entry_of(chunks, unique, key, &Bytes::of(digits))
             }
-            _ => self.entry_of(chunks, unique, step.key(), &step.block_bytes()),
+            _ => self.entry_of(chunks, unique, key, &step.block_bytes()),
         }
-    }
-
-    /// Writes the item whose block is an old item's, followed by `block`.
-    fn append_block<'a>(
-        &self,
-        chunks: Chunks,
-        unique: u64,
-        key: &'a [u8],
-        old: &Entry,
-        block: &'a [u8],
-    ) -> Entry
-        requires key { length key.now ≤ longest_key }
-        requires need { need_in chunks
-            ≡ need_for (charge key.now (old.now.item.block ++ block.now)) }
-        requires room { charge key.now (old.now.item.block ++ block.now) ≤ length chunks.bytes }
-        ensures { result ≡ record {
-          hash = self.now.hash;
-          key = key.now;
-          item = drafted self.now.draft (old.now.item.block ++ block.now) unique self.now.moment;
-        } }
-    {
-        let front = old.block_len();
-        let mut entry = self.head_of(chunks, unique, key, front + block.len());
-        entry.fill_from(0, old);
-        entry.fill(front, block);
-        entry
-    }
-
-    /// Writes the item whose block is `block`, followed by an old item's.
-    fn prepend_block<'a>(
-        &self,
-        chunks: Chunks,
-        unique: u64,
-        key: &'a [u8],
-        block: &'a [u8],
-        old: &Entry,
-    ) -> Entry
-        requires key { length key.now ≤ longest_key }
-        requires need { need_in chunks
-            ≡ need_for (charge key.now (block.now ++ old.now.item.block)) }
-        requires room { charge key.now (block.now ++ old.now.item.block) ≤ length chunks.bytes }
-        ensures { result ≡ record {
-          hash = self.now.hash;
-          key = key.now;
-          item = drafted self.now.draft (block.now ++ old.now.item.block) unique self.now.moment;
-        } }
-    {
-        let front = block.len();
-        let mut entry = self.head_of(chunks, unique, key, front + old.block_len());
-        entry.fill(0, block);
-        entry.fill_from(front, old);
-        entry
     }
 
     /// Writes the item with a block of `block_len` unspecified bytes.
@@ -364,14 +307,6 @@ impl Write {
     }
 }
 
-/// How the chunks of a key's item suit a write.
-struct Fit {
-    /// The write goes into them.
-    over: bool,
-    /// Otherwise, how many chunks of the write's class a dead item gives back.
-    back: u64,
-}
-
 /// Returns whether the item that was found has the chunks of a need.
 pub(crate) fn has_need(found: Option<&Entry>, need: Need) -> bool
     ensures { (key : List ℕ) → IfSome found.entry (λ entry. entry.now.key ≡ key) →
@@ -442,7 +377,7 @@ impl Shelf {
             self.old.content desk.old (write_told write.now.draft.body begun)
             (written write.now (left_of begun) step.now self.new.content) desk.new) }
         ensures left { IfOk result (λ begun.
-            IfSome (left_of begun) (λ rest. CanWriteBlock write.now rest step.now self.new)) }
+            IfSome (left_of begun) (λ rest. IsLeft write.now rest step.now self.new)) }
         ensures spent { result ≡ Err StepFault.NumbersSpent ↔ has_no_number desk.old }
         ensures refused { result ≡ Err StepFault.NoMemory
             → NeedsPages (Action.Write write.now.charge write.now.draft) self.old.content
@@ -455,131 +390,62 @@ impl Shelf {
             return Err(StepFault::NumbersSpent);
         }
         let need = self.need_for(write.charge);
-        let Fit { over, back } = self.fit(write, need, step.key(), desk);
-        if over {
+        let Some(back) = self.fit(write, need, step, desk) else {
             let unique = desk.draw();
-            if write.counts() {
-                self.write_over(write, unique, step);
-                return Ok(Begun::Done);
-            }
-            return Ok(Begun::Left(Unwritten {
+            let rest = Unwritten {
                 unique,
                 chunks: None,
-            }));
-        }
+            };
+            if write.counts() {
+                // nothing to give back: the item keeps its own chunks
+                let _none = self.write_block(write, rest, step);
+                return Ok(Begun::Done);
+            }
+            return Ok(Begun::Left(rest));
+        };
         if !desk.has_room(need, back) {
-            self.drop_dead(write, step.key(), desk);
+            self.drop_dead(write, step, desk);
             return Ok(Begun::Full);
         }
         let Brought { pages, exchange } = brought;
         if 0 < back {
             desk.ready(alloc, need, back, pages)?;
-            return Ok(self.give_way(alloc, write, need, step, desk));
+            self.discard(write.place, write.hash, step, desk);
+            let chunks = desk.take_unused(alloc, need);
+            return Ok(self.put(write, chunks, exchange, step, desk));
         }
         let chunks = desk.take(alloc, need, pages)?;
         Ok(self.put(write, chunks, exchange, step, desk))
     }
 
-    /// Returns how the chunks of the key's item suit a write. It searches first where it was found
-    /// before.
-    fn fit(&self, write: &Write, need: Need, key: &[u8], desk: &Desk) -> Fit
-        requires { IsKnown self.now.content key.now write.now.hash write.now.place }
-        ensures has { result.over ≡ true →
-            plans.has_need key.now (get self.now.content.items key.now) need ≡ true }
-        ensures left { result.over ≡ true → reuses self.now.content.cut write.now.moment key.now
-            (get self.now.content.items key.now) need write.now.draft.body ≡ false →
-            MayBeLeft write.now.draft.body }
-        ensures unused { result.over ≡ true → reuses self.now.content.cut write.now.moment key.now
-            (get self.now.content.items key.now) need write.now.draft.body ≡ false →
-            need.count ≤ unused desk.now.slab need.class }
-        ensures other { result.over ≡ false → reuses self.now.content.cut write.now.moment key.now
-            (get self.now.content.items key.now) need write.now.draft.body ≡ false }
-        ensures back { result.over ≡ false →
-            result.back ≡ back_at self.now.content key.now write.now.moment need }
-        ensures most { result.back ≤ 8 }
+    /// Returns how many chunks of its class a dead item gives back before a write takes others, or
+    /// `None` if the write goes into the chunks of the key's item.
+    fn fit(&self, write: &Write, need: Need, step: &KeyStep<'_>, desk: &Desk) -> Option<u64>
+        requires { IsKnown self.now.content (key_of step.now) write.now.hash write.now.place }
+        ensures over { result ≡ None → GoesInto write.now step.now self.now.content need
+            desk.now.slab }
+        ensures apart { IfSome result (λ back. GoesApart write.now step.now self.now.content need
+            back) }
+        ensures most { IfSome result (λ back. back ≤ 8) }
     {
-        let found = self.entry(write.place, write.hash, key);
+        let found = self.entry(write.place, write.hash, step.key());
         if !has_need(found, need) {
-            let back = dead_chunks(found, need, self.cut, write.moment);
-            return Fit { over: false, back };
+            return Some(dead_chunks(found, need, self.cut, write.moment));
         }
         let gone = is_gone(found, self.cut, write.moment);
-        Fit {
-            over: write.goes_over(gone, need, desk),
-            back: 0,
-        }
-    }
-
-    /// Replaces a dead item of the write's key, whose chunks go back before the write takes some.
-    ///
-    /// The desk must have enough chunks then. It takes no memory.
-    #[tactic(auto, using(crate::proofs::CountLemmas::table_rules))]
-    fn give_way(
-        &mut self,
-        alloc: Global,
-        write: &Write,
-        need: Need,
-        step: &KeyStep<'_>,
-        desk: &mut Desk,
-    ) -> Begun
-        requires known { IsKnown self.old.content (key_of step.now) write.now.hash write.now.place }
-        requires gives { CanGiveWay write.now need step.now self.old desk.old }
-        ensures told { write_told write.now.draft.body result ≡ write_reply write.now.draft.body }
-        ensures put { IsPut (key_of step.now) write.now.hash self.old.content
-            (written write.now (left_of result) step.now self.new.content)
-            (drafted write.now.draft (block_of step.now) desk.old.next_unique write.now.moment) }
-        ensures given { (item : Item) → get self.old.content.items (key_of step.now) ≡ Some item →
-            desk.new ≡ way_given need (item_need (key_of step.now) item).count desk.old }
-        ensures left { IfSome (left_of result) (λ rest.
-            CanWriteBlock write.now rest step.now self.new) }
-        ensures table { KeepsTable 1 (counts_of self.old) (counts_of self.new) }
-    {
-        self.discard(write.place, write.hash, step.key(), desk);
-        let chunks = desk.take_unused(alloc, need);
-        // The key has no item now, so the write inserts a new one.
-        let Write {
-            hash,
-            moment,
-            charge,
-            draft,
-            ..
-        } = *write;
-        let write = Write {
-            hash,
-            place: None,
-            moment,
-            charge,
-            draft,
-        };
-        self.put(&write, chunks, None, step, desk)
-    }
-
-    /// Writes the item of a write into the chunks of the key's item: over its block, or behind it.
-    #[tactic(auto, using(crate::proofs::CountLemmas::table_rules))]
-    pub(crate) fn write_over(&mut self, write: &Write, unique: u64, step: &KeyStep<'_>)
-        requires short { length (key_of step.now) ≤ longest_key }
-        requires sought { IsSought self.old.content (key_of step.now)
-            write.now.hash write.now.place }
-        requires body { GoesOver write.now.draft.body }
-        requires there { LiesInNeed (key_of step.now)
-            (block_beside self.old.content step.now write.now.draft) self.old }
-        ensures content { self.new.content ≡ with_item None (key_of step.now) write.now.hash
-            (drafted write.now.draft (block_beside self.old.content step.now write.now.draft)
-            unique write.now.moment) self.old.content }
-        ensures table { KeepsTable 0 (counts_of self.old) (counts_of self.new) }
-    {
-        let key = step.key();
-        if let Some(place) = self.index.find_again(write.place, write.hash, key) {
-            self.index
-                .write_over(place, write, unique, key, &step.block_bytes());
+        if write.goes_over(gone, need, desk) {
+            None
+        } else {
+            Some(0)
         }
     }
 
     /// Writes the item of a write into chunks and puts it under its key. The old item's chunks go
     /// back.
     ///
-    /// A large block that is the step's own is left to be written, and so is the whole item if the
-    /// desk has chunks in exchange for the old item's.
+    /// A large block that is the step's own is left to be written; a new key's chunks wait for the
+    /// whole. So is the whole item if the desk has chunks in exchange for the old item's.
+    #[tactic(auto, using(crate::proofs::CountLemmas::table_rules))]
     fn put(
         &mut self,
         write: &Write,
@@ -600,90 +466,65 @@ impl Shelf {
         ensures given { GivesBack (key_of step.now) (get self.old.content.items (key_of step.now))
             (drawn desk.old) desk.new }
         ensures left { IfSome (left_of result) (λ rest.
-            CanWriteBlock write.now rest step.now self.new) }
+            IsLeft write.now rest step.now self.new) }
         ensures table { KeepsTable 0 (counts_of self.old) (counts_of self.new) }
     {
         let unique = desk.draw();
         if write.leaves_block(step) {
-            return Begun::Left(self.begin_put(write, unique, chunks, step, desk));
-        }
-        if self.exchanges(write, step.key(), exchange, desk) {
+            let key = step.key();
+            let Some(place) = self.index.find_again(write.place, write.hash, key) else {
+                return Begun::Left(Unwritten {
+                    unique,
+                    chunks: Some(chunks),
+                });
+            };
+            let entry = write.head_of(chunks, unique, key, step.block().len());
+            let old = self.index.replace(place, entry);
+            desk.give(old.into_chunks());
             return Begun::Left(Unwritten {
                 unique,
-                chunks: Some(chunks),
+                chunks: None,
             });
         }
-        if let Some(old) = self.put_into(write, unique, chunks, step) {
+        let rest = Unwritten {
+            unique,
+            chunks: Some(chunks),
+        };
+        if self.exchanges(write, step.key(), exchange, desk) {
+            return Begun::Left(rest);
+        }
+        if let Some(old) = self.write_block(write, rest, step) {
             desk.give(old.into_chunks());
         }
         Begun::Done
     }
 
-    /// Puts the item of a write under its key, without the bytes of its block. The old item's
-    /// chunks go back.
-    ///
-    /// A new key's chunks wait for the whole.
+    /// Writes what is left of a write: its item, under its key. Returns the old entry if the item
+    /// went into other chunks than that one's.
     #[tactic(auto, using(crate::proofs::CountLemmas::table_rules))]
-    fn begin_put(
+    pub(crate) fn write_block(
         &mut self,
         write: &Write,
-        unique: u64,
-        chunks: Chunks,
-        step: &KeyStep<'_>,
-        desk: &mut Desk,
-    ) -> Unwritten
-        requires can { CanPut write.now step.now self.old desk.old }
-        requires given { write.now.draft.body ≡ Body.Given }
-        requires chunks { Suits chunks (key_of step.now) (block_of step.now) }
-        ensures put { IsPut (key_of step.now) write.now.hash self.old.content
-            (written write.now (Some result) step.now self.new.content)
-            (drafted write.now.draft (block_of step.now) unique write.now.moment) }
-        ensures given { GivesBack (key_of step.now) (get self.old.content.items (key_of step.now))
-            desk.old desk.new }
-        ensures left { CanWriteBlock write.now result step.now self.new }
-        ensures table { KeepsTable 0 (counts_of self.old) (counts_of self.new) }
-    {
-        let place = self.index.find_again(write.place, write.hash, step.key());
-        match place {
-            Some(place) => {
-                let entry = write.head_of(chunks, unique, step.key(), step.block().len());
-                let old = self.index.replace(place, entry);
-                desk.give(old.into_chunks());
-                Unwritten {
-                    unique,
-                    chunks: None,
-                }
-            }
-            None => Unwritten {
-                unique,
-                chunks: Some(chunks),
-            },
-        }
-    }
-
-    /// Puts the item of a write under its key, with its block. Returns the old entry.
-    #[tactic(auto, using(crate::proofs::CountLemmas::table_rules))]
-    pub(crate) fn put_into(
-        &mut self,
-        write: &Write,
-        unique: u64,
-        chunks: Chunks,
+        rest: Unwritten,
         step: &KeyStep<'_>,
     ) -> Option<Entry>
-        requires short { length (key_of step.now) ≤ longest_key }
-        requires sought { IsSought self.old.content (key_of step.now)
-            write.now.hash write.now.place }
-        requires chunks { AreChunksFor chunks (key_of step.now)
-            (block_beside self.old.content step.now write.now.draft) self.old }
-        ensures content { self.new.content ≡ with_item (Some chunks.entry) (key_of step.now)
-            write.now.hash (drafted write.now.draft
-            (block_beside self.old.content step.now write.now.draft)
-            unique write.now.moment) self.old.content }
-        ensures before { StoodBefore (key_of step.now)
+        requires { CanWriteBlock write.now rest step.now self.old }
+        ensures content { self.new.content
+            ≡ written write.now (Some rest.entry) step.now self.old.content }
+        ensures before { StoodBefore rest.entry.chunks (key_of step.now)
             (get self.old.content.items (key_of step.now)) result }
         ensures table { KeepsTable 0 (counts_of self.old) (counts_of self.new) }
     {
-        let place = self.index.find_again(write.place, write.hash, step.key());
+        let Unwritten { unique, chunks } = rest;
+        let key = step.key();
+        let place = self.index.find_again(write.place, write.hash, key);
+        let Some(chunks) = chunks else {
+            if let Some(place) = place {
+                self.index
+                    .write_over(place, write, unique, key, &step.block_bytes());
+            }
+            return None;
+        };
         let old = self.index.found_entry(place);
         let entry = write.entry_in(chunks, unique, step, old);
         match place {
@@ -697,24 +538,22 @@ impl Shelf {
 
     /// Drops the item of a write's key if it is dead.
     #[tactic(auto, using(crate::proofs::CountLemmas::table_rules))]
-    fn drop_dead(&mut self, write: &Write, key: &[u8], desk: &mut Desk)
-        requires known { IsKnown self.old.content key.now write.now.hash write.now.place }
-        requires out { IsOut key.now self.old.content desk.old }
+    fn drop_dead(&mut self, write: &Write, step: &KeyStep<'_>, desk: &mut Desk)
+        requires known { IsKnown self.old.content (key_of step.now) write.now.hash write.now.place }
+        requires out { IsOut (key_of step.now) self.old.content desk.old }
         ensures dead { is_gone self.old.content.cut write.now.moment
-            (get self.old.content.items key.now) ≡ true →
-            (IsDropped key.now write.now.hash self.old.content self.new.content
-            × GivesBack key.now (get self.old.content.items key.now) desk.old desk.new) }
+            (get self.old.content.items (key_of step.now)) ≡ true →
+            (IsDropped (key_of step.now) write.now.hash self.old.content self.new.content
+            × GivesBack (key_of step.now) (get self.old.content.items (key_of step.now))
+            desk.old desk.new) }
         ensures alive { is_gone self.old.content.cut write.now.moment
-            (get self.old.content.items key.now) ≡ false →
+            (get self.old.content.items (key_of step.now)) ≡ false →
             ((self.new.content ≡ self.old.content) × (desk.new ≡ desk.old)) }
         ensures table { KeepsTable 1 (counts_of self.old) (counts_of self.new) }
     {
-        if is_gone(
-            self.entry(write.place, write.hash, key),
-            self.cut,
-            write.moment,
-        ) {
-            self.discard(write.place, write.hash, key, desk);
+        let found = self.entry(write.place, write.hash, step.key());
+        if is_gone(found, self.cut, write.moment) {
+            self.discard(write.place, write.hash, step, desk);
         }
     }
 }

@@ -11,8 +11,8 @@ use mc_hop::{Constant, Fnv};
 use mc_protocol::{StepFault, Steps, Verb};
 use mc_shelf::{Settings, Store};
 use mc_testing::{
-    Act, Ask, Play, Row, Want, ask_step, filled_block, first_unlike, first_wrong, front, set,
-    step_of, told_of,
+    Act, Ask, Play, Row, Want, ask_step, filled_block, first_unlike, first_wrong, set, step_of,
+    told_of,
 };
 use mc_time::Moment;
 use std::alloc::{AllocError, Global};
@@ -544,14 +544,14 @@ static SHORT: [Row<'static>; 16] = [
 ];
 
 /// Returns rows of fronts of a large block.
-fn rows_of_large(large: &[u8]) -> [Row<'_>; 6] {
+fn rows_of_large(large: &[u8; 6000]) -> [Row<'_>; 6] {
     [
-        set(1010, b"k", 0, front(large, 4096), "stored"),
-        set(1010, b"k", 0, front(large, 4100), "stored"),
-        (1010, b"k", Ask::Get, Want::Hit(10, front(large, 4100))),
+        set(1010, b"k", 0, &large[..4096], "stored"),
+        set(1010, b"k", 0, &large[..4100], "stored"),
+        (1010, b"k", Ask::Get, Want::Hit(10, &large[..4100])),
         set(1010, b"k", 10, large, "stored"),
-        set(1020, b"k", 0, front(large, 5999), "stored"),
-        (1020, b"k", Ask::Get, Want::Hit(12, front(large, 5999))),
+        set(1020, b"k", 0, &large[..5999], "stored"),
+        (1020, b"k", Ask::Get, Want::Hit(12, &large[..5999])),
     ]
 }
 

@@ -1,7 +1,7 @@
-use Rattle.std.proofs.Common.{◌<◌, List, rules, set, vec_len, refl, ap, subst, ◌∙◌}
-use Rattle.mc_shelf.proofs.Common.{NeedState, ShelfState, slice_get_read}
+use Rattle.std.proofs.Common.{◌<◌, List, rules, set, vec_len, refl, subst}
+use Rattle.mc_shelf.proofs.Common.{ShelfState, slice_get_read}
 use Rattle.mc_shelf.specs.Asides.{AreOff}
-use Rattle.mc_shelf.proofs.AsideLemmas.{off_at, set_same}
+use Rattle.mc_shelf.proofs.AsideLemmas.{off_at}
 use Rattle.mc_shelf.proofs.aside.chunks_of.Goals as goal
 
 pub returns-in-Some-clause-off : goal.returns-in-Some-clause-off
@@ -13,13 +13,3 @@ returns-in-Some-clause-off c =
     let off = off_at loop.aside.items after loop.shelf c.index_mut.result.now c.take_of.new.self c.in-Some.entry c.into_chunks.result here refl
     c.in-Some.ensures.some c.into_chunks.ensures.need c.into_chunks.ensures.is_need in
     subst (λ (l : List ShelfState). AreOff l after c.into_chunks.result) loop.invariant off
-
-pub returns-in-Some-clause-class : goal.returns-in-Some-clause-class
-returns-in-Some-clause-class c = ap (λ (n : NeedState). n.class) c.into_chunks.ensures.need ∙ c.in-Some.ensures.class
-
-pub loop-shelf-preserved : goal.loop-shelf-preserved
-loop-shelf-preserved c =
-    let loop = c.loop-shelf in
-    let inside : loop.shelf < vec_len loop.aside = search rules in
-    let here = slice_get_read loop.aside.items (vec_len loop.aside) loop.shelf c.index_mut.result.now loop.aside.ok.0 inside c.index_mut.ensures.value in
-    set_same loop.aside.items loop.shelf c.index_mut.result.now c.take_of.new.self here (c.in_default.ensures.none refl) ∙ loop.invariant

@@ -1,18 +1,11 @@
-use Rattle.std.proofs.Common.{refl, sym, ◌∙◌, arith}
+use Rattle.std.proofs.Common.{sym, ◌∙◌, arith}
 use Rattle.mc_shelf.specs.States.{parts_of}
-use Rattle.mc_shelf.proofs.PartsLemmas.{blank_off, blank_on, blank_past, parts_count}
+use Rattle.mc_shelf.proofs.PartsLemmas.{blank_off, blank_past, parts_count}
 use Rattle.mc_shelf.proofs.entry.Entry.ends_blank.Goals as goal
-
-pub loop-at-init : goal.loop-at-init
-loop-at-init c = refl
 
 pub returns-then-not-is_blank : goal.returns-then-not-is_blank
 returns-then-not-is_blank c =
     sym (c.loop-at.invariant ∙ blank_off (parts_of c.args.self.now.key c.args.self.now.item) c.loop-at.at c.part.result.now c.part.ensures.value (sym c.is_blank.ensures ∙ c.if-not-is_blank.true))
-
-pub loop-at-preserved : goal.loop-at-preserved
-loop-at-preserved c =
-    c.loop-at.invariant ∙ blank_on (parts_of c.args.self.now.key c.args.self.now.item) c.loop-at.at c.part.result.now c.part.ensures.value (sym c.is_blank.ensures ∙ c.if-not-is_blank.false)
 
 pub returns : goal.returns
 returns c =

@@ -1,9 +1,7 @@
-use Rattle.std.proofs.Common.{◌≡◌, None, ap, subst, sym}
-use Rattle.mc_shelf.proofs.Common.{EntryState, filled, get, IndexState, items_of, KeyComes}
+use Rattle.std.proofs.Common.{◌≡◌, None, subst, sym}
+use Rattle.mc_shelf.proofs.Common.{EntryState, get, IndexState, items_of, KeyComes}
 use Rattle.mc_shelf.proofs.KeyMapLemmas.{no_item_entry}
 use Rattle.mc_shelf.proofs.IndexLemmas.{came, came_keyed, key_at}
-use Rattle.mc_shelf.specs.Counts.{KeepsTable, counts_in}
-use Rattle.mc_shelf.proofs.CountLemmas.{unmoved}
 use Rattle.mc_shelf.proofs.DeathLemmas.{sooner_insert}
 use Rattle.mc_shelf.proofs.index.EntryIndex.insert_reserved.Goals as goal
 
@@ -32,9 +30,3 @@ returns-clause-inserted c =
 pub returns-clause-place : goal.returns-clause-place
 returns-clause-place c =
     key_at c.insert_reserved.new.self (invariant_of-self c).0 c.args.entry.hash c.args.entry.key c.insert_reserved.result c.insert_reserved.ensures.place
-
-pub returns-clause-table : goal.returns-clause-table
-returns-clause-table c =
-    let is = c.insert_reserved.ensures.inserted in
-    subst (λ (s : IndexState EntryState). KeepsTable 0 (counts_in s) (counts_in c.insert_reserved.new.self)) c.self.view_is
-    (unmoved c.self.inside.entries c.insert_reserved.new.self is.same_k is.same_growing (ap filled is.same_old))

@@ -1,8 +1,6 @@
 use Rattle.std.proofs.Common.{◌≡◌, Some, subst}
 use Rattle.mc_shelf.proofs.Common.{EntryState, get, IndexState, items_of, KeyGoes}
 use Rattle.mc_shelf.proofs.IndexLemmas.{gone, gone_item, gone_keyed}
-use Rattle.mc_shelf.specs.Counts.{KeepsTable, counts_in}
-use Rattle.mc_shelf.proofs.CountLemmas.{one_gone}
 use Rattle.mc_shelf.proofs.DeathLemmas.{sooner_remove}
 use Rattle.mc_shelf.proofs.index.EntryIndex.remove.Goals as goal
 
@@ -22,9 +20,3 @@ pub returns-clause-removed : goal.returns-clause-removed
 returns-clause-removed c =
     subst (λ (s : IndexState EntryState). KeyGoes s c.remove.new.self c.remove.result.key) c.self.view_is
     (gone c.self.inside.entries c.remove.new.self c.self.invariant.0 c.remove.result c.args.place c.remove.ensures.there c.remove.ensures.lower c.remove.ensures.removed)
-
-pub returns-clause-table : goal.returns-clause-table
-returns-clause-table c =
-    let is = c.remove.ensures in
-    subst (λ (s : IndexState EntryState). KeepsTable 1 (counts_in s) (counts_in c.remove.new.self)) c.self.view_is
-    (one_gone c.self.inside.entries c.remove.new.self is.same_k is.same_growing is.less_left is.one_less_left)

@@ -1,6 +1,6 @@
 use Rattle.std.proofs.Common.{◌≡◌, List, ℕ, Some, None, sym, ap, subst, ◌∙◌}
 use Rattle.mc_shelf.proofs.Common.{DeskState, Entry, get, key_of, KeyStep, ShelfContent}
-use Rattle.mc_shelf.specs.Plans.{GivesBack, IsDropped, IsOut, IsPut}
+use Rattle.mc_shelf.specs.Plans.{IsPut}
 use Rattle.mc_shelf.proofs.ShelfLemmas.{others_same}
 use Rattle.mc_shelf.proofs.TakesLemmas.{discarded_is, expired_is, is_out, takes_answer, takes_discard, takes_expire}
 use Rattle.mc_shelf.specs.declared.plan.Action.{Action}
@@ -16,9 +16,7 @@ taken_as : (plan : Plan) (next one : Action) → next ≡ one → (step : KeySte
 taken_as plan next one is step old desk new desk' = subst (λ (n : Action). StepTaken step plan.moment plan.hash old desk (told_next n Done) (written_next plan n None step new) desk') (sym is)
 
 pub discard-requires-clause-out : goal.discard-requires-clause-out
-discard-requires-clause-out c =
-    subst (λ (k : List ℕ). IsOut k c.args.self.now.content c.args.desk.now) (sym c.key-in-Discard.ensures)
-    (is_out (key_of c.args.step.now) c.args.self.now.content c.args.desk.now c.requires.stands)
+discard-requires-clause-out c = is_out (key_of c.args.step.now) c.args.self.now.content c.args.desk.now c.requires.stands
 
 pub returns-in-Answer-clause-took : goal.returns-in-Answer-clause-took
 returns-in-Answer-clause-took c =
@@ -53,15 +51,11 @@ returns-in-Discard-clause-took c =
     let new = c.discard.new.self.content in
     let step = c.args.step.now in
     let next = sym c.in-Discard.is ∙ c.requires.plan.next in
-    let key = c.key-in-Discard.ensures in
-    let drops = λ (item : Entry) (found : get old.items (key_of step) ≡ Some item). subst (λ (k : List ℕ). IsDropped k c.args.plan.now.hash old new) key
-    (c.discard.ensures.dropped item (ap (λ (k : List ℕ). get old.items k) key ∙ found)) in
     let there = discarded_is old step c.args.plan.now.moment c.in-Discard.field-0 next in
-    let dropped = drops there.0 there.1 in
+    let dropped = c.discard.ensures.dropped there.0 there.1 in
     taken_as c.args.plan.now c.args.plan.now.next _ c.in-Discard.is step old c.args.desk.now new c.discard.new.desk (record {
       takes = takes_discard step c.args.plan.now.moment old c.args.desk.now c.requires.plan.on_key c.in-Discard.field-0
-          c.args.plan.now.hash new c.discard.new.desk drops
-          (subst (λ (k : List ℕ). GivesBack k (get old.items k) c.args.desk.now c.discard.new.desk) key c.discard.ensures.given) next;
+          c.args.plan.now.hash new c.discard.new.desk c.discard.ensures.dropped c.discard.ensures.given next;
       others = dropped.others;
       hash = dropped.hash;
     })

@@ -1,4 +1,4 @@
-use Rattle.std.proofs.Common.{◌%◌, ◌-◌, ◌^◌, ◌<◌, slice_index, refl, sym, ap, subst, ◌∙◌, arith}
+use Rattle.std.proofs.Common.{◌%◌, ◌-◌, ◌^◌, ◌<◌, slice_index, sym, ap, subst, ◌∙◌}
 use Rattle.mc_shelf.specs.States.{ShelfState}
 use Rattle.mc_shelf.specs.Numbers.{KeysAreCounted, HasPlaces}
 use Rattle.mc_shelf.proofs.NumberLemmas.{all_counted, counts_fit, counts_next, counts_zero, none_counted, raised}
@@ -8,9 +8,6 @@ pub returns-then-is_empty : goal.returns-then-is_empty
 returns-then-is_empty c =
     none_counted c.args.self.now.content c.args.counts.now
     (sym (ap (λ (s : ShelfState). s.content.items) c.self.view_is) ∙ c.is_empty.ensures.items c.if-is_empty.true) c.requires.many
-
-pub loop-number-init : goal.loop-number-init
-loop-number-init c = record { many = c.requires.many; counted = λ n. refl }
 
 pub count_one-requires-clause-room : goal.count_one-requires-clause-room
 count_one-requires-clause-room c =
@@ -22,9 +19,6 @@ count_one-requires-clause-room c =
     let none = counts_zero inside.greatest inside.cut inside.index c.in-Some.ensures.keyed c.args.counts.now places c.in-Some.place.number e there in
     subst (λ hash. slice_index c.loop-number.counts (hash % 4096) < 2 ^ 64 - 1) (sym (c.hash_at.ensures e there))
     (counts_fit inside.index c.loop-number.at c.in-Some.number c.in-Some.place first e there c.args.counts.now c.loop-number.counts c.loop-number.invariant none)
-
-pub loop-number-smaller : goal.loop-number-smaller
-loop-number-smaller c = omega (arith, c.in-Some.ensures.next.count, c.in-Some.ensures.next.ahead)
 
 pub loop-number-preserved : goal.loop-number-preserved
 loop-number-preserved c =

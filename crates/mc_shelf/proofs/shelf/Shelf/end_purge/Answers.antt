@@ -1,4 +1,4 @@
-use Rattle.std.proofs.Common.{arith, inl, refl, subst, sym}
+use Rattle.std.proofs.Common.{arith, subst, sym}
 use Rattle.mc_shelf.specs.Parts.{IsShelfOf}
 use Rattle.mc_shelf.specs.Sweeps.{BeginsPurge}
 use Rattle.mc_shelf.specs.declared.purge.Purging.{Purging}
@@ -30,7 +30,3 @@ pub returns-in-Whole-clause-goes : goal.returns-in-Whole-clause-goes
 returns-in-Whole-clause-goes c old hash_of shelves at state begins fits account =
     let same = subst (λ (p : Purging). BeginsPurge c.args.now old p c.args.self.now.content) c.in-Whole.is begins in
     c.purge_part.ensures.goes hash_of shelves at state (subst (IsShelfOf hash_of shelves state at) (sym same) fits) account
-
--- no item goes
-pub returns-in-Apart-clause-reclaimed : goal.returns-in-Apart-clause-reclaimed
-returns-in-Apart-clause-reclaimed c = inl refl

@@ -1,12 +1,9 @@
 use Rattle.std.proofs.Common.{◌≡◌, ℕ, List, Err, Result, rules, sym, subst, ◌∙◌}
 use Rattle.mc_shelf.proofs.Common.{key_of, Reply, ShelfContent, StepFault}
 use Rattle.mc_protocol.specs.declared.step.StepFault.TheVariants.{NoMemory, NumbersSpent}
-use Rattle.mc_shelf.specs.declared.plan.Action.{Action}
-use Rattle.mc_shelf.specs.Plans.{CanWrite, IsSpent, PutsEntry, StepTaken, NeedsPages, next_of}
+use Rattle.mc_shelf.specs.Plans.{CanWrite, IsSpent, StepTaken, NeedsPages}
 use Rattle.mc_shelf.proofs.TakesLemmas.{is_spent}
 use Rattle.mc_shelf.proofs.RefusalLemmas.{can_wants, needs_can, spent_told, taken_not_spent, wants_not_spent, writes_some}
-use Rattle.mc_shelf.specs.Counts.{counts_of}
-use Rattle.mc_shelf.proofs.CountLemmas.{catches_then, moved_more, moved_none, moved_then, ok_any}
 use Rattle.mc_shelf.proofs.shelf.Shelf.step.Goals as goal
 
 apart : (r : Result Reply StepFault) → r ≡ Err NoMemory → r ≡ Err NumbersSpent → ⊥
@@ -52,23 +49,3 @@ returns-clause-spent c =
           (subst (λ (m : ℕ). IsSpent step m old desk) (sym plan.moment) spent))
           (λ e. wants_not_spent step c.args.now old desk c.requires.stands (returns-clause-refused c e) spent)),
     )
-
-pub returns-in_err-plan-clause-moves : goal.returns-in_err-plan-clause-moves
-returns-in_err-plan-clause-moves c = moved_none (counts_of c.args.self.now)
-
-pub returns-in_err-make_room-clause-moves : goal.returns-in_err-make_room-clause-moves
-returns-in_err-make_room-clause-moves c = moved_more (counts_of c.args.self.now) (counts_of c.make_room.new.self) c.make_room.ensures.moves
-
-pub returns-clause-moves : goal.returns-clause-moves
-returns-clause-moves c = moved_then (counts_of c.args.self.now) (counts_of c.make_room.new.self) (counts_of c.apply.new.self) c.make_room.ensures.moves c.apply.ensures.table
-
-pub returns-clause-lags : goal.returns-clause-lags
-returns-clause-lags c =
-    let old = c.args.self.now.content in
-    let plan = c.in_ok-plan.ensures.plan in
-    let Words = Action × (List ℕ × ℕ) in
-    let same : (c.in_ok-plan.plan.next, (c.in_ok-plan.plan.key, c.in_ok-plan.plan.moment)) ≡ (next_of old c.args.step.now c.args.now, (key_of c.args.step.now, c.args.now)) =
-    λ i. (plan.next i, (plan.key i, plan.moment i)) in
-    ok_any c.apply.result (λ can puts. catches_then (counts_of c.args.self.now) (counts_of c.make_room.new.self) (counts_of c.apply.new.self)
-    (c.in_ok-make_room.ensures.lags (subst (λ (t : Words). CanWrite t.0 old t.1.0 t.1.1 c.args.desk.now) (sym same) can)
-    (subst (λ (t : Words). PutsEntry t.0 old t.1.0 t.1.1) (sym same) puts)) c.apply.ensures.table)

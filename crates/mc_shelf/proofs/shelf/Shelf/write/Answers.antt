@@ -1,10 +1,11 @@
-use Rattle.std.proofs.Common.{inr, ◌<◌, ◌≡◌, ◌-◌, ◌^◌, ◌≤◌, List, ℕ, true, false, arith, rules, length, refl, sym, ap, subst, ◌∙◌}
-use Rattle.mc_shelf.proofs.Common.{block_of, charge, DeskState, get, given, has_room_with, key_of, need_for, NeedState, out_of, ShelfContent, size_in, unused}
-use Rattle.mc_shelf.proofs.StandLemmas.{ready_unused}
-use Rattle.mc_shelf.specs.Plans.{GivesBack, IsDropped, IsOut, IsPut, back_at, block_beside, drafted, drawn, is_gone, left_of, readied, way_given, written}
+use Rattle.std.proofs.Common.{inr, ◌<◌, ◌≡◌, ◌-◌, ◌^◌, ◌≤◌, List, ℕ, Option, None, true, arith, rules, length, refl, sym, ap, subst, ◌∙◌}
+use Rattle.mc_shelf.proofs.Common.{AreChunksOf, charge, ChunksState, DeskState, Draft, Entry, given, has_room_with, IsNeed, IsSlab, key_of, KeyStep, made_ready, need_for, NeedState, none-some}
+use Rattle.mc_shelf.proofs.Common.{out_of, ShelfContent, ShelfState, size_in, SlabState, taken, write_reply}
+use Rattle.mc_shelf.specs.declared.write.Write.{Write as Writing}
+use Rattle.mc_shelf.specs.Plans.{CanWriteBlock, GivesBack, GoesInto, IsOut, IsPut, IsWriteOf, StepTaken, Suits, back_at, block_beside, drafted, drawn, left_of, with_item, written}
 use Rattle.mc_shelf.proofs.NeedLemmas.{chunks_size}
 use Rattle.mc_shelf.proofs.ShelfLemmas.{known_sought, put_over}
-use Rattle.mc_shelf.proofs.TakesLemmas.{back_by, block_given, charge_beside, drafts, free_by, goes_counted, has_by, is_out, is_out_taken, item_over, left_over, reuses_by, room_by}
+use Rattle.mc_shelf.proofs.TakesLemmas.{Writes, charge_beside, drafts, gave_way, goes_over, is_out, is_out_taken, item_over, put_after_drop, room_by}
 use Rattle.mc_shelf.proofs.TakesLemmas.{takes_anew, takes_full, takes_over, takes_way, way_is, way_out, writes_so}
 use Rattle.mc_shelf.proofs.shelf.Shelf.write.Goals as goal
 
@@ -13,150 +14,149 @@ need_for-need-requires c =
     let write = c.args.write.now in
     (drafts c.args.self.now.content c.args.step.now write.moment write.charge write.draft (sym c.requires.write.next)).fits
 
-pub write_over-requires-clause-body : goal.write_over-requires-clause-body
-write_over-requires-clause-body c = goes_counted c.args.write.now.draft.body (sym c.counts.ensures ∙ c.if-counts.true)
+-- ---- into the chunks of the key's item
 
-pub write_over-requires-clause-there : goal.write_over-requires-clause-there
-write_over-requires-clause-there c =
-    let w = writes_so c.args.desk.now c.requires.write c.need_for-need.ensures.value in
-    let there = item_over w (has_by w c.key.ensures (c.fit-over.ensures.has c.if-over.true)) in
-    record { item = there.0; there = there.1; need = there.2 }
+-- what comes of a write that goes, or is left to go, into the chunks of the key's item
+over : {write : Writing} {step : KeyStep} {shelf new : ShelfContent} {desk desk' : DeskState} {need : NeedState} {unique : ℕ}
+    → IsWriteOf write shelf step → need ≡ need_for write.charge → IsNeed need → IsSlab desk.slab → desk.next_unique < 2 ^ 64 - 1 → unique ≡ desk.next_unique
+    → new ≡ with_item None (key_of step) write.hash (drafted write.draft (block_beside shelf step write.draft) unique write.moment) shelf
+    → GoesInto write step shelf need desk.slab → desk' ≡ drawn desk → StepTaken step write.moment write.hash shelf desk (write_reply write.draft.body) new desk'
+over {write} {step} {shelf} {desk = desk} {unique = unique} is need_is is_need is_slab number drawn new_is into taken =
+    let item = drafted write.draft (block_beside shelf step write.draft) unique write.moment in
+    takes_over (writes_so desk is need_is) is_need is_slab number drawn
+    (subst (λ (s : ShelfContent). IsPut (key_of step) write.hash shelf s item) (sym new_is) (put_over (key_of step) write.hash shelf item is.known.hash))
+    into.has into.unused refl taken
+
+-- and it can be done
+can_write : {write : Writing} {step : KeyStep} {shelf : ShelfState} {desk : DeskState} {need : NeedState} {slab : SlabState} {unique : ℕ} → IsWriteOf write shelf.content step
+    → Writes step write.moment shelf.content desk write.charge write.draft need → GoesInto write step shelf.content need slab
+    → CanWriteBlock write (record { unique = unique; chunks = None }) step shelf
+can_write {write} {step} {shelf} is w into = record {
+  short = is.short;
+  sought = known_sought _ (key_of step) write.hash write.place is.known;
+  ready = (goes_over w into.over, item_over w shelf refl into.has);
+}
+
+pub write_block-none-requires : goal.write_block-none-requires
+write_block-none-requires c = can_write c.requires.write (writes_so c.args.desk.now c.requires.write c.need_for-need.ensures.value) (c.fit.ensures.over c.in_default.is)
 
 pub returns-then-counts-clause-took : goal.returns-then-counts-clause-took
 returns-then-counts-clause-took c =
-    let shelf = c.args.self.now.content in
-    let write = c.args.write.now in
-    let step = c.args.step.now in
-    let w = writes_so c.args.desk.now c.requires.write c.need_for-need.ensures.value in
-    let item = drafted write.draft (block_beside shelf step write.draft) c.draw-unique.result write.moment in
-    takes_over w c.need_for-need.ensures.is_need c.draw-unique.ensures.slab (c.is_spent.ensures.left c.if-is_spent.false) c.draw-unique.ensures.number
-    (subst (λ (s : ShelfContent). IsPut (key_of step) write.hash shelf s item) (sym c.write_over.ensures.content) (put_over (key_of step) write.hash shelf item c.requires.write.known.hash))
-    (has_by w c.key.ensures (c.fit-over.ensures.has c.if-over.true)) (free_by w c.key.ensures (c.fit-over.ensures.unused c.if-over.true)) refl c.draw-unique.ensures.drawn
+    over c.requires.write c.need_for-need.ensures.value c.need_for-need.ensures.is_need c.is_spent.ensures.slab (c.is_spent.ensures.left c.if-is_spent.false) c.draw-unique.ensures.number
+    c.write_block-none.ensures.content (c.fit.ensures.over c.in_default.is) c.draw-unique.ensures.drawn
 
-pub returns-then-over-clause-left : goal.returns-then-over-clause-left
-returns-then-over-clause-left c =
-    let w = writes_so c.args.desk.now c.requires.write c.need_for-need.ensures.value in
-    let there = item_over w (has_by w c.key.ensures (c.fit-over.ensures.has c.if-over.true)) in
+pub returns-in_default-clause-left : goal.returns-in_default-clause-left
+returns-in_default-clause-left c = record {
+  can = can_write c.requires.write (writes_so c.args.desk.now c.requires.write c.need_for-need.ensures.value) (c.fit.ensures.over c.in_default.is);
+  own = λ _. sym c.counts.ensures ∙ c.if-counts.false;
+}
+
+pub returns-in_default-clause-took : goal.returns-in_default-clause-took
+returns-in_default-clause-took c =
+    over c.requires.write c.need_for-need.ensures.value c.need_for-need.ensures.is_need c.is_spent.ensures.slab (c.is_spent.ensures.left c.if-is_spent.false) c.draw-unique.ensures.number
+    refl (c.fit.ensures.over c.in_default.is) c.draw-unique.ensures.drawn
+
+-- ---- into others
+
+-- chunks that were taken for it suit the block that it makes beside what a shelf holds
+suits : {step : KeyStep} {now size : ℕ} {shelf : ShelfContent} {desk : DeskState} {draft : Draft} {need : NeedState} {chunks : ChunksState} → Writes step now shelf desk size draft need
+    → (mid : ShelfContent) → size ≤ size_in need → AreChunksOf need chunks → block_beside mid step draft ≡ block_beside shelf step draft → Suits chunks (key_of step) (block_beside mid step draft)
+suits {step} {size = size} {chunks = chunks} w mid fits are same =
+    let charged = ap (charge (key_of step)) same ∙ charge_beside w in
     record {
-      short = c.requires.write.short;
-      sought = known_sought _ (key_of c.args.step.now) c.args.write.now.hash c.args.write.now.place c.requires.write.known;
-      ready = (
-        left_over w (free_by w c.key.ensures (c.fit-over.ensures.left c.if-over.true)) (sym c.counts.ensures ∙ c.if-counts.false),
-        record { item = there.0; there = there.1; need = there.2 },
-      );
+      need = are.need_is ∙ w.need_is ∙ ap need_for (sym charged);
+      fits = subst (λ (n : ℕ). n ≤ length chunks.bytes) (sym charged) (subst (λ (n : ℕ). size ≤ n) (sym (chunks_size _ _ are)) fits);
     }
 
-pub returns-then-over-clause-took : goal.returns-then-over-clause-took
-returns-then-over-clause-took c =
-    let shelf = c.args.self.now.content in
-    let write = c.args.write.now in
-    let step = c.args.step.now in
-    let w = writes_so c.args.desk.now c.requires.write c.need_for-need.ensures.value in
-    let item = drafted write.draft (block_beside shelf step write.draft) c.draw-unique.result write.moment in
-    takes_over w c.need_for-need.ensures.is_need c.draw-unique.ensures.slab (c.is_spent.ensures.left c.if-is_spent.false) c.draw-unique.ensures.number
-    (put_over (key_of step) write.hash shelf item c.requires.write.known.hash)
-    (has_by w c.key.ensures (c.fit-over.ensures.has c.if-over.true)) (free_by w c.key.ensures (c.fit-over.ensures.unused c.if-over.true)) refl c.draw-unique.ensures.drawn
-
 pub drop_dead-requires-clause-out : goal.drop_dead-requires-clause-out
-drop_dead-requires-clause-out c =
-    subst (λ (k : List ℕ). IsOut k c.args.self.now.content c.args.desk.now) (sym c.key-then-not-has_room.ensures)
-    (is_out (key_of c.args.step.now) c.args.self.now.content c.args.desk.now c.requires.stands)
+drop_dead-requires-clause-out c = is_out (key_of c.args.step.now) c.args.self.now.content c.args.desk.now c.requires.stands
 
 pub returns-then-not-has_room-clause-took : goal.returns-then-not-has_room-clause-took
 returns-then-not-has_room-clause-took c =
-    let shelf = c.args.self.now.content in
-    let desk = c.args.desk.now in
-    let write = c.args.write.now in
-    let new = c.drop_dead.new.self.content in
-    let desk' = c.drop_dead.new.desk in
-    let key = c.key-then-not-has_room.ensures in
-    let w = writes_so desk c.requires.write c.need_for-need.ensures.value in
-    let back_is = back_by w c.key.ensures (c.fit-over.ensures.back c.if-over.false) in
-    takes_full w c.need_for-need.ensures.is_need c.has_room.ensures.slab (c.is_spent.ensures.left c.if-is_spent.false)
-    (reuses_by w c.key.ensures (c.fit-over.ensures.other c.if-over.false)) (room_by w back_is c.has_room.ensures.value c.if-not-has_room.true) c.requires.write.known.hash
-    (subst (λ (k : List ℕ). is_gone shelf.cut write.moment (get shelf.items k) ≡ true → IsDropped k write.hash shelf new × GivesBack k (get shelf.items k) desk desk') key c.drop_dead.ensures.dead)
-    (subst (λ (k : List ℕ). is_gone shelf.cut write.moment (get shelf.items k) ≡ false → (new ≡ shelf) × (desk' ≡ desk)) key c.drop_dead.ensures.alive)
+    let apart = c.in-Some.ensures.apart in
+    let w = writes_so c.args.desk.now c.requires.write c.need_for-need.ensures.value in
+    takes_full w c.need_for-need.ensures.is_need c.is_spent.ensures.slab (c.is_spent.ensures.left c.if-is_spent.false) apart.other
+    (room_by w apart.back_is c.has_room.ensures.value c.if-not-has_room.true) c.requires.write.known.hash c.drop_dead.ensures.dead c.drop_dead.ensures.alive
 
-pub put-requires-clause-chunks : goal.put-requires-clause-chunks
-put-requires-clause-chunks c =
-    let charge_is = charge_beside (writes_so c.args.desk.now c.requires.write c.need_for-need.ensures.value) in
-    record {
-      need = c.in_ok-chunks.ensures.chunks.need_is ∙ c.need_for-need.ensures.value ∙ ap need_for (sym charge_is);
-      fits = subst (λ (n : ℕ). n ≤ length c.in_ok-chunks.chunks.bytes) (sym charge_is)
-          (subst (λ (n : ℕ). c.args.write.now.charge ≤ n) (sym (chunks_size _ _ c.in_ok-chunks.ensures.chunks)) c.need_for-need.ensures.holds);
-    }
+pub put-requires-2-clause-chunks : goal.put-requires-2-clause-chunks
+put-requires-2-clause-chunks c =
+    suits (writes_so c.args.desk.now c.requires.write c.need_for-need.ensures.value) c.args.self.now.content c.need_for-need.ensures.holds c.in_ok-chunks.ensures.chunks refl
 
-pub put-requires-clause-can : goal.put-requires-clause-can
-put-requires-clause-can c =
+pub put-requires-2-clause-can : goal.put-requires-2-clause-can
+put-requires-2-clause-can c =
     let desk = c.args.desk.now in
     record {
       short = c.requires.write.short;
-      known = c.requires.write.known;
+      sought = known_sought _ (key_of c.args.step.now) c.args.write.now.hash c.args.write.now.place c.requires.write.known;
       room = search rules;
       out = subst (λ (d : DeskState). IsOut (key_of c.args.step.now) c.args.self.now.content d) (sym c.in_ok-chunks.ensures.taken)
           (is_out_taken (key_of c.args.step.now) c.args.self.now.content desk c.need_for-need.result c.requires.stands
           c.take.ensures.slab c.need_for-need.ensures.is_need.is_class desk.next_unique);
     }
 
-pub put-requires-clause-number : goal.put-requires-clause-number
-put-requires-clause-number c =
-    subst (λ (d : DeskState). d.next_unique < 2 ^ 64 - 1) (sym c.in_ok-chunks.ensures.taken) (c.is_spent.ensures.left c.if-is_spent.false)
-
 pub returns-clause-took : goal.returns-clause-took
 returns-clause-took c =
     let w = writes_so c.args.desk.now c.requires.write c.need_for-need.ensures.value in
-    let back_is = back_by w c.key.ensures (c.fit-over.ensures.back c.if-over.false) in
-    let none : c.fit-over.result.back ≡ 0 = let least = c.if-back-gt0.false in omega (arith, least) in
+    let apart = c.in-Some.ensures.apart in
+    let none : c.in-Some.back ≡ 0 = let least = c.if-back-gt0.false in omega (arith, least) in
     takes_anew w c.need_for-need.ensures.is_need c.take.ensures.slab (c.is_spent.ensures.left c.if-is_spent.false)
-    (ap (λ (d : DeskState). d.next_unique) c.in_ok-chunks.ensures.taken) c.put.ensures.put
-    (reuses_by w c.key.ensures (c.fit-over.ensures.other c.if-over.false)) (sym back_is ∙ none) (room_by w back_is c.has_room.ensures.value c.if-not-has_room.false)
-    c.put.ensures.told (ap drawn c.in_ok-chunks.ensures.taken) c.put.ensures.given
+    (ap (λ (d : DeskState). d.next_unique) c.in_ok-chunks.ensures.taken) c.put-2.ensures.put
+    apart.other (sym apart.back_is ∙ none) (room_by w apart.back_is c.has_room.ensures.value c.if-not-has_room.false)
+    c.put-2.ensures.told (ap drawn c.in_ok-chunks.ensures.taken) c.put-2.ensures.given
+
+-- ---- a dead item gives its chunks back first
 
 pub ready-requires-clause-back : goal.ready-requires-clause-back
 ready-requires-clause-back c =
     let w = writes_so c.args.desk.now c.requires.write c.need_for-need.ensures.value in
-    let back_is = back_by w c.key.ensures (c.fit-over.ensures.back c.if-over.false) in
-    subst (λ (n : ℕ). n ≤ out_of c.args.desk.now.slab c.need_for-need.result.class) (sym back_is)
-    (way_out w (reuses_by w c.key.ensures (c.fit-over.ensures.other c.if-over.false)) (subst (λ (n : ℕ). 0 < n) back_is c.if-back-gt0.true) c.requires.stands)
+    let apart = c.in-Some.ensures.apart in
+    subst (λ (n : ℕ). n ≤ out_of c.args.desk.now.slab c.need_for-need.result.class) (sym apart.back_is)
+    (way_out w apart.other (subst (λ (n : ℕ). 0 < n) apart.back_is c.if-back-gt0.true) c.requires.stands)
 
-pub give_way-requires-clause-gives : goal.give_way-requires-clause-gives
-give_way-requires-clause-gives c =
+pub discard-requires-clause-out : goal.discard-requires-clause-out
+discard-requires-clause-out c =
+    let key = key_of c.args.step.now in
+    subst (λ (d : DeskState). IsOut key c.args.self.now.content d) (sym c.in_ok-ready.ensures.ready) (is_out key c.args.self.now.content c.args.desk.now c.requires.stands)
+
+pub take_unused-chunks-requires : goal.take_unused-chunks-requires
+take_unused-chunks-requires c =
+    let apart = c.in-Some.ensures.apart in
+    (gave_way (writes_so c.args.desk.now c.requires.write c.need_for-need.ensures.value) apart.other c.is_spent.ensures.slab c.requires.stands apart.back_is c.if-back-gt0.true
+    c.in_ok-ready.ensures.ready c.discard.ensures.dropped c.discard.ensures.given).2
+
+pub put-requires-clause-can : goal.put-requires-clause-can
+put-requires-clause-can c =
     let shelf = c.args.self.now.content in
     let desk = c.args.desk.now in
     let write = c.args.write.now in
-    let key = key_of c.args.step.now in
-    let need = c.need_for-need.result in
     let need_is = c.need_for-need.ensures.value in
     let w = writes_so desk c.requires.write need_is in
-    let back_is = back_by w c.key.ensures (c.fit-over.ensures.back c.if-over.false) in
-    let reused = reuses_by w c.key.ensures (c.fit-over.ensures.other c.if-over.false) in
-    let some = subst (λ (n : ℕ). 0 < n) back_is c.if-back-gt0.true in
-    let way = way_is w reused some in
-    let charged : charge key (block_of c.args.step.now) ≡ write.charge = ap (charge key) (block_given w way.4) ∙ charge_beside w in
-    let can = room_by w back_is c.has_room.ensures.value c.if-not-has_room.false in
+    let apart = c.in-Some.ensures.apart in
     let number = c.is_spent.ensures.left c.if-is_spent.false in
-    let ready_is : c.ready.new.self ≡ readied need c.fit-over.result.back desk = c.in_ok-ready.ensures.ready in
+    let way = gave_way w apart.other c.is_spent.ensures.slab c.requires.stands apart.back_is c.if-back-gt0.true
+    c.in_ok-ready.ensures.ready c.discard.ensures.dropped c.discard.ensures.given in
+    let room = c.requires.room (record {
+      size = write.charge;
+      draft = write.draft;
+      writes_it = refl;
+      number = λ spent. omega (arith, number, spent);
+      chunks = subst (λ (n : NeedState). has_room_with desk.slab n (back_at shelf (key_of c.args.step.now) write.moment n) ≡ true) need_is
+          (room_by w apart.back_is c.has_room.ensures.value c.if-not-has_room.false);
+    }) (inr (way_is w apart.other (subst (λ (n : ℕ). 0 < n) apart.back_is c.if-back-gt0.true)).5) in
     record {
       short = c.requires.write.short;
-      item = way.0;
-      there = way.1;
-      class = way.2;
-      out = subst (λ (d : DeskState). IsOut key shelf d) (sym ready_is) (is_out key shelf desk c.requires.stands);
-      given = way.4;
-      need_is = need_is ∙ ap need_for (sym charged);
-      fits = subst (λ (n : ℕ). n ≤ size_in need) (sym charged) c.need_for-need.ensures.holds;
-      room = c.requires.room (record {
-        size = write.charge;
-        draft = write.draft;
-        writes_it = refl;
-        number = λ spent. omega (arith, number, spent);
-        chunks = subst (λ (n : NeedState). has_room_with desk.slab n (back_at shelf key write.moment n) ≡ true) need_is can;
-      }) (inr way.5);
-      number = subst (λ (d : DeskState). d.next_unique < 2 ^ 64 - 1) (sym ready_is) number;
-      enough = subst (λ (t : DeskState × ℕ). need.count ≤ unused (given t.0.slab need.class t.1) need.class) (λ i. (sym ready_is i, sym (way.3 ∙ sym back_is) i))
-          (ready_unused desk.slab need c.need_for-need.ensures.is_need.is_class c.has_room.ensures.slab c.fit-over.result.back
-          (subst (λ (n : ℕ). n ≤ out_of desk.slab need.class) (sym back_is) (way_out w reused some c.requires.stands)));
+      sought = record { hash = way.0.hash; none = λ _. way.0.item };
+      room = λ _. omega (arith, c.discard.ensures.room, room);
+      out = λ item found is_class. absurd (none-some item (sym way.0.item ∙ found));
     }
+
+pub put-requires-clause-chunks : goal.put-requires-clause-chunks
+put-requires-clause-chunks c =
+    let w = writes_so c.args.desk.now c.requires.write c.need_for-need.ensures.value in
+    let apart = c.in-Some.ensures.apart in
+    let way = gave_way w apart.other c.is_spent.ensures.slab c.requires.stands apart.back_is c.if-back-gt0.true
+    c.in_ok-ready.ensures.ready c.discard.ensures.dropped c.discard.ensures.given in
+    suits w c.discard.new.self.content c.need_for-need.ensures.holds c.take_unused-chunks.ensures.chunks way.3
 
 pub returns-then-back-gt0-clause-took : goal.returns-then-back-gt0-clause-took
 returns-then-back-gt0-clause-took c =
@@ -164,14 +164,18 @@ returns-then-back-gt0-clause-took c =
     let write = c.args.write.now in
     let step = c.args.step.now in
     let need = c.need_for-need.result in
+    let mid = c.discard.new.self.content in
     let w = writes_so desk c.requires.write c.need_for-need.ensures.value in
-    let back_is = back_by w c.key.ensures (c.fit-over.ensures.back c.if-over.false) in
-    let reused = reuses_by w c.key.ensures (c.fit-over.ensures.other c.if-over.false) in
-    let some = subst (λ (n : ℕ). 0 < n) back_is c.if-back-gt0.true in
-    let way = way_is w reused some in
-    let ready_is : c.ready.new.self ≡ readied need c.fit-over.result.back desk = c.in_ok-ready.ensures.ready in
-    let new = written write (left_of c.give_way.result) step c.give_way.new.self.content in
-    takes_way w c.need_for-need.ensures.is_need c.has_room.ensures.slab (c.is_spent.ensures.left c.if-is_spent.false) (ap (λ (d : DeskState). d.next_unique) ready_is)
-    (subst (λ (l : List ℕ). IsPut (key_of step) write.hash c.args.self.now.content new (drafted write.draft l c.ready.new.self.next_unique write.moment)) (block_given w way.4) c.give_way.ensures.put)
-    reused some (room_by w back_is c.has_room.ensures.value c.if-not-has_room.false) c.give_way.ensures.told
-    (c.give_way.ensures.given way.0 way.1 ∙ (λ i. way_given need (way.3 i) ((ready_is ∙ ap (λ (n : ℕ). readied need n desk) back_is) i)))
+    let apart = c.in-Some.ensures.apart in
+    let way = gave_way w apart.other c.is_spent.ensures.slab c.requires.stands apart.back_is c.if-back-gt0.true
+    c.in_ok-ready.ensures.ready c.discard.ensures.dropped c.discard.ensures.given in
+    let took = c.take_unused-chunks.new.self in
+    let back = back_at c.args.self.now.content (key_of step) write.moment need in
+    let took_is : took ≡ record desk { slab = taken (given (made_ready desk.slab need back) need.class back) need } =
+    c.take_unused-chunks.ensures.taken ∙ ap (λ (d : DeskState). record d { slab = taken d.slab need }) way.1 in
+    let new = written write (left_of c.put.result) step c.put.new.self.content in
+    takes_way w c.need_for-need.ensures.is_need c.is_spent.ensures.slab (c.is_spent.ensures.left c.if-is_spent.false) (ap (λ (d : DeskState). d.next_unique) took_is)
+    (put_after_drop (key_of step) write.hash c.args.self.now.content mid new _ way.0
+    (subst (λ (l : List ℕ). IsPut (key_of step) write.hash mid new (drafted write.draft l took.next_unique write.moment)) way.3 c.put.ensures.put))
+    apart.other (subst (λ (n : ℕ). 0 < n) apart.back_is c.if-back-gt0.true) (room_by w apart.back_is c.has_room.ensures.value c.if-not-has_room.false) c.put.ensures.told
+    (subst (λ (o : Option Entry). GivesBack (key_of step) o (drawn took) c.put.new.desk) way.0.item c.put.ensures.given ∙ ap drawn took_is)

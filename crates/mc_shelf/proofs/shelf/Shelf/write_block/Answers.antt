@@ -1,13 +1,32 @@
-use Rattle.std.proofs.Common.{Option, subst}
-use Rattle.mc_shelf.proofs.Common.{ChunksState, key_of}
-use Rattle.mc_shelf.specs.Plans.{ChunksAreReady, block_beside}
-use Rattle.mc_shelf.proofs.TakesLemmas.{goes_left}
+use Rattle.std.proofs.Common.{◌≡◌, List, ℕ, Option, Some, sym, ap, ◌∙◌, subst}
+use Rattle.mc_shelf.proofs.Common.{block_of, ChunksState, EntryState, get, hashes_of, ItemIsChanged, key_of, ShelfState}
+use Rattle.mc_shelf.specs.Plans.{block_beside, block_in, drafted, item_in, made_block, with_item}
+use Rattle.mc_shelf.proofs.ShelfLemmas.{moved_is}
 use Rattle.mc_shelf.proofs.shelf.Shelf.write_block.Goals as goal
 
-pub write_over-requires-clause-body : goal.write_over-requires-clause-body
-write_over-requires-clause-body c =
+pub returns-in-Some-place-2-clause-content : goal.returns-in-Some-place-2-clause-content
+returns-in-Some-place-2-clause-content c =
+    let inside = c.self.inside in
     let write = c.args.write.now in
     let step = c.args.step.now in
-    let ready = subst (λ (chunks : Option ChunksState). ChunksAreReady chunks write.draft.body (key_of step) (block_beside c.args.self.now.content step write.draft) c.args.self.now)
-    c.in-None.is c.requires.ready in
-    goes_left write.draft.body ready.0
+    let old = c.args.self.now.content in
+    let key = key_of step in
+    let item = drafted write.draft (block_beside old step write.draft) c.args.rest.unique write.moment in
+    let here = c.in-Some-place-2.ensures in
+    let beside : block_in (item_in c.found_entry-old.result) ≡ block_in (get old.items key) =
+    ap block_in ((c.found_entry-old.ensures c.key-key.result.now c.find_again-place.ensures).item
+    ∙ ap (λ (s : ShelfState). get s.content.items c.key-key.result.now) c.self.view_is
+    ∙ ap (λ (k : List ℕ). get old.items k) c.key-key.ensures) in
+    let entry : c.entry_in-entry.result ≡ record { hash = write.hash; key = key; item = item } =
+    c.entry_in-entry.ensures ∙ ap (λ (l : List ℕ). record {
+      hash = write.hash;
+      key = key;
+      item = drafted write.draft (made_block write.draft.body (block_of step) l)
+          c.args.rest.unique write.moment;
+    }) beside in
+    let stood : get old.hashes key ≡ Some here.entry.hash =
+    sym (ap (λ (s : ShelfState). get s.content.hashes key) c.self.view_is) ∙ ap (λ (k : List ℕ). get (hashes_of inside.index) k) (sym c.key-key.ensures) ∙ here.hash in
+    moved_is inside.greatest inside.cut old inside.index (ap (λ (s : ShelfState). s.content) c.self.view_is) key write.hash c.replace.new.self c.in-Some.chunks item
+    (stood ∙ ap Some (c.requires.sought.hash here.entry.hash stood))
+    (subst (λ (e : EntryState). ItemIsChanged inside.index c.replace.new.self e.key e.item) entry c.replace.ensures.changed)
+    ∙ ap (λ (chunks : Option ChunksState). with_item chunks key write.hash item old) (sym c.in-Some.is)

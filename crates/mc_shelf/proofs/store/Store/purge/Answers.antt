@@ -1,5 +1,5 @@
 use Rattle.std.proofs.Common.{lt-ltb}
-use Rattle.mc_shelf.proofs.LeftLemmas.{falls_at, falls_not}
+use Rattle.mc_shelf.proofs.LeftLemmas.{falls_at}
 use Rattle.mc_shelf.proofs.StoreLemmas.{shelf_here, kept_after, plain_after}
 use Rattle.mc_shelf.proofs.store.Store.purge.Goals as goal
 
@@ -33,6 +33,3 @@ returns-then-shelf-self-clause-left g c =
     let s = c.self.inside.parts in
     let here = shelf_here s.settings parts c.if-shelf-self.true c.index_mut-shelf.ensures.value in
     rw (← c.self.view_is) (falls_at s.shelves.items c.args.shelf c.purge_part.new.self here c.purge_part.ensures.table.less)
-
-pub returns-else-shelf-self-clause-left : goal.returns-else-shelf-self-clause-left
-returns-else-shelf-self-clause-left g c = falls_not c.args.shelf c.args.self.now.left
