@@ -1,10 +1,8 @@
 -- The keys of each number are counted, shelf by shelf.
-use Rattle.std.proofs.Common.{◌≡◌, ◌≢◌, ℕ, zero, suc, ◌+◌, ◌*◌, ◌/◌, ◌%◌, ◌≤◌, ◌<◌, List, length, Some, get_or, slice_get, slice_index, set, replicate, refl, sym, ap}
-use Rattle.std.proofs.Common.{◌∙◌, subst, arith, mod-lt, div-add-mod', ◌==◌, get_or-set_same, get_or-set_other, length-set}
-use Rattle.mc_shared.proofs.Words.{same_from_place, mul-add-lt, div_below, mod_below, none-some, slice_get-get_or, dite, ℕ_discrete, empty, get-empty, Plain, flushed}
-use Rattle.mc_shared.proofs.Words.{ShelfState, keys_with, number_of, shelf_of, IsShelfOf, AreAllOf, AreCountsOfAll, AreKeyCountsAt, order, Beginning, AreKeys, SeatView}
-use Rattle.mc_shelf.specs.Numbers.{KeysAreCounted, HasPlaces}
-use Rattle.mc_shared.specs.Counted.{AreNone}
+use Rattle.mc_shared.proofs.Words.{◌≡◌, ◌≢◌, ℕ, zero, suc, ◌+◌, ◌*◌, ◌/◌, ◌%◌, ◌≤◌, ◌<◌, List, length, Some, get_or, slice_get, slice_index, set, replicate, refl, sym, ap, ◌∙◌, subst, arith}
+use Rattle.mc_shared.proofs.Words.{mod-lt, div-add-mod', ◌==◌, get_or-set_same, get_or-set_other, length-set, same_from_place, mul-add-lt, div_below, mod_below, none-some, slice_get-get_or, dite}
+use Rattle.mc_shared.proofs.Words.{ℕ_discrete, empty, get-empty, Plain, flushed, ShelfState, keys_with, number_of, shelf_of, IsShelfOf, AreAllOf, AreCountsOfAll, AreKeyCounts, order, Beginning}
+use Rattle.mc_shared.proofs.Words.{AreKeys, SeatView, KeysAreCounted, HasPlaces, AreNone}
 use Rattle.mc_shared.proofs.NumberLemmas.{count_none}
 use Rattle.mc_shared.proofs.NumberSteps.{shelf_named, own_at}
 use Rattle.mc_shared.proofs.NumberSweeps.{off_shelf}
@@ -97,11 +95,6 @@ keys_set start v counts number count n inside here others = dite (ℕ_discrete n
     (subst (AreKeys start v number) (sym (get_or-set_same counts number count 0 inside)) here))
     (λ ne. subst (AreKeys start v n) (sym (get_or-set_other counts number n count 0 ne)) (others ne))
 
-pub keys_next : (start : Beginning) (v : SeatView) (counts : List ℕ) (number count : ℕ) → number < length counts
-    → ((n : ℕ) → n < number → AreKeys start v n (slice_index counts n)) → AreKeys start v number count
-    → (n : ℕ) → n < number + 1 → AreKeys start v n (slice_index (set counts number count) n)
-keys_next start v counts number count inside so here n low = keys_set start v counts number count n inside here (λ ne. so n (omega (arith, low, ne)))
-
 -- a flush at once leaves no key
 pub none_left : (hash_of : List ℕ → ℕ) (number delay now : ℕ) (m : Plain) → delay ≡ 0 → keys_with hash_of number (flushed delay m now).items ≡ 0
 none_left hash_of number delay now m is =
@@ -130,12 +123,12 @@ row_number shelves at row inside =
     let low = mod_below number shelves (omega (arith, inside)) in
     (same_from_place (number / shelves) (number % shelves) row at shelves low inside (div-add-mod' number shelves)).1
 
-pub row_below : (began shelves at row : ℕ) → shelves ≡ began → 4096 / began * began ≡ 4096 → at < shelves → row < 4096 / shelves → row * shelves + at < 4096
-row_below began shelves at row is divides inside low =
-    let q : ℕ = 4096 / shelves in
-    let less = mul-add-lt row shelves at q low inside in
-    let all = native.Mathlib.Nat.mul_comm q shelves in
-    let whole : q * shelves ≡ 4096 = subst (λ (s : ℕ). 4096 / s * s ≡ 4096) (sym is) divides in
+pub row_below : (step at row : ℕ) → 4096 / step * step ≡ 4096 → at < step → row < 4096 / step → row * step + at < 4096
+row_below step at row divides inside low =
+    let q : ℕ = 4096 / step in
+    let less = mul-add-lt row step at q low inside in
+    let all = native.Mathlib.Nat.mul_comm q step in
+    let whole : q * step ≡ 4096 = divides in
     omega (arith, less, all, whole)
 
 pub rows_next : (start : Beginning) (v : SeatView) (shelves at row : ℕ) (counts : List ℕ) (count : ℕ) → at < shelves → row * shelves + at < 4096
@@ -150,12 +143,11 @@ rows_next start v shelves at row counts count inside below so here =
       none = λ n low other. get_or-set_other counts number n count 0 (λ e. other (ap (λ k. k % shelves) e ∙ row_number shelves at row inside)) ∙ so.none n low other;
     }
 
-pub rows_all : (start : Beginning) (v : SeatView) (shelves at row : ℕ) (counts : List ℕ) → shelves ≡ start.shelves → 4096 / start.shelves * start.shelves ≡ 4096 → at < shelves
-    → 4096 / shelves ≤ row → ReadsRows start v shelves at row counts → AreKeyCountsAt start v at counts
-rows_all start v shelves at row counts is divides inside all so = record {
+pub rows_all : (start : Beginning) (v : SeatView) (step at row : ℕ) (counts : List ℕ) → 4096 / step * step ≡ 4096 → at < step
+    → 4096 / step ≤ row → ReadsRows start v step at row counts → AreKeyCounts start v step at counts
+rows_all start v step at row counts divides inside all so = record {
   many = so.many;
-  counted = λ n low own. so.counted n low (ap (λ (s : ℕ). n % s) is ∙ own)
-      (let q : ℕ = 4096 / shelves in let whole : q * shelves ≡ 4096 = subst (λ (s : ℕ). 4096 / s * s ≡ 4096) (sym is) divides in
-      let less : n / shelves < q = div_below n shelves q (omega (arith, inside)) (omega (arith, low, whole)) in omega (arith, less, all));
-  none = λ n low other. so.none n low (λ own. other (ap (λ (s : ℕ). n % s) (sym is) ∙ own));
+  counted = λ n low own. so.counted n low own (let q : ℕ = 4096 / step in let whole : q * step ≡ 4096 = divides in
+      let less : n / step < q = div_below n step q (omega (arith, inside)) (omega (arith, low, whole)) in omega (arith, less, all));
+  none = so.none;
 }

@@ -1,15 +1,10 @@
 -- Which decisions are the plain machine's: those that take a state on by one shelf and the desk.
-use Rattle.std.proofs.Common.{◌≡◌, ◌≢◌, inl, inr, Bool, true, false, true≢false, Option, Some, None, ℕ, ◌<◌, List, [], ◌∷◌, Result, Err, sym, refl, ap, ◌∙◌, subst, arith}
-use Rattle.mc_shared.proofs.Words.{expiry_of, Expiry, Plain, Entry as Item, Outcome, MayFail, alive, changed, hit_of, plain, row_of, standing, stepped}
-use Rattle.mc_shared.proofs.Words.{without_dead, KeyStep, Read, ReadTouch, Reply, Miss, ShelfContent, DeskState, StandsAt, CanStandAt, key_of, get, Reads, is_gone, next_of}
-use Rattle.mc_shared.proofs.Words.{writes, IsShelfOf, IsDeskOf, GoesTo, Content, OfShelf, OfDesk, Beginning, start_of, Operation, Stepped, shelf_in, left_by, next, after}
-use Rattle.mc_shared.proofs.Words.{IsRight, FitsBay, AllFit, KeepsLimits, holds_bay, SeatView, Decides, Fitted, Mine, Sitter, SharedState, HoldsShelf, IsAsked, StepFault}
-use Rattle.mc_shared.proofs.Words.{NoMemory, NumbersSpent, Past, CanCome, MayFailAfter, Refuses}
-use Rattle.mc_shelf.specs.Plans.{LookTakesMemory, answered, next_by, row_at}
-use Rattle.mc_shelf.specs.Parts.{GoesByStep, GoesWithoutDesk}
-use Rattle.mc_shared.specs.declared.ask.Ask.{Ask}
-use Rattle.mc_shared.specs.Store.{IsSpentAfter}
-use Rattle.mc_shelf.specs.Hits.{is_read}
+use Rattle.mc_shared.proofs.Words.{◌≡◌, ◌≢◌, inl, inr, Bool, true, false, true≢false, Option, Some, None, ℕ, ◌<◌, List, [], ◌∷◌, Result, Err, sym, refl, ap, ◌∙◌, subst, arith, Expiry, Plain}
+use Rattle.mc_shared.proofs.Words.{Entry as Item, Outcome, MayFail, alive, changed, hit_of, plain, row_of, standing, stepped, without_dead, KeyStep, Read, ReadTouch, Reply, Miss, ShelfContent}
+use Rattle.mc_shared.proofs.Words.{DeskState, StandsAt, CanStandAt, key_of, get, Reads, is_gone, next_of, writes, IsShelfOf, IsDeskOf, GoesTo, Content, OfShelf, OfDesk, Beginning, start_of}
+use Rattle.mc_shared.proofs.Words.{Operation, Stepped, shelf_in, left_by, next, after, IsRight, FitsBay, AllFit, KeepsLimits, holds_bay, SeatView, Decides, Fitted, Mine, Sitter, SharedState}
+use Rattle.mc_shared.proofs.Words.{HoldsShelf, IsAsked, StepFault, NoMemory, NumbersSpent, Past, CanCome, MayFailAfter, Refuses, LookTakesMemory, answered, next_by, row_at, GoesByStep}
+use Rattle.mc_shared.proofs.Words.{GoesWithoutDesk, Ask, IsSpentAfter, is_read}
 use Rattle.mc_shared.proofs.StockedKept.{here}
 
 -- a bay that isn't held is another than one that is

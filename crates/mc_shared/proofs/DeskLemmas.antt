@@ -1,12 +1,6 @@
 -- A seat that holds a shelf and the desk gives the desk back.
-use Rattle.std.proofs.Common.{◌≡◌, ℕ, List, [], ◌∷◌, ◌-◌, None, slice_index, sym, ap, ◌∙◌, subst}
-use Rattle.mc_shared.proofs.Words.{KeptBy, Lives, Past, Plain, AllFit, after, start_of, place, OfShelf, OfDesk, ShelfContent, DeskState, Mine, HoldsThis, without, holds_one}
-use Rattle.mc_shared.proofs.Words.{SharedState, Sitter, HoldsShelf, HoldsBoth}
-use Rattle.mc_slab.specs.Classes.{IsClass}
-use Rattle.mc_slab.specs.Slabs.{pages_of, out_of}
-use Rattle.mc_shared.proofs.Words.{IsDeskOf}
-use Rattle.mc_shared.specs.Seats.{SameSeat}
-use Rattle.mc_shared.specs.Survey.{IsAccountAfter}
+use Rattle.mc_shared.proofs.Words.{◌≡◌, ℕ, List, [], ◌∷◌, ◌-◌, None, slice_index, sym, ap, ◌∙◌, subst, KeptBy, Lives, Past, Plain, AllFit, after, start_of, place, OfShelf, OfDesk, ShelfContent}
+use Rattle.mc_shared.proofs.Words.{DeskState, Mine, HoldsThis, without, holds_one, SharedState, Sitter, HoldsShelf, HoldsBoth, IsClass, pages_of, out_of, IsDeskOf, SameSeat, IsAccountAfter}
 use Rattle.mc_shared.proofs.Held.{top_of}
 
 module _ {K : Type 0} (hash_of : K → List ℕ → ℕ) (shared : SharedState K) (old : Sitter) (at : ℕ) (f : ShelfContent) (d : DeskState) (h : HoldsBoth hash_of shared old at f d) where

@@ -1,15 +1,8 @@
 -- Shelves to whose places others of no items came are the parts of the state that a flush at once leaves.
-use Rattle.std.proofs.Common.{◌≡◌, ◌≢◌, ◌≤◌, ◌<◌, ℕ, zero, suc, ◌+◌, ◌-◌, List, [], ◌∷◌, ◌++◌, length, length-set, get_or, take, Some, None, slice_get, slice_set, refl}
-use Rattle.std.proofs.Common.{sym, ap, subst, ◌∙◌, arith, ⊎_elim}
-use Rattle.mc_shared.proofs.Words.{none-some, empty, get, get-empty, Plain, flushed, DeskState, ShelfContent, ShelfState, ArePartsOf, IsShelfOf, order}
-use Rattle.std.proofs.lemmas.List.{get_or-replicate, take_more, take_all}
-use Rattle.std.proofs.lemmas.Option.{get_or_from_slice_get, slice_get_within}
-use Rattle.std.specs.Prelude.{Option, option_to_list}
-use Rattle.mc_protocol.specs.Plain.{count_of}
+use Rattle.mc_shared.proofs.Words.{◌≡◌, ◌≢◌, ◌≤◌, ◌<◌, ℕ, zero, suc, ◌+◌, ◌-◌, List, [], ◌∷◌, ◌++◌, length, length-set, get_or, take, Some, None, slice_get, slice_set, refl, sym, ap, subst, ◌∙◌}
+use Rattle.mc_shared.proofs.Words.{arith, ⊎_elim, none-some, empty, get, get-empty, Plain, flushed, DeskState, ShelfContent, ShelfState, ArePartsOf, IsShelfOf, order, get_or-replicate, take_more}
+use Rattle.mc_shared.proofs.Words.{take_all, get_or_from_slice_get, slice_get_within, Option, option_to_list, count_of, nothing_held, put_cases, AreEmptied, IsEmptied}
 use Rattle.mc_shelf.specs.Asides.{none_out}
-use Rattle.mc_shelf.specs.States.{nothing_held}
-use Rattle.mc_shelf.proofs.PartLemmas.{put_cases}
-use Rattle.mc_shared.specs.Emptied.{AreEmptied, IsEmptied}
 
 bare_part : {hash_of : List ℕ → ℕ} {count at : ℕ} {state : Plain} {old new : ShelfContent} → IsShelfOf hash_of count state at old → new ≡ nothing_held old.greatest
     → IsShelfOf hash_of count (record state { items = empty; cut = None }) at new

@@ -1,22 +1,14 @@
 -- A seat that holds one bay, or two.
-use Rattle.std.proofs.Common.{◌≡◌, ℕ, zero, suc, List, [], ◌∷◌, ◌++◌, None, Result, Ok, Err, replicate, refl, sym, ap, ◌∙◌, subst, ◌<◌, ◌-◌, ◌%◌, ◌^◌, arith}
-use Rattle.mc_shared.proofs.Words.{rest, Content, place, OfShelf, OfDesk, Past, Lives, call, SeatView, Mine, Fitted, HasTaken, HoldsThis, holding, without}
-use Rattle.mc_shared.proofs.Words.{decided_by, entry_of, loaded, newcomer, met, next_name, Agrees, Decides, Counts, MayAdd, MayCount, Desk, holds_one, holds_two}
-use Rattle.mc_shared.proofs.Words.{CanCome, Refuses, KeyStep, key_of, StepFault, NoMemory, NumbersSpent, Plain, Outcome, Spent, MayFail, plain, ShelfContent, DeskState}
-use Rattle.mc_shared.proofs.Words.{CanStandAt, StandsAt, Reply, Beginning, Operation, Stepped, start_of, shelf_in, AreKeyCountsAt, AreCountsBy, len, SharedState, CallerState}
-use Rattle.mc_shared.proofs.Words.{HoldsShelf, HoldsBoth, IsAsked, Sitter, IsTableOf, IsAnswered, MayDecide, Rests, StoreState, TableId}
-use Rattle.mc_shared.specs.Steps.{HoldsLast}
+use Rattle.mc_shared.proofs.Words.{◌≡◌, ℕ, zero, suc, List, [], ◌∷◌, ◌++◌, None, Result, Ok, Err, replicate, refl, sym, ap, ◌∙◌, subst, ◌<◌, ◌-◌, ◌%◌, ◌^◌, arith, rest, Content, place, OfShelf}
+use Rattle.mc_shared.proofs.Words.{OfDesk, Past, Lives, call, SeatView, Mine, Fitted, HasTaken, HoldsThis, holding, without, decided_by, entry_of, loaded, newcomer, met, next_name, Agrees}
+use Rattle.mc_shared.proofs.Words.{Decides, Counts, MayAdd, MayCount, Desk, holds_one, holds_two, CanCome, Refuses, KeyStep, key_of, StepFault, NoMemory, NumbersSpent, Plain, Outcome, Spent}
+use Rattle.mc_shared.proofs.Words.{MayFail, plain, ShelfContent, DeskState, CanStandAt, StandsAt, Reply, Beginning, Operation, Stepped, start_of, shelf_in, AreKeyCounts, AreCountsBy, len}
+use Rattle.mc_shared.proofs.Words.{SharedState, CallerState, HoldsShelf, HoldsBoth, IsAsked, Sitter, IsTableOf, IsAnswered, MayDecide, Rests, StoreState, TableId, HoldsLast, resting, IsSpent}
+use Rattle.mc_shared.proofs.Words.{MayWantMemory, SameSeat, IsSeatOf, IsAlive, IsFree, caller_at, Ask, IsOnKey, IsShelfOf, PlanIsSettled, goes_without_desk}
 use Rattle.mc_shared.proofs.NamedKept.{lives_start, lives_both}
-use Rattle.mc_shared.specs.Store.{resting}
-use Rattle.mc_shelf.specs.Plans.{IsSpent, MayWantMemory}
 use Rattle.mc_shared.proofs.NumberSteps.{may_add, counts_settled}
 use Rattle.mc_shared.proofs.NumberSweeps.{may_count_one, shelf_counted}
 use Rattle.mc_shared.proofs.Decisions.{can_stand, comes_after, refuses, settles, goes_alone}
-use Rattle.mc_shared.specs.Seats.{SameSeat, IsSeatOf, IsAlive, IsFree}
-use Rattle.mc_shared.specs.Holds.{caller_at}
-use Rattle.mc_shared.specs.declared.ask.Ask.{Ask}
-use Rattle.mc_protocol.specs.Laws.{IsOnKey}
-use Rattle.mc_shared.proofs.Words.{IsShelfOf, PlanIsSettled, goes_without_desk}
 
 pub top_of : {S : Type 0} → (xs : List (ℕ × S)) (x : ℕ × S) (ys : List (ℕ × S)) → xs ≡ x ∷ ys → xs ≡ x ∷ rest xs
 top_of xs x ys e = e ∙ ap (λ zs. x ∷ rest zs) (sym e)
@@ -156,8 +148,8 @@ module _ {K : Type 0} (hash_of : K → List ℕ → ℕ) (table : TableId) (bega
       )
 
   -- and so it has the shelf's counts
-  pub counts_shelf : (seat : Sitter) (at : ℕ) (f : ShelfContent) (counts : List ℕ) → HoldsShelf hash_of shared seat at f → AreKeyCountsAt (start_of hash_of began) seat.me.0 at counts
-      → AreCountsBy (hash_of shared.began.hasher) f counts
+  pub counts_shelf : (seat : Sitter) (at : ℕ) (f : ShelfContent) (counts : List ℕ) → HoldsShelf hash_of shared seat at f
+      → AreKeyCounts (start_of hash_of began) seat.me.0 began.settings.shelves at counts → AreCountsBy (hash_of shared.began.hasher) f counts
   counts_shelf seat at f counts holds keys =
       let h = subst (λ (s : SharedState K). HoldsShelf hash_of s seat at f) (sym is) holds in
       subst (λ (s : SharedState K). AreCountsBy (hash_of s.began.hasher) f counts) is
@@ -202,9 +194,6 @@ one_given me q at z held = (
 
 pub one_rests : (me end : Mine) (q : Past) (at : ℕ) (z : Content) → me ≡ holds_one q at z → end ≡ without me → end ≡ resting q
 one_rests me end q at z held given = given ∙ ap without held
-
-pub rests_so : (me : Mine) (q : Past) → Lives q → me ≡ resting q → Rests me
-rests_so me q lives is = subst Rests (sym is) (refl, refl, lives, refl)
 
 -- a call was answered
 pub came_out : {E : Type 0} (start : Beginning) (old new : CallerState) (step : KeyStep) (now : ℕ) (reply told : Reply) (may : Beginning → Past → KeyStep → ℕ → E → Type 0)

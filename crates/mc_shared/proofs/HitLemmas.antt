@@ -1,18 +1,8 @@
 -- What a read is told of the item that is found standing under its key.
-use Rattle.std.proofs.Common.{◌≡◌, cond, Bool, true, false, ℕ, zero, suc, ◌-◌, ◌≤◌, List, [], ◌∷◌, length, drop, get_or, Option, Some, None, refl, ap, arith}
-use Rattle.mc_shared.proofs.Words.{is_dead, alive, Entry as Item, parts_of, is_gone}
-use Rattle.std.specs.Prelude.{is_none}
-use Rattle.std.specs.List.{concat}
-use Rattle.mc_slab.specs.Classes.{size_of}
+use Rattle.mc_shared.proofs.Words.{◌≡◌, cond, Bool, true, false, ℕ, zero, suc, ◌-◌, ◌≤◌, List, [], ◌∷◌, length, drop, get_or, Option, Some, None, refl, ap, arith, is_dead, alive, Entry as Item}
+use Rattle.mc_shared.proofs.Words.{parts_of, is_gone, is_none, concat, size_of, item_need, stored, found_of, is_read, IsOnKey, KeyStep, Read, ReadTouch, AreLentParts, IsLentPart}
 use Rattle.mc_item.specs.Items.{front_of, pieces}
-use Rattle.mc_protocol.specs.Plain.{item_need}
 use Rattle.mc_shelf.specs.Lent.{HitState}
-use Rattle.mc_shelf.specs.States.{stored}
-use Rattle.mc_shelf.specs.Hits.{found_of, is_read}
-use Rattle.mc_protocol.specs.Laws.{IsOnKey}
-use Rattle.mc_protocol.specs.declared.step.KeyStep.{KeyStep}
-use Rattle.mc_protocol.specs.declared.step.KeyStep.TheVariants.{Read, ReadTouch}
-use Rattle.mc_shared.specs.Telling.{AreLentParts, IsLentPart}
 use Rattle.mc_shelf.specs.declared.hit.Found.{Found}
 use Rattle.mc_shelf.specs.declared.hit.Found.TheVariants.{Nothing, Dead, Standing}
 

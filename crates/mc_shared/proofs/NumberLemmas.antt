@@ -1,15 +1,12 @@
 -- How many keys of a map pass a test.
-use Rattle.std.proofs.Common.{◌≡◌, ◌≢◌, ℕ, suc, ◌+◌, ◌≤◌, Bool, true, false, true≢false, cond, List, [], ◌∷◌, length, Option, Some, None, is_some, refl, sym, ap, ◌∙◌}
-use Rattle.std.proofs.Common.{arith, Less, Equal, Greater}
-use Rattle.mc_shared.proofs.Words.{get, len, retain_keys, empty, get-empty, Items, Entry, order, same_maps, get_kept, get_gone}
+use Rattle.mc_shared.proofs.Words.{◌≡◌, ◌≢◌, ℕ, suc, ◌+◌, ◌≤◌, Bool, true, false, true≢false, cond, List, [], ◌∷◌, length, Option, Some, None, is_some, refl, sym, ap, ◌∙◌, arith, Less, Equal}
+use Rattle.mc_shared.proofs.Words.{Greater, get, len, retain_keys, empty, get-empty, Items, Entry, order, same_maps, get_kept, get_gone, insert, remove, entries, entries_sorted}
+use Rattle.mc_shared.proofs.Words.{entries-from_sorted, from_sorted, get-entries, get-from_sorted, get-remove, is_sorted, len-empty, len-entries, len-insert, empty_of_len, same_key}
 use lib.Dec.{T}
 use Rattle.std.specs.Ordering.{is_eq}
 use Rattle.std.specs.Cmp.{tied_itself}
 use Rattle.std.specs.Cmp.Lexicographic.{nat_list_cmp_total}
-use Rattle.std.specs.FinMap.{insert, remove, entries, entries_sorted, entries-from_sorted, from_sorted, get-entries, get-from_sorted, get-remove, is_sorted, len-empty}
-use Rattle.std.specs.FinMap.{len-entries, len-insert, empty_of_len}
 use Rattle.std.specs.FinMap.Entries.{where_key, is_sorted-where_key, find-where_key}
-use Rattle.mc_shelf.proofs.KeyLemmas.{same_key}
 
 -- 1 where an item is there
 abbrev pub there : Option Entry → ℕ

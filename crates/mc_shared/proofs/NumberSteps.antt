@@ -1,9 +1,8 @@
 -- By how much the keys of each number change in a decision.
-use Rattle.std.proofs.Common.{◌≡◌, ◌≢◌, ◌==◌, ℕ, zero, suc, ◌+◌, ◌-◌, ◌*◌, ◌/◌, ◌%◌, ◌^◌, ◌≤◌, ◌<◌, true, false, cond, eqb, Option, Some, None, is_some, List, [], ◌∷◌}
-use Rattle.std.proofs.Common.{replicate, refl, sym, ap, ◌∙◌, subst, arith, eq-eqb, ne_eqb, mod-lt, div-add-mod'}
-use Rattle.mc_shared.proofs.Words.{dite, ℕ_discrete, get, len, retain_keys, empty, get-empty, Plain, Items, Entry, ShelfContent, DeskState, shelf_of, IsShelfOf, GoesTo}
-use Rattle.mc_shared.proofs.Words.{order, get_kept, total, number_of, keys_with, word_of, Beginning, Operation, shelf_in, next, Content, OfShelf, OfDesk, SeatView, FitsBay}
-use Rattle.mc_shared.proofs.Words.{AllFit, holds_bay, times, named, Counts, MayAdd}
+use Rattle.mc_shared.proofs.Words.{◌≡◌, ◌≢◌, ◌==◌, ℕ, zero, suc, ◌+◌, ◌-◌, ◌*◌, ◌/◌, ◌%◌, ◌^◌, ◌≤◌, ◌<◌, true, false, cond, eqb, Option, Some, None, is_some, List, [], ◌∷◌, replicate, refl, sym}
+use Rattle.mc_shared.proofs.Words.{ap, ◌∙◌, subst, arith, eq-eqb, ne_eqb, mod-lt, div-add-mod', dite, ℕ_discrete, get, len, retain_keys, empty, get-empty, Plain, Items, Entry, ShelfContent}
+use Rattle.mc_shared.proofs.Words.{DeskState, shelf_of, IsShelfOf, GoesTo, order, get_kept, total, number_of, keys_with, word_of, Beginning, Operation, shelf_in, next, Content, OfShelf, OfDesk}
+use Rattle.mc_shared.proofs.Words.{SeatView, FitsBay, AllFit, holds_bay, times, named, Counts, MayAdd}
 use Rattle.mc_shared.proofs.StockedKept.{here, elsewhere}
 use Rattle.mc_shared.proofs.WordLemmas.{words_apart}
 use Rattle.mc_shared.proofs.NumberLemmas.{there, kept_same, len_change, count_here, count_most, count_other}

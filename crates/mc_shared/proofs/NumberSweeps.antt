@@ -1,11 +1,10 @@
 -- By how much the keys of each number change where many go at once.
-use Rattle.std.proofs.Common.{◌≡◌, ◌≢◌, ◌==◌, ℕ, suc, ◌+◌, ◌-◌, ◌*◌, ◌/◌, ◌%◌, ◌≤◌, ◌<◌, Bool, true, false, not, ◌||◌, cond, eqb, if◌then◌else◌, Option, Some, None}
-use Rattle.std.proofs.Common.{is_some, List, [], ◌∷◌, length, slice_get, slice_index, refl, sym, ap, ◌∙◌, subst, arith, mod-lt}
-use Rattle.mc_shared.proofs.Words.{none-some, dite, ℕ_discrete, get, len, retain_keys, empty, get-empty, moment_named, Plain, Items, Entry, alive, flushed, living, Flush}
-use Rattle.mc_shared.proofs.Words.{Flushed, ShelfContent, ShelfState, DeskState, keys_with, number_of, IsShelfOf, ArePartsOf, GoesTo, order, same_maps, get_kept, total}
-use Rattle.mc_shared.proofs.Words.{Content, OfShelf, OfDesk, word_of, spread, keys_in, Beginning, Operation, Purged, Stepped, shelf_in, next, after, SeatView, AllFit}
-use Rattle.mc_shared.proofs.Words.{holds_bay, times, named, Past, AreKeyCountsAt, AreCountsBy, Mine, Counts, MayCount, Fitted, stacked, holds_all, holds_one}
-use Rattle.mc_shared.specs.Counted.{AreKeyCounts}
+use Rattle.mc_shared.proofs.Words.{◌≡◌, ◌≢◌, ◌==◌, ℕ, suc, ◌+◌, ◌-◌, ◌*◌, ◌/◌, ◌%◌, ◌≤◌, ◌<◌, Bool, true, false, ◌||◌, cond, eqb, if◌then◌else◌, Option, Some, None, is_some, List, [], ◌∷◌}
+use Rattle.mc_shared.proofs.Words.{length, slice_get, slice_index, refl, sym, ap, ◌∙◌, subst, arith, mod-lt, none-some, dite, ℕ_discrete, get, len, retain_keys, empty, get-empty, moment_named}
+use Rattle.mc_shared.proofs.Words.{Plain, Items, Entry, alive, flushed, living, Flush, Flushed, ShelfContent, ShelfState, DeskState, keys_with, number_of, IsShelfOf, ArePartsOf, GoesTo, order}
+use Rattle.mc_shared.proofs.Words.{same_maps, get_kept, total, Content, OfShelf, OfDesk, word_of, spread, keys_in, Beginning, Operation, Purged, Stepped, shelf_in, next, after, SeatView, AllFit}
+use Rattle.mc_shared.proofs.Words.{holds_bay, times, named, Past, AreCountsBy, Mine, Counts, MayCount, Fitted, stacked, holds_all, holds_one, AreKeyCounts}
+use Rattle.std.proofs.Common.{not}
 use Rattle.mc_shared.proofs.WordLemmas.{number_inside}
 use Rattle.mc_shared.proofs.StockedKept.{here}
 use Rattle.mc_shared.proofs.NumberLemmas.{count_most, count_none}
@@ -209,11 +208,12 @@ may_count_all start divides p xs me is all n low =
     record { below = low; inside = inside; held = omega (arith, one, same); bare = ap (λ (m : Mine). m.0.surplus) is }
 
 -- what they told is so of each state whose parts the shelves are
-pub words_counted : (start : Beginning) (p : Past) (xs : List ShelfState) (d : DeskState) (me : Mine) (counts : List ℕ) → me ≡ holds_all p xs → AreKeyCounts start me.0 counts
+pub words_counted : (start : Beginning) (p : Past) (xs : List ShelfState) (d : DeskState) (me : Mine) (counts : List ℕ) → me ≡ holds_all p xs → AreKeyCounts start me.0 1 0 counts
     → (m : Plain) → ArePartsOf start.hash_of m xs start.shelves d → (n : ℕ) → n < 4096 → slice_index counts n ≡ keys_with start.hash_of n m.items
 words_counted start p xs d me counts is keys m parts n low =
     let all = parts.number in
-    keys.counted n low m (subst (AllFit start m) (sym (ap (λ (z : Mine). z.0.bays) is))
+    let first : n % 1 < 1 = mod-lt n (omega arith) in
+    keys.counted n low (omega (arith, first)) m (subst (AllFit start m) (sym (ap (λ (z : Mine). z.0.bays) is))
     (all_fit start m 0 xs [] (omega (arith, all))
     (λ at x e. let same : at ≡ 0 + at = omega arith in subst (λ k. IsShelfOf start.hash_of start.shelves m k x.content) same (parts.each at x e)) tt))
 
@@ -227,7 +227,7 @@ may_count_one start divides p at x me is n low own =
     record { below = low; inside = number_inside start.shelves n divides; held = omega (arith, all, one); bare = ap (λ (m : Mine). m.0.surplus) is }
 
 pub shelf_counted : (start : Beginning) → 4096 / start.shelves * start.shelves ≡ 4096 → (p : Past) (at : ℕ) (f : ShelfContent) (me : Mine) (counts : List ℕ)
-    → me ≡ holds_one p at (OfShelf f) → Fitted start me.0 → AreKeyCountsAt start me.0 at counts → AreCountsBy start.hash_of f counts
+    → me ≡ holds_one p at (OfShelf f) → Fitted start me.0 → AreKeyCounts start me.0 start.shelves at counts → AreCountsBy start.hash_of f counts
 shelf_counted start divides p at f me counts is fitted keys =
     let m : Plain = after start start.plain fitted.log in
     let fit : AllFit start m ((at, OfShelf f) ∷ []) = subst (AllFit start m) (ap (λ (z : Mine). z.0.bays) is) fitted.fits in

@@ -1,10 +1,8 @@
 -- The rule at the start.
-use Rattle.std.proofs.Common.{◌≡◌, ◌⊎◌, ℕ, zero, suc, ◌+◌, ◌*◌, ◌/◌, ◌≤◌, ◌<◌, set, length-set, get_or-set_other, get_or-set_same, Some, List, [], ◌∷◌, ◌++◌, length, map}
-use Rattle.std.proofs.Common.{get_or, slice_get, sym, refl, ap, ◌∙◌, subst, inl, inr, ⊎_elim, arith}
-use Rattle.mc_shared.proofs.Words.{dite, ℕ_discrete, some, some-injective, some-ne-none, get_elem?, opening, ShelfState, DeskState, ArePartsOf, Shelf, Desk, Beginning}
-use Rattle.mc_shared.proofs.Words.{Name, start_of, SeatView, starting, Sound, Lives, spent, AllFit, Kept, AreFirst, AreFilled, named, Slot, place, shelf_slot, spaced}
-use Rattle.mc_shared.proofs.Words.{word_of, words_with, AreAllOf, AreCountsOfAll, TableId, StoreState, IsTableOf}
-use Rattle.mc_shared.specs.Store.{desk_slot, slot_alone}
+use Rattle.mc_shared.proofs.Words.{◌≡◌, ◌⊎◌, ℕ, zero, suc, ◌+◌, ◌*◌, ◌/◌, ◌≤◌, ◌<◌, set, length-set, get_or-set_other, get_or-set_same, Some, List, [], ◌∷◌, ◌++◌, length, map, get_or, slice_get}
+use Rattle.mc_shared.proofs.Words.{sym, refl, ap, ◌∙◌, subst, inl, inr, ⊎_elim, arith, dite, ℕ_discrete, some, some-injective, some-ne-none, get_elem?, opening, ShelfState, DeskState, ArePartsOf}
+use Rattle.mc_shared.proofs.Words.{Shelf, Desk, Beginning, Name, start_of, SeatView, starting, Sound, Lives, spent, AllFit, Kept, AreFirst, AreFilled, named, Slot, place, shelf_slot, spaced}
+use Rattle.mc_shared.proofs.Words.{word_of, words_with, AreAllOf, AreCountsOfAll, TableId, StoreState, IsTableOf, desk_slot, slot_alone}
 use Rattle.mc_shared.proofs.WordLemmas.{words_apart, word_behind, word_inside, bays_inside}
 use Rattle.mc_shared.proofs.NamedKept.{sound_start}
 use Rattle.mc_shared.specs.Past as past

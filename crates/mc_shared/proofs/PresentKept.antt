@@ -1,9 +1,7 @@
 -- What keeps the presence words in step with the keys.
-use Rattle.std.proofs.Common.{◌≡◌, ◌≢◌, ℕ, ◌+◌, ◌%◌, ◌≤◌, ◌<◌, List, [], ◌∷◌, ◌++◌, length, replicate, get_or, set, cond, eqb, sym, refl, ap, ◌∙◌, subst, ⊎_elim, arith}
-use Rattle.std.proofs.Common.{get_or-set_other, get_or-set_same, eq-eqb, ne_eqb}
-use Rattle.mc_shared.proofs.Words.{dite, some, ℕ_discrete, get_elem?, Plain, Bay, place, total, keys_with, word_of, Beginning, HistoryEntry, name_of, Lives, Whole}
-use Rattle.mc_shared.proofs.Words.{SeatView, holds_bay, times, named, Present, Stocked, Story, Named}
-use Rattle.mc_shared.specs.Rule.{IsHeldWord}
+use Rattle.mc_shared.proofs.Words.{◌≡◌, ◌≢◌, ℕ, ◌+◌, ◌%◌, ◌≤◌, ◌<◌, List, [], ◌∷◌, ◌++◌, length, replicate, get_or, set, cond, eqb, sym, ap, ◌∙◌, subst, ⊎_elim, arith, get_or-set_other}
+use Rattle.mc_shared.proofs.Words.{get_or-set_same, dite, some, ℕ_discrete, get_elem?, Plain, Bay, place, total, keys_with, word_of, Beginning, HistoryEntry, name_of, Lives}
+use Rattle.mc_shared.proofs.Words.{Whole, SeatView, holds_bay, times, named, Present, Stocked, Story, Named, IsHeldWord}
 use Rattle.mc_shared.proofs.Sums.{sum_set, sum_two, total-append, each_set, each_snoc}
 use Rattle.mc_shared.proofs.NamedKept.{total_zero, total_one, alone}
 use Rattle.mc_shared.proofs.WordLemmas.{words_apart, word_behind}
@@ -102,12 +100,6 @@ named_by_none start log m words views id v word story names p at whole bare = to
 
 -- ---- a word changes
 
-one_here : (word : ℕ) → ◌≡◌ {A = ℕ} (cond (eqb word word) 1 0) 1
-one_here word = ap (λ t. cond t 1 0) (eq-eqb word word refl)
-
-none_else : (x word : ℕ) → x ≢ word → ◌≡◌ {A = ℕ} (cond (eqb x word) 1 0) 0
-none_else x word ne = ap (λ t. cond t 1 0) (ne_eqb x word ne)
-
 pub present_word : (start : Beginning) (m : Plain) (words : List ℕ) (views : List SeatView) (id n d : ℕ) (v w : SeatView) → Present start m words views
     → get_elem? views id ≡ some v → n < 4096 → word_of start.shelves n < length words
     → get_or words (word_of start.shelves n) 0 + named (word_of start.shelves n) w ≡ d + named (word_of start.shelves n) v → ((x : ℕ) → x ≢ word_of start.shelves n → named x w ≡ named x v)
@@ -121,30 +113,22 @@ present_word start m words views id n d v w p at below inside moves others owns 
     get_or-set_other words (word_of start.shelves n) (word_of start.shelves x) d 0 apart in let o = others (word_of start.shelves x) apart in omega (arith, same, o)))
     owns
 
--- one more is named, and the word is one more
-pub present_raised : (start : Beginning) (m : Plain) (words : List ℕ) (views : List SeatView) (id n : ℕ) (v w : SeatView) → Present start m words views
-    → get_elem? views id ≡ some v → word_of start.shelves n < length words → n < 4096 → 1 ≤ times (n % start.shelves) v
-    → w.bays ≡ v.bays → w.surplus ≡ word_of start.shelves n ∷ v.surplus → Present start m (set words (word_of start.shelves n) (get_or words (word_of start.shelves n) 0 + 1)) (set views id w)
-present_raised start m words views id n v w p at inside low holds bays more = let word : ℕ = word_of start.shelves n in
-    let grows : (x : ℕ) → named x w ≡ cond (eqb x word) 1 0 + named x v = λ x. ap (total (λ y. cond (eqb x y) 1 0)) more in
+-- so many fewer and then so many more are named, and the word counts as many more
+pub present_counted : (start : Beginning) (m : Plain) (words : List ℕ) (views : List SeatView) (id n j k d : ℕ) (v w : SeatView) → Present start m words views
+    → get_elem? views id ≡ some v → n < 4096 → word_of start.shelves n < length words → w.bays ≡ v.bays
+    → replicate j (word_of start.shelves n) ++ w.surplus ≡ replicate k (word_of start.shelves n) ++ v.surplus → (1 ≤ k → 1 ≤ times (n % start.shelves) v)
+    → get_or words (word_of start.shelves n) 0 + k ≡ d + j → Present start m (set words (word_of start.shelves n) d) (set views id w)
+present_counted start m words views id n j k d v w p at low inside bays same holds is = let word : ℕ = word_of start.shelves n in
+    let moves : (x : ℕ) → total (λ y. cond (eqb x y) 1 0) (replicate j word) + named x w ≡ total (λ y. cond (eqb x y) 1 0) (replicate k word) + named x v =
+    λ x. sym (total-append (λ y. cond (eqb x y) 1 0) (replicate j word) w.surplus)
+    ∙ (ap (total (λ y. cond (eqb x y) 1 0)) same ∙ total-append (λ y. cond (eqb x y) 1 0) (replicate k word) v.surplus) in
+    let here : j + named word w ≡ k + named word v = (let g = moves word in let a = named_so word j in let b = named_so word k in omega (arith, g, a, b)) in
+    let others : (x : ℕ) → x ≢ word → named x w ≡ named x v = λ x ne. (let g = moves x in let a = named_not x word j ne in let b = named_not x word k ne in omega (arith, g, a, b)) in
     let alike : (c : ℕ) → times c w ≡ times c v = λ c. ap (total (holds_bay c)) bays in
-    present_word start m words views id n (get_or words word 0 + 1) v w p at low inside
-    (let g = grows word in let o = one_here word in omega (arith, g, o))
-    (λ x ne. let g = grows x in let o = none_else x word ne in omega (arith, g, o))
+    let still = λ (x : ℕ) (has : 1 ≤ named x v). held_more start v w x (λ c. let a = alike c in omega (arith, a)) (p.owned id v x at has) in
+    present_word start m words views id n d v w p at low inside (omega (arith, here, is)) others
     (λ x has. dite (ℕ_discrete x word)
-    (λ e. record { number = n; below = low; is = e; held = (let a = alike (n % start.shelves) in omega (arith, a, holds)) })
-    (λ ne. held_more start v w x (λ c. let a = alike c in omega (arith, a)) (p.owned id v x at (let g = grows x in let o = none_else x word ne in omega (arith, g, o, has)))))
-
--- so many fewer are named, and the word is so much less
-pub present_lowered : (start : Beginning) (m : Plain) (words : List ℕ) (views : List SeatView) (id n k d : ℕ) (v w : SeatView) → Present start m words views
-    → get_elem? views id ≡ some v → n < 4096 → word_of start.shelves n < length words
-    → w.bays ≡ v.bays → v.surplus ≡ replicate k (word_of start.shelves n) ++ w.surplus → get_or words (word_of start.shelves n) 0 ≡ d + k
-    → Present start m (set words (word_of start.shelves n) d) (set views id w)
-present_lowered start m words views id n k d v w p at low inside bays less was = let word : ℕ = word_of start.shelves n in
-    let shrinks : (x : ℕ) → named x v ≡ total (λ y. cond (eqb x y) 1 0) (replicate k word) + named x w = λ x.
-    ap (total (λ y. cond (eqb x y) 1 0)) less ∙ total-append (λ y. cond (eqb x y) 1 0) (replicate k word) w.surplus in
-    let alike : (c : ℕ) → times c w ≡ times c v = λ c. ap (total (holds_bay c)) bays in
-    present_word start m words views id n d v w p at low inside
-    (let g = shrinks word in let o = named_so word k in omega (arith, g, o, was))
-    (λ x ne. let g = shrinks x in let o = named_not x word k ne in omega (arith, g, o))
-    (λ x has. held_more start v w x (λ c. let a = alike c in omega (arith, a)) (p.owned id v x at (let g = shrinks x in omega (arith, g, has))))
+    (λ e. let named_here : 1 ≤ named word w = subst (λ (y : ℕ). 1 ≤ named y w) e has in dite (ℕ_discrete k 0)
+    (λ none. subst (IsHeldWord start w) (sym e) (still word (omega (arith, none, here, named_here))))
+    (λ some_more. record { number = n; below = low; is = e; held = (let a = alike (n % start.shelves) in let h = holds (omega (arith, some_more)) in omega (arith, a, h)) }))
+    (λ ne. still x (let g = others x ne in omega (arith, g, has))))

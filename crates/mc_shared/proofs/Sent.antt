@@ -1,6 +1,6 @@
 -- The store may be lent to several threads, and a caller sent to one, as what lies in the table's slots may. The search for it doesn't
 -- come through the chunks (`Rattle.mc_slab.proofs.Sent`), so it goes in steps that others cite.
-use Rattle.std.proofs.Common.{List}
+use Rattle.mc_shared.proofs.Words.{List}
 use mir.Syntax.{Sym, Lifetime}
 use base.Fml.{Lft}
 use denote.Ref.{ShrRef}

@@ -1,6 +1,5 @@
 -- What a number's word tells of a key.
-use Rattle.std.proofs.Common.{◌≡◌, ◌==◌, ℕ, eqb, List, [], eq-eqb}
-use Rattle.mc_shared.proofs.Words.{number_of, Beginning, after, SeatView, Shows, IsShown}
+use Rattle.mc_shared.proofs.Words.{◌≡◌, ◌==◌, ℕ, eqb, List, [], eq-eqb, number_of, Beginning, after, SeatView, Shows, IsShown}
 use Rattle.mc_shared.proofs.NumberLemmas.{count_none, none_counted}
 use Rattle.mc_shared.proofs.NumberSteps.{eqb_true}
 

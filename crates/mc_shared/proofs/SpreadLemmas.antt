@@ -1,6 +1,5 @@
 -- The words of many numbers, each named as often as keys of its number went.
-use Rattle.std.proofs.Common.{◌≡◌, ℕ, zero, suc, ◌+◌, ◌-◌, ◌≤◌, ◌<◌, cond, eqb, [], ◌++◌, replicate, refl, sym, ap, ◌∙◌, arith}
-use Rattle.mc_shared.proofs.Words.{dite, ℕ_discrete, total, word_of}
+use Rattle.mc_shared.proofs.Words.{◌≡◌, ℕ, zero, suc, ◌+◌, ◌-◌, ◌≤◌, ◌<◌, cond, eqb, [], ◌++◌, replicate, refl, sym, ap, ◌∙◌, arith, dite, ℕ_discrete, total, word_of}
 use Rattle.mc_shared.specs.Spread.{spread}
 use Rattle.mc_shared.proofs.Sums.{total-append}
 use Rattle.mc_shared.proofs.NumberSteps.{named_so, named_not}

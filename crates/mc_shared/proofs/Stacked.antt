@@ -1,13 +1,9 @@
 -- Held shelves, and the step that changes them all.
-use Rattle.std.proofs.Common.{◌≡◌, ◌==◌, Bool, true, false, ℕ, zero, suc, ◌+◌, ◌≤◌, ◌<◌, None, Some, List, [], ◌∷◌, ◌++◌, length, slice_get, sym, refl, ap, ◌∙◌, subst}
-use Rattle.std.proofs.Common.{arith}
-use Rattle.mc_shared.proofs.Words.{rest, empty, moment_named, Plain, flushed, living, Flush, Flushed, ShelfState, DeskState, IsShelfOf, ArePartsOf, Bay, Content, OfShelf}
-use Rattle.mc_shared.proofs.Words.{OfDesk, content_of, place, total, Beginning, Operation, Stepped, after, FitsBay, AllFit, KeepsLimits, holds_bay, Past, KeptBy, SeatView}
-use Rattle.mc_shared.proofs.Words.{Slot, Mine, HasTaken, HoldsThis, without, holding, decided_by, loaded, Fitted, Decides, stacked, holds_all}
-use Rattle.std.specs.Prelude.{if◌then◌else◌, take, drop}
+use Rattle.mc_shared.proofs.Words.{◌≡◌, ◌==◌, Bool, true, false, ℕ, zero, suc, ◌+◌, ◌≤◌, ◌<◌, None, Some, List, [], ◌∷◌, ◌++◌, length, slice_get, sym, refl, ap, ◌∙◌, subst, arith, rest, empty}
+use Rattle.mc_shared.proofs.Words.{moment_named, Plain, flushed, living, Flush, Flushed, ShelfState, DeskState, IsShelfOf, ArePartsOf, Bay, Content, OfShelf, OfDesk, content_of, place, total}
+use Rattle.mc_shared.proofs.Words.{Beginning, Operation, Stepped, after, FitsBay, AllFit, KeepsLimits, holds_bay, Past, KeptBy, SeatView, Slot, Mine, HasTaken, HoldsThis, without, holding}
+use Rattle.mc_shared.proofs.Words.{decided_by, loaded, Fitted, Decides, stacked, holds_all, if◌then◌else◌, take, drop, stacked_on, hollow, Gathered}
 use Rattle.std.proofs.Math.Seq.{take-append_seam}
-use Rattle.mc_shared.specs.Stacks.{stacked_on, hollow}
-use Rattle.mc_shared.specs.Close.{Gathered}
 use Rattle.mc_shared.proofs.StockedKept.{here, elsewhere}
 
 snoc_on : (n : ℕ) (xs : List ShelfState) (x : ShelfState) (below : List (ℕ × Content)) → stacked_on n (xs ++ x ∷ []) below ≡ (n + length xs, OfShelf x.content) ∷ stacked_on n xs below

@@ -1,21 +1,19 @@
 -- Each atomic step keeps the rule.
-use Rattle.std.proofs.Common.{◌≡◌, ◌≢◌, ◌==◌, ℕ, zero, suc, ◌+◌, ◌-◌, ◌%◌, ◌^◌, ◌≤◌, ◌<◌, cond, eq-eqb, ◌∙◌, None, Some, List, [], ◌∷◌, ◌++◌, length, drop, replicate}
-use Rattle.std.proofs.Common.{get_or, set, eqb, sym, refl, ap, subst, inl, inr, ⊎_elim, arith}
-use Rattle.mc_shared.proofs.Words.{dite, ℕ_discrete, none, some, some-ne-none, get_elem?, either, get, Plain, Items, Answered, alive, changed, plain, row_of}
-use Rattle.mc_shared.proofs.Words.{without_dead, Read, Miss, step, Allows, rest, at_set, set_here, Bay, Shelf, Desk, Content, content_of, place, total, Beginning}
-use Rattle.mc_shared.proofs.Words.{HistoryEntry, Operation, Stepped, after, next, left_by, name_of, Lives, Whole, SeatView, FitsBay, AllFit, holds_bay, times, named, Story}
-use Rattle.mc_shared.proofs.Words.{Named, Stocked, Present, Kept, Slot, Mine, holding, entry_of, without, decided_by, Agrees, took, gave, decided, reloaded, added}
-use Rattle.mc_shared.proofs.Words.{counted, sought, Shows, MayAdd, MayCount, Decides, Counts, next_name, newcomer, met, number_of, keys_with, word_of}
+use Rattle.mc_shared.proofs.Words.{◌≡◌, ◌≢◌, ◌==◌, ℕ, zero, suc, ◌+◌, ◌-◌, ◌%◌, ◌^◌, ◌≤◌, ◌<◌, cond, eq-eqb, ◌∙◌, None, Some, List, [], ◌∷◌, ◌++◌, length, drop, replicate, get_or, set, eqb, sym}
+use Rattle.mc_shared.proofs.Words.{refl, ap, subst, inl, inr, ⊎_elim, arith, dite, ℕ_discrete, none, some, some-ne-none, get_elem?, either, get, Plain, Items, Answered, alive, changed, plain}
+use Rattle.mc_shared.proofs.Words.{row_of, without_dead, Read, Miss, step, Allows, rest, at_set, set_here, Bay, Shelf, Desk, Content, content_of, place, total, Beginning, HistoryEntry, Operation}
+use Rattle.mc_shared.proofs.Words.{Stepped, after, next, left_by, name_of, Lives, Whole, SeatView, FitsBay, AllFit, holds_bay, times, named, Story, Named, Stocked, Present, Kept, Slot, Mine}
+use Rattle.mc_shared.proofs.Words.{holding, entry_of, without, decided_by, Agrees, took, gave, decided, reloaded, added, counted, sought, Shows, MayAdd, Decides, Counts, next_name, newcomer, met}
+use Rattle.mc_shared.proofs.Words.{number_of, keys_with, word_of, State, Act, keeps, takes, gives, carried_after, Valid, Splits, Joins, set_again, exchanged, BelongsAt, called, lowered, maker}
+use Rattle.mc_shared.proofs.Words.{gone}
 use lib.Seq.{set-get_or}
 use Rattle.mc_shared.proofs.Sums.{sum_one, total-append}
-use Rattle.atomic_table.specs.Table.{State, Act, keeps, takes, gives, stepped, carried_after, Valid, Splits, Joins}
-use Rattle.atomic_table.proofs.Lists.{set_again, exchanged}
-use Rattle.mc_shared.specs.Steps.{BelongsAt, called, lowered, maker, gone}
+use Rattle.atomic_table.specs.Table.{stepped}
 use Rattle.mc_shared.proofs.StoryKept.{after_snoc, story_same, story_call, story_made, story_both}
 use Rattle.mc_shared.proofs.NamedKept.{total_one, alone, kept_by, named_same, named_call, named_made, named_both}
 use Rattle.mc_shared.proofs.StockedKept.{stocked_take, stocked_give, stocked_same, stocked_snoc, stocked_word, held_word, inside}
 use Rattle.mc_shared.proofs.WordLemmas.{word_behind, word_inside}
-use Rattle.mc_shared.proofs.PresentKept.{present_take, present_give, present_same, present_snoc, present_gone, present_raised, present_lowered, named_here, named_by_none}
+use Rattle.mc_shared.proofs.PresentKept.{present_take, present_give, present_same, present_snoc, present_gone, present_counted, named_here, named_by_none}
 use Rattle.mc_shared.proofs.NumberLemmas.{nothing_out, none_counted}
 use Rattle.mc_shared.proofs.NumberSteps.{named_so, keys_alike, bare_names}
 
@@ -197,8 +195,8 @@ adds_one began slots id n me may s k deep at small = let v : SeatView = me.0 in 
         named = named_same k.log s.views id v w k.named at refl (k.named.idle id v at);
         stocked = stocked_word began m (set s.views id w) s.homes s.words word (c + 1) (word_behind began.shelves n) (stocked_same began m s.words s.homes s.views id v w k.stocked at refl);
         present =
-            present_raised began m s.words s.views id n v w k.present at (let wide = k.stocked.wide in
-            let low = word_inside began.shelves n k.present.divides own.below in omega (arith, wide, low)) own.below own.held refl refl;
+            present_counted began m s.words s.views id n 0 1 (c + 1) v w k.present at own.below (let wide = k.stocked.wide in
+            let low = word_inside began.shelves n k.present.divides own.below in omega (arith, wide, low)) refl refl (λ _. own.held) (omega arith);
       },
       refl,
     )
@@ -237,22 +235,31 @@ takes_many began slots id word k more me positive is s kept deep at small = let 
             stocked_word began m (set s.views id w) s.homes s.words word (c - k) (let behind = word_behind began.shelves n in omega (arith, is_word, behind))
             (stocked_same began m s.words s.homes s.views id v w kept.stocked at refl);
         present = subst (λ (x : ℕ). Present began m (set s.words x (c - k)) (set s.views id w)) (sym is_word)
-            (present_lowered began m s.words s.views id n k (c - k) v w kept.present at own.below (let wide = kept.stocked.wide in
-            let low = word_inside began.shelves n kept.present.divides own.below in omega (arith, wide, low)) refl less (omega (arith, same, there)));
+            (present_counted began m s.words s.views id n k 0 (c - k) v w kept.present at own.below (let wide = kept.stocked.wide in
+            let low = word_inside began.shelves n kept.present.divides own.below in omega (arith, wide, low)) refl (sym less) (λ more. absurd (omega (arith, more))) (omega (arith, same, there)));
       },
       refl,
     )
 
 -- the word of a number whose shelf is held is read
-pub counts_keys : (began : Beginning) (slots id n : ℕ) (me : Mine) → MayCount began me.0 n
-    → Allows (Kept began) slots id me (word_of began.shelves n) (λ k. k) (counted began n (step slots (word_of began.shelves n) 0 0 none) me)
-counts_keys began slots id n me may s k deep at small = let v : SeatView = me.0 in let m : Plain = after began began.plain k.log in let word : ℕ =
-    word_of began.shelves n in let c : ℕ = get_or s.words word 0 in
-    let counts : c ≡ keys_with began.hash_of n m.items + total (named word) s.views = k.present.counts n may.below in
-    let here : total (named word) s.views ≡ named word v = named_here began m s.words s.homes s.views id v n k.present k.stocked at may.below may.inside may.held in
-    let bare : named word v ≡ 0 = bare_names v word may.bare in
-    let is : c ≡ keys_with began.hash_of n m.items = omega (arith, counts, here, bare) in
-    (v, keeps, tt, still began s id word v at k, (refl, λ other fits. is ∙ keys_alike began k.present.divides n may.inside m other v.bays may.held (k.stocked.out id v at) fits))
+pub counts_keys : (began : Beginning) (slots id word : ℕ) (me : Mine) → Allows (Kept began) slots id me word (λ k. k) (counted began (step slots word 0 0 none) me)
+counts_keys began slots id word me s k deep at small = let v : SeatView = me.0 in let m : Plain = after began began.plain k.log in (
+  v,
+  keeps,
+  tt,
+  still began s id word v at k,
+  (
+    refl,
+    λ n is may other fits.
+        let of : ℕ = word_of began.shelves n in
+        let same : get_or s.words word 0 ≡ get_or s.words of 0 = ap (λ (x : ℕ). get_or s.words x 0) is in
+        let counts : get_or s.words of 0 ≡ keys_with began.hash_of n m.items + total (named of) s.views = k.present.counts n may.below in
+        let here : total (named of) s.views ≡ named of v = named_here began m s.words s.homes s.views id v n k.present k.stocked at may.below may.inside may.held in
+        let bare : named of v ≡ 0 = bare_names v of may.bare in
+        let has : get_or s.words word 0 ≡ keys_with began.hash_of n m.items = omega (arith, same, counts, here, bare) in
+        has ∙ keys_alike began k.present.divides n may.inside m other v.bays may.held (k.stocked.out id v at) fits,
+  ),
+)
 
 -- a key is sought by its number's word
 pub seeks : (began : Beginning) (slots id : ℕ) (key : List ℕ) (now n : ℕ) (me : Mine) → n < 4096 → number_of began.hash_of key ≡ n → Lives me.0.past

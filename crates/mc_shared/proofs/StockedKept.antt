@@ -1,9 +1,7 @@
 -- What keeps the bays in step with the items.
-use Rattle.std.proofs.Common.{◌≡◌, ◌≢◌, ℕ, ◌+◌, ◌≤◌, ◌<◌, Option, Some, List, [], ◌∷◌, ◌++◌, length, get_or, set, cond, sym, refl, ap, ◌∙◌, subst, ⊎_elim, arith}
-use Rattle.std.proofs.Common.{length-set, get_or-set_other, get_or-set_same, eq-eqb, ne_eqb}
-use Rattle.mc_shared.proofs.Words.{dite, none, some, ℕ_discrete, get_elem?, at_set, set_here, Bay, Content, OfShelf, OfDesk, content_of, place, total, Plain, Beginning}
-use Rattle.mc_shared.proofs.Words.{SeatView, FitsBay, AllFit, KeepsLimits, holds_bay, times, Stocked}
-use Rattle.atomic_table.proofs.Lists.{set_else}
+use Rattle.mc_shared.proofs.Words.{◌≡◌, ◌≢◌, ℕ, ◌+◌, ◌≤◌, ◌<◌, Option, Some, List, [], ◌∷◌, ◌++◌, length, get_or, set, cond, sym, refl, ap, ◌∙◌, subst, ⊎_elim, arith, length-set}
+use Rattle.mc_shared.proofs.Words.{get_or-set_other, get_or-set_same, eq-eqb, ne_eqb, dite, none, some, ℕ_discrete, get_elem?, at_set, set_here, Bay, Content, OfShelf, OfDesk, content_of, place}
+use Rattle.mc_shared.proofs.Words.{total, Plain, Beginning, SeatView, FitsBay, AllFit, KeepsLimits, holds_bay, times, Stocked, set_else}
 use Rattle.mc_shared.proofs.Sums.{sum_set, sum_one, sum_two, total-append, each_set, each_snoc}
 use Rattle.mc_shared.proofs.WordLemmas.{bays_inside}
 use mathlib.Core.Option as maybe

@@ -1,8 +1,5 @@
 -- What is counted of what a seat holds.
-use Rattle.std.proofs.Common.{ℕ, List, refl, ap, subst}
-use Rattle.mc_shared.proofs.Words.{Mine, AllFit, after, start_of, SharedState, Sitter, HoldsShelf, ShelfState}
-use Rattle.mc_shelf.specs.Counts.{counts_of}
-use Rattle.mc_shared.specs.Survey.{AreCountsAfter}
+use Rattle.mc_shared.proofs.Words.{ℕ, List, refl, ap, subst, Mine, AllFit, after, start_of, SharedState, Sitter, HoldsShelf, ShelfState, counts_of, AreCountsAfter}
 
 -- a shelf that is held has its part of the state that its seat's past may have
 pub counts_after : {K : Type 0} (hash_of : K → List ℕ → ℕ) (shared : SharedState K) (seat : Sitter) (at : ℕ) (shelf : ShelfState) → HoldsShelf hash_of shared seat at shelf.content

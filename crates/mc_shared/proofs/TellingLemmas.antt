@@ -1,13 +1,11 @@
 -- How a step whose reply is told comes out, by what came of it and what was told.
-use Rattle.std.proofs.Common.{◌≡◌, ℕ, Result, Ok, Err, IfErr, OnOk, OnErr, subst}
+use Rattle.mc_shared.proofs.Words.{◌≡◌, ℕ, Result, Ok, Err, IfErr, OnOk, OnErr, subst, Beginning, Past, KeyStep, Reply, CallerState, Agrees, StepFault, NoMemory, NumbersSpent, Refuses}
+use Rattle.mc_shared.proofs.Words.{IsAnswered, MayFailAfter, HasCalled, IsTold, CameOfRead}
 use Rattle.std.specs.Bool.{⊤}
 use Rattle.std.proofs.lemmas.Result.{IfOk-at_ok, on_ok_weaker}
 use Rattle.std.specs.Result.{MatchResult}
 use Rattle.mc_protocol.specs.declared.answer.Unanswered.{Unanswered}
 use Rattle.mc_protocol.specs.declared.answer.Unanswered.TheVariants.{NoMemory as NoRoom, NumbersSpent as NoNumbers, Untold}
-use Rattle.mc_shared.proofs.Words.{Beginning, Past, KeyStep, Reply, CallerState, Agrees, StepFault, NoMemory, NumbersSpent, Refuses, IsAnswered, MayFailAfter}
-use Rattle.mc_shared.specs.Store.{HasCalled}
-use Rattle.mc_shared.specs.Telling.{IsTold, CameOfRead}
 use Rattle.mc_shared.specs.declared.telling.Sought.{Sought}
 
 no_fault : {A E : Type 0} {P : Type 0} (x : A) (e : E) → Ok x ≡ Err e → P

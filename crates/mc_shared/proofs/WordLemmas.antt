@@ -1,6 +1,5 @@
 -- Where the words of numbers lie.
-use Rattle.std.proofs.Common.{◌≡◌, ℕ, zero, suc, ◌+◌, ◌*◌, ◌/◌, ◌%◌, ◌≤◌, ◌<◌, sym, refl, ◌∙◌, arith, div-add-mod'}
-use Rattle.mc_shared.proofs.Words.{same_from_place, div_below, mod_below, mul-add-lt, place}
+use Rattle.mc_shared.proofs.Words.{◌≡◌, ℕ, zero, suc, ◌+◌, ◌*◌, ◌/◌, ◌%◌, ◌≤◌, ◌<◌, sym, refl, ◌∙◌, arith, div-add-mod', same_from_place, div_below, mod_below, mul-add-lt, place}
 use Rattle.mc_shared.specs.Presence.{word_of, words_with}
 
 -- a number that divides 4096 isn't 0

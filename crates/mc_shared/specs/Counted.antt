@@ -34,19 +34,14 @@ pub record AreCountsOfAll (shelves : List ShelfState) (counts : List ℕ) : Type
       → (number : ℕ) → number < 4096
       → slice_index counts number ≡ keys_with hash_of number state.items
 
--- at the place of each number, how many keys have it, in any state that fits what a seat holds
-pub record AreKeyCounts (start : Beginning) (v : SeatView) (counts : List ℕ) : Type 0 where
-  pub many : length counts ≡ 4096
-  pub counted : (number : ℕ) → number < 4096 → AreKeys start v number (slice_index counts number)
-
--- the same at the places of one shelf's numbers, and 0 at the others
-pub record AreKeyCountsAt (start : Beginning) (v : SeatView) (at : ℕ) (counts : List ℕ) : Type 0
+-- at the place of each number of a remainder, how many keys have it, in any state that fits what a
+-- seat holds, and 0 at the others
+pub record AreKeyCounts (start : Beginning) (v : SeatView) (step at : ℕ) (counts : List ℕ) : Type 0
   where
     pub many : length counts ≡ 4096
-    pub counted : (number : ℕ) → number < 4096 → number % start.shelves ≡ at
+    pub counted : (number : ℕ) → number < 4096 → number % step ≡ at
         → AreKeys start v number (slice_index counts number)
-    pub none : (number : ℕ) → number < 4096 → number % start.shelves ≢ at
-        → slice_index counts number ≡ 0
+    pub none : (number : ℕ) → number < 4096 → number % step ≢ at → slice_index counts number ≡ 0
 
 -- at the place of each number, how many keys of a shelf have it, by one hash function
 pub record AreCountsBy (hash_of : List ℕ → ℕ) (shelf : ShelfContent) (counts : List ℕ) : Type 0

@@ -1,6 +1,29 @@
--- Shelves that were emptied at once.
-use Rattle.std.specs.Prelude.{◌≡◌, ℕ, List, length, Some, slice_get}
-use Rattle.mc_shelf.specs.States.{ShelfState, nothing_held}
+-- Shelves that are flushed: emptied at once, or with their parts flushed.
+use Rattle.std.specs.Prelude.{◌≡◌, ℕ, ◌≤◌, List, [], length, Some, slice_get, vec_len, vec_capacity}
+use Rattle.std.specs.List.{All}
+use Rattle.mc_protocol.specs.Plain.{Plain, flushed}
+use Rattle.mc_shelf.specs.Bare.{IsBare}
+use Rattle.mc_shelf.specs.Parts.{ArePartsOf}
+use Rattle.mc_shelf.specs.States.{ShelfState, DeskState, nothing_held}
+use Rattle.mc_shared.specs.declared.flush.Fresh.{Fresh}
+
+-- empty shelves for so many, and room for those that they replace
+abbrev pub IsFresh : ℕ → Fresh → Type 0
+IsFresh count fresh =
+    (count ≤ vec_len fresh.shelves) × All IsBare fresh.shelves.items
+    × (fresh.aside.items ≡ []) × (count ≤ vec_capacity fresh.aside)
+
+-- shelves and a desk that are the parts of some state
+abbrev pub AreParts : List ShelfState → DeskState → Type 0
+AreParts shelves desk = (hash_of : List ℕ → ℕ) × (state : Plain) × (count : ℕ)
+    × ArePartsOf hash_of state shelves count desk
+
+-- of each state that they were the parts of, they become the parts of what a flush leaves
+abbrev pub AreFlushedParts
+    : (delay now : ℕ) → List ShelfState → DeskState → List ShelfState → DeskState → Type 0
+AreFlushedParts delay now shelves desk shelves' desk' =
+    (hash_of : List ℕ → ℕ) (state : Plain) (count : ℕ) → ArePartsOf hash_of state shelves count desk
+    → ArePartsOf hash_of (flushed delay state now) shelves' count desk'
 
 -- the shelf is empty, and has the greatest charge of the shelf at that place before
 pub record IsEmptied (old : List ShelfState) (at : ℕ) (shelf : ShelfState) : Type 0 where

@@ -41,6 +41,23 @@ pub record HoldsBoth {K : Type 0} (hash_of : K → List ℕ → ℕ) (shared : S
       ≡ holds_two seat.me.0.past shared.began.settings.shelves (OfDesk desk) at (OfShelf shelf)
   pub fits : Fitted (start_of hash_of shared.began) seat.me.0
 
+-- a seat holds some shelf alone
+abbrev pub HoldsSome : {K : Type 0} → (K → List ℕ → ℕ) → SharedState K → Sitter → Type 0
+HoldsSome hash_of shared seat =
+    (at : ℕ) × (shelf : ShelfContent) × HoldsShelf hash_of shared seat at shelf
+
+-- whichever shelf it held alone, it holds alone
+abbrev pub KeepsShelf
+    : {K : Type 0} → (K → List ℕ → ℕ) → SharedState K → (old new : Sitter) → Type 0
+KeepsShelf hash_of shared old new = (at : ℕ) (shelf : ShelfContent)
+    → HoldsShelf hash_of shared old at shelf → HoldsShelf hash_of shared new at shelf
+
+-- whichever shelf it held alone, it holds with the desk
+abbrev pub TakesDesk
+    : {K : Type 0} → (K → List ℕ → ℕ) → SharedState K → (old new : Sitter) → DeskState → Type 0
+TakesDesk hash_of shared old new desk = (at : ℕ) (shelf : ShelfContent)
+    → HoldsShelf hash_of shared old at shelf → HoldsBoth hash_of shared new at shelf desk
+
 -- the caller with this seat
 abbrev pub caller_at : Sitter → CallerState
 caller_at seat = record { table = seat.table_id; past = seat.me.0.past }

@@ -10,7 +10,7 @@ use Rattle.mc_shared.specs.Sums.{total}
 use Rattle.mc_shared.specs.declared.bay.Bay.{Bay}
 use Rattle.mc_shared.specs.Bays.{Content, OfShelf, OfDesk, content_of, place}
 use Rattle.mc_shared.specs.History.{Beginning, start_of, Name, HistoryEntry, after, IsLegal}
-use Rattle.mc_shared.specs.Past.{Past, held, callers, makes, name_of, numbered, Ordered, Sound, Lives}
+use Rattle.mc_shared.specs.Past.{Past, held, callers, makes, numbered, Ordered, Sound, Lives}
 use Rattle.mc_shared.specs.Past as past
 use Rattle.mc_shared.specs.View.{SeatView}
 use Rattle.mc_shelf.specs.Numbers.{keys_with}

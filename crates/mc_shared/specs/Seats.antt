@@ -4,16 +4,18 @@ use Rattle.std.specs.declared.snapshot.Snapshot.{Snapshot}
 use Rattle.atomic_table.specs.declared.owned.Table.{Table}
 use Rattle.atomic_table.specs.declared.shared.Seat.{Seat}
 use Rattle.atomic_table.specs.Seated.{TableId}
+use Rattle.atomic_table.specs.Table.{Allows, Step, step}
+use mathlib.Core.Option.{none}
 use Rattle.mc_protocol.specs.declared.step.KeyStep.{KeyStep}
 use Rattle.mc_protocol.specs.declared.reply.Reply.{Reply}
 use Rattle.mc_protocol.specs.Commands.{key_of, longest_key}
 use Rattle.mc_shelf.specs.Stores.{StoreState}
-use Rattle.mc_shelf.specs.Numbers.{number_of}
 use Rattle.mc_shared.specs.Bays.{Content, place}
 use Rattle.mc_shared.specs.History.{Beginning, Operation, start_of}
 use Rattle.mc_shared.specs.Past.{Past, Lives}
 use Rattle.mc_shared.specs.View.{SeatView}
 use Rattle.mc_shared.specs.Presence.{words_with}
+use Rattle.mc_shared.specs.Rule.{KeptFrom}
 use Rattle.mc_shared.specs.Steps.{Slot, Mine, HoldsLast, Decides, Counts, decided_by, Agrees}
 use Rattle.mc_shared.specs.Store.{resting, HasCalled}
 use Rattle.mc_shared.specs.Shown.{SharedState, CallerState}
@@ -74,11 +76,21 @@ BoardOf K P A = Table Slot SeatView (Snapshot (StoreState K)) P A
 abbrev pub start_at : {K P A : Type 0} → (K → List ℕ → ℕ) → BoardOf K P A → Beginning
 start_at hash_of board = start_of hash_of board.shared.key.value
 
--- the number of a key
-abbrev pub number_at : {K P A : Type 0} → (K → List ℕ → ℕ) → BoardOf K P A → (key : List ℕ) → ℕ
-number_at hash_of board key = number_of (hash_of board.shared.key.value.hasher) key
+-- a seat may take an atomic step by which a word becomes this of what it was: it keeps the rule, and
+-- then this holds of the word as it was and of the seat
+abbrev pub MayPlay
+    : {K P A : Type 0} → (K → List ℕ → ℕ) → BoardOf K P A → Sitter → (word : ℕ)
+    → (becomes : ℕ → ℕ) → (then : ℕ → Mine → Type 0) → Type 0
+MayPlay hash_of board seat word becomes then =
+    (seat.table_id ≡ board.shared.table_id) × (word < board.shared.table_id.words)
+    × Allows (KeptFrom hash_of board.shared.key.value) board.shared.table_id.slots seat.id seat.me
+    word becomes then
 
 module _ {K P A : Type 0} (board : BoardOf K P A) where
+  -- an atomic step on a word, with its operands
+  abbrev pub step_at : (word first second : ℕ) → Step Slot
+  step_at word first second = step board.shared.table_id.slots word first second none
+
   -- the number of its store's shelves, which is the desk's bay
   abbrev pub shelves_at : ℕ
   shelves_at = board.shared.key.value.settings.shelves

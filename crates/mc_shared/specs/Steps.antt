@@ -1,6 +1,6 @@
 -- The meaning of each atomic step.
 use Rattle.std.specs.Prelude.{◌≡◌, ◌≢◌, ℕ, ◌+◌, ◌%◌, ◌^◌, ◌<◌, ◌≤◌, List, [], ◌∷◌, drop, Option, Some, None}
-use Rattle.mc_protocol.specs.Plain.{Plain, opening}
+use Rattle.mc_protocol.specs.Plain.{Plain}
 use Rattle.mc_protocol.specs.declared.step.KeyStep.TheVariants.{Read}
 use Rattle.mc_protocol.specs.declared.reply.Reply.TheVariants.{Miss}
 use Rattle.mc_shelf.specs.Numbers.{keys_with}
@@ -9,7 +9,7 @@ use Rattle.mc_shared.specs.declared.bay.Bay.{Bay}
 use Rattle.mc_shared.specs.declared.bay.Bay.TheVariants.{Shelf, Desk}
 use Rattle.mc_shared.specs.Bays.{Content, content_of, place}
 use Rattle.mc_shared.specs.Sums.{total}
-use Rattle.mc_shared.specs.History.{Beginning, Name, HistoryEntry, Operation, Stepped, Purged, next, IsRight, after, IsLegal}
+use Rattle.mc_shared.specs.History.{Beginning, Name, HistoryEntry, Operation, Stepped, next, IsRight, after, IsLegal}
 use Rattle.mc_shared.specs.Past.{Past, spent, start, call, made, both, name_of, held, makes, count_calls, count_made, KeptBy, Whole}
 use Rattle.mc_shared.specs.View.{SeatView}
 use Rattle.mc_shared.specs.Presence.{word_of}
@@ -159,9 +159,10 @@ added st m n m' = m' ≡ loaded m (st.word ∷ m.0.surplus)
 abbrev pub lowered : Step Slot → Mine → ℕ → Mine → Type 0
 lowered st m n m' = m' ≡ loaded m (drop st.first m.0.surplus)
 
--- the word of a number was read, and is the count of its keys
-abbrev pub counted : Beginning → (number : ℕ) → Step Slot → Mine → ℕ → Mine → Type 0
-counted began number st m n m' = (m' ≡ m) × AreKeys began m.0 number n
+-- a word was read, and is the count of the keys of its number, where the seat may count them
+abbrev pub counted : Beginning → Step Slot → Mine → ℕ → Mine → Type 0
+counted began st m n m' = (m' ≡ m) × ((number : ℕ) → st.word ≡ word_of began.shelves number
+    → MayCount began m.0 number → AreKeys began m.0 number n)
 
 -- What a number's word proves to a seat. If it is 0, no key has the number, after some legal
 -- history that keeps its past. If the past is whole, the seat holds nothing and no key has the
@@ -199,10 +200,3 @@ gone = record { past = spent; bays = []; surplus = [] }
 -- nothing changed
 abbrev pub reloaded : Beginning → Step Slot → Mine → ℕ → Mine → Type 0
 reloaded began st m n m' = (m' ≡ m) × Agrees began m.0.past
-
--- the value of a marker if no call picks one
-abbrev pub nothing_began : Beginning
-nothing_began = record { shelves = 0; hash_of = λ _. 0; plain = opening 0 0 }
-
-abbrev pub nothing_done : Operation
-nothing_done = Purged 0 0

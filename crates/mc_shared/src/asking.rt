@@ -154,8 +154,10 @@ impl<'a, R: Wait, K: KeyHash + Drop, G: Gate> Steps for Asking<'a, R, K, G> {
             gate: self.gate,
         };
         let ask = self.shared.ask(step, now);
-        self.shared
-            .answer_or_miss(&patience, alloc, &mut self.caller, &ask)
+        if self.shared.is_told_absent(&mut self.caller, &ask) {
+            return Ok(Reply::Miss);
+        }
+        self.shared.answer(&patience, alloc, &mut self.caller, &ask)
     }
 
     fn step_telling<A: Answer>(

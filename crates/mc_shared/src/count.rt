@@ -1,9 +1,9 @@
 //! Counts of keys by number, and changes of many presence words at once.
-ghost use Rattle.std.specs.Prelude.{◌≡◌, ◌-◌, ◌%◌, ◌<◌, ◌++◌, ℕ, List, [], length, replicate};
-ghost use Rattle.std.specs.Prelude.{slice_index};
+ghost use Rattle.std.specs.Prelude.{◌≡◌, ◌*◌, ◌/◌, ◌-◌, ◌%◌, ◌<◌, ◌++◌, ℕ, List, [], length};
+ghost use Rattle.std.specs.Prelude.{replicate, slice_index};
 ghost use Rattle.mc_protocol.specs.Plain.{Plain, flushed};
 ghost use Rattle.mc_shared.specs.Counted.{AreNone, AreCountsOf, AreAllOf, AreCountsOfAll};
-ghost use Rattle.mc_shared.specs.Counted.{AreKeyCounts, AreKeyCountsAt, AreCountsLeft};
+ghost use Rattle.mc_shared.specs.Counted.{AreKeyCounts, AreCountsLeft};
 ghost use Rattle.mc_shared.specs.Presence.{word_of};
 ghost use Rattle.mc_shared.specs.Seats.{SameSeat, SitsAt, shelves_at, start_at};
 ghost use Rattle.mc_shared.specs.Spread.{spread};
@@ -11,9 +11,10 @@ ghost use Rattle.mc_shared.specs.Steps.{loaded, MayCount};
 
 use crate::boxed::Boxed;
 use crate::rule::{Board, Seat};
-use crate::steps::{NUMBERS, count, lower_all, word_in};
+use crate::steps::{NUMBERS, lower_all, word_in};
 use mc_hop::KeyHash;
 use mc_shelf::Shelf;
+use std::marker::Brand;
 
 /// Returns 0 for each number.
 fn no_counts() -> [u64; NUMBERS]
@@ -50,7 +51,7 @@ pub(crate) fn count_boxes(shelves: &[Boxed<Shelf>]) -> [u64; NUMBERS]
 {
     let mut counts = no_counts();
     for shelf in shelves {
-        shelf.count_numbers(&mut counts);
+        shelf.inner.count_numbers(&mut counts);
     }
     counts
 }
@@ -69,53 +70,31 @@ pub(crate) fn count_left(shelves: &[Boxed<Shelf>], delay: u64) -> [u64; NUMBERS]
     count_boxes(shelves)
 }
 
-/// Returns how many keys have each number, by the numbers' words. All shelves must be held.
+/// Returns how many keys have each number that is `at` modulo `step`, and 0 for the others.
 ///
-/// It costs 4096 loads.
+/// It loads these numbers' words; their shelves must be held.
 pub(crate) fn count_words<K: KeyHash + Drop>(
     board: &Board<K>,
     seat: &mut Seat,
     shelves: usize,
-) -> [u64; NUMBERS]
-    requires seat { SitsAt board.now seat.old }
-    requires shelves { shelves ≡ shelves_at board.now }
-    requires may { (number : ℕ) → number < 4096 → MayCount
-        (start_at K.hash_of board.now) seat.old.me.0 number }
-    ensures seat { SameSeat seat.old seat.new }
-    ensures same { seat.new.me ≡ seat.old.me }
-    ensures keys { AreKeyCounts (start_at K.hash_of board.now) seat.old.me.0
-        result }
-{
-    let mut counts = no_counts();
-    for number in 0..NUMBERS {
-        let word = word_in(shelves, number);
-        counts[number] = count(board, seat, word, number);
-    }
-    counts
-}
-
-/// Returns the same for the numbers of one shelf, which must be held.
-pub(crate) fn count_words_at<K: KeyHash + Drop>(
-    board: &Board<K>,
-    seat: &mut Seat,
-    shelves: usize,
+    step: usize,
     at: usize,
 ) -> [u64; NUMBERS]
     requires seat { SitsAt board.now seat.old }
     requires shelves { shelves ≡ shelves_at board.now }
-    requires inside { at < shelves }
-    requires may { (number : ℕ) → number < 4096 → number % shelves ≡ at → MayCount
+    requires step { 4096 / step * step ≡ 4096 }
+    requires inside { at < step }
+    requires may { (number : ℕ) → number < 4096 → number % step ≡ at → MayCount
         (start_at K.hash_of board.now) seat.old.me.0 number }
     ensures seat { SameSeat seat.old seat.new }
     ensures same { seat.new.me ≡ seat.old.me }
-    ensures keys { AreKeyCountsAt (start_at K.hash_of board.now) seat.old.me.0 at
-        result }
+    ensures keys { AreKeyCounts (start_at K.hash_of board.now) seat.old.me.0 step at result }
 {
     let mut counts = no_counts();
-    for row in 0..NUMBERS / shelves {
-        let number = row * shelves + at;
+    for row in 0..NUMBERS / step {
+        let number = row * step + at;
         let word = word_in(shelves, number);
-        counts[number] = count(board, seat, word, number);
+        counts[number] = board.shared.load::<Brand>(seat, word);
     }
     counts
 }

@@ -2,15 +2,13 @@
 //!
 //! An immediate flush has its new shelves made before it takes a bay, so memory is refused before
 //! it has begun. A delayed flush walks the items.
-ghost use Rattle.std.specs.Prelude.{ℕ, List, ◌≡◌, ◌<◌, ◌≤◌, []};
+ghost use Rattle.std.specs.Prelude.{ℕ, ◌≡◌, ◌<◌, ◌≤◌, []};
 ghost use Rattle.std.specs.Prelude.{length, vec_len, vec_capacity, IfOk, IfSome, OnErr};
 ghost use Rattle.std.specs.List.{All};
 ghost use Rattle.mc_protocol.specs.declared.step.KeyStep.{KeyStep as Step};
 ghost use Rattle.mc_protocol.specs.declared.reply.Reply.{Reply as Told};
-ghost use Rattle.mc_protocol.specs.Plain.{Plain, flushed};
 ghost use Rattle.mc_shelf.specs.Bare.{IsBare};
-ghost use Rattle.mc_shelf.specs.Parts.{ArePartsOf};
-ghost use Rattle.mc_shared.specs.Emptied.{AreEmptied};
+ghost use Rattle.mc_shared.specs.Emptied.{AreEmptied, AreFlushedParts, AreParts, IsFresh};
 ghost use Rattle.mc_shared.specs.History.{start_of};
 ghost use Rattle.mc_shared.specs.Steps.{Agrees};
 ghost use Rattle.mc_shared.specs.Store.{resting, with_call, HasCalled};
@@ -20,7 +18,8 @@ use crate::bay::Bay;
 use crate::boxed::Boxed;
 use crate::count::{count_left, count_words, lower_words};
 use crate::decision::Decision;
-use crate::hold::{give_all, wait_for_all, wait_for_desk_at};
+use crate::hold::{desk_at, give_all, take_all};
+use crate::patience::{NoGate, Waiting};
 use crate::rule::{Board, Seat};
 use crate::steps::{decide, reload};
 use crate::store::{Caller, Shared};
@@ -33,14 +32,11 @@ use std::sync::Wait;
 
 /// Flushes a state by its parts, as `flush_parts` does, with each shelf in a box.
 fn flush_boxes(shelves: &mut [Boxed<Shelf>], desk: &mut Desk, delay: u64, now: Moment)
-    requires { (hash_of : List ℕ → ℕ) × (state : Plain) × (count : ℕ)
-        × ArePartsOf hash_of state shelves.old count desk.old }
-    ensures { (hash_of : List ℕ → ℕ) (state : Plain) (count : ℕ) →
-        ArePartsOf hash_of state shelves.old count desk.old →
-        ArePartsOf hash_of (flushed delay state now) shelves.new count desk.new }
+    requires { AreParts shelves.old desk.old }
+    ensures { AreFlushedParts delay now shelves.old desk.old shelves.new desk.new }
 {
     for shelf in shelves.iter_mut() {
-        shelf.flush(delay, now, desk);
+        shelf.inner.flush(delay, now, desk);
     }
 }
 
@@ -66,37 +62,10 @@ fn bare_shelves(alloc: Global, count: usize, greatest: u64) -> Result<Vec<Shelf>
     Ok(list)
 }
 
-/// Makes the shelves for an immediate flush, and nothing for a delayed one.
-///
-/// The only error is a refused allocation.
-fn fresh_for(
-    alloc: Global,
-    delay: u64,
-    count: usize,
-    greatest: u64,
-) -> Result<Option<Fresh>, AllocError>
-    requires greatest { greatest ≤ 8388608 }
-    requires count { count ≤ 256 }
-    ensures fresh { IfOk result (λ made. IfSome made (λ fresh.
-        (count ≤ vec_len fresh.shelves) × All IsBare fresh.shelves.items
-        × (fresh.aside.items ≡ []) × (count ≤ vec_capacity fresh.aside))) }
-    ensures at_once { IfOk result (λ made. IfSome made (λ _. delay ≡ 0)) }
-{
-    if delay != 0 {
-        return Ok(None);
-    }
-    let shelves = bare_shelves(alloc, count, greatest)?;
-    let aside = Vec::with_capacity(alloc, TIMES * count)?;
-    Ok(Some(Fresh { shelves, aside }))
-}
-
 /// Replaces shelves by empty ones, and returns the old ones in order.
 fn empty_boxes(shelves: &mut [Boxed<Shelf>], fresh: Fresh) -> Vec<Shelf>
-    requires many { length shelves.old ≤ vec_len fresh.shelves }
-    requires bare { All IsBare fresh.shelves.items }
-    requires room { (fresh.aside.items ≡ []) × (length shelves.old ≤ vec_capacity fresh.aside) }
-    ensures emptied { AreEmptied shelves.old shelves.new }
-    ensures aside { result.items ≡ shelves.old }
+    requires { IsFresh (length shelves.old) fresh }
+    ensures { AreEmptied shelves.old shelves.new × (result.items ≡ shelves.old) }
 {
     let Fresh {
         shelves: mut bare,
@@ -104,7 +73,7 @@ fn empty_boxes(shelves: &mut [Boxed<Shelf>], fresh: Fresh) -> Vec<Shelf>
     } = fresh;
     for shelf in shelves.iter_mut() {
         let bare = bare.pop().unwrap();
-        aside.push_reserved(shelf.emptied_by(bare));
+        aside.push_reserved(shelf.inner.emptied_by(bare));
     }
     aside
 }
@@ -113,30 +82,14 @@ fn empty_boxes(shelves: &mut [Boxed<Shelf>], fresh: Fresh) -> Vec<Shelf>
 ///
 /// The cost doesn't grow with their items.
 fn flush_at_once(held: &mut Vec<Boxed<Shelf>>, desk: &mut Desk, fresh: Fresh)
-    requires parts { (hash_of : List ℕ → ℕ) × (state : Plain) × (count : ℕ)
-        × ArePartsOf hash_of state held.old.items count desk.old }
-    requires many { vec_len held.old ≤ vec_len fresh.shelves }
-    requires bare { All IsBare fresh.shelves.items }
-    requires room { (fresh.aside.items ≡ []) × (vec_len held.old ≤ vec_capacity fresh.aside) }
+    requires parts { AreParts held.old.items desk.old }
+    requires fresh { IsFresh (vec_len held.old) fresh }
     ensures count { vec_len held.new ≡ vec_len held.old }
-    ensures parts { (hash_of : List ℕ → ℕ) (state : Plain) (count now : ℕ) →
-        ArePartsOf hash_of state held.old.items count desk.old →
-        ArePartsOf hash_of (flushed 0 state now) held.new.items count desk.new }
+    ensures parts { (now : ℕ) →
+        AreFlushedParts 0 now held.old.items desk.old held.new.items desk.new }
 {
     let aside = empty_boxes(held.as_mut_slice(), fresh);
     desk.lay_aside(aside);
-}
-
-/// Flushes the shelves of a state with the desk after a delay.
-fn flush_later(held: &mut Vec<Boxed<Shelf>>, desk: &mut Desk, delay: u64, now: Moment)
-    requires { (hash_of : List ℕ → ℕ) × (state : Plain) × (count : ℕ)
-        × ArePartsOf hash_of state held.old.items count desk.old }
-    ensures count { vec_len held.new ≡ vec_len held.old }
-    ensures parts { (hash_of : List ℕ → ℕ) (state : Plain) (count : ℕ) →
-        ArePartsOf hash_of state held.old.items count desk.old →
-        ArePartsOf hash_of (flushed delay state now) held.new.items count desk.new }
-{
-    flush_boxes(held.as_mut_slice(), desk, delay, now);
 }
 
 /// Flushes the shelves of a state with the desk.
@@ -147,20 +100,15 @@ fn flush_held(
     delay: u64,
     now: Moment,
 )
-    requires parts { (hash_of : List ℕ → ℕ) × (state : Plain) × (count : ℕ)
-        × ArePartsOf hash_of state held.old.items count desk.old }
-    requires fresh { IfSome fresh (λ fresh.
-        (vec_len held.old ≤ vec_len fresh.shelves) × All IsBare fresh.shelves.items
-        × (fresh.aside.items ≡ []) × (vec_len held.old ≤ vec_capacity fresh.aside)) }
+    requires parts { AreParts held.old.items desk.old }
+    requires fresh { IfSome fresh (IsFresh (vec_len held.old)) }
     requires at_once { IfSome fresh (λ _. delay ≡ 0) }
     ensures count { vec_len held.new ≡ vec_len held.old }
-    ensures parts { (hash_of : List ℕ → ℕ) (state : Plain) (count : ℕ) →
-        ArePartsOf hash_of state held.old.items count desk.old →
-        ArePartsOf hash_of (flushed delay state now) held.new.items count desk.new }
+    ensures parts { AreFlushedParts delay now held.old.items desk.old held.new.items desk.new }
 {
     match fresh {
         Some(fresh) => flush_at_once(held, desk, fresh),
-        None => flush_later(held, desk, delay, now),
+        None => flush_boxes(held.as_mut_slice(), desk, delay, now),
     }
 }
 
@@ -186,9 +134,7 @@ fn flush_by<K: KeyHash + Drop, R: Wait>(
     requires count { room.count ≡ shelves_at board.now }
     requires some { 0 < room.count }
     requires room { (room.held.items ≡ []) × (room.count ≤ vec_capacity room.held) }
-    requires fresh { IfSome room.fresh (λ fresh.
-        (room.count ≤ vec_len fresh.shelves) × All IsBare fresh.shelves.items
-        × (fresh.aside.items ≡ []) × (room.count ≤ vec_capacity fresh.aside)) }
+    requires fresh { IfSome room.fresh (IsFresh room.count) }
     requires at_once { IfSome room.fresh (λ _. delay ≡ 0) }
     ensures seat { SameSeat seat.old seat.new }
     ensures done { (seat.new.me ≡ resting
@@ -196,9 +142,16 @@ fn flush_by<K: KeyHash + Drop, R: Wait>(
         × Agrees (start_at K.hash_of board.now) seat.new.me.0.past }
 {
     let Room { held, count, fresh } = room;
-    let mut held = wait_for_all(rt, board, seat, held, count);
-    let before = count_words(board, seat, count);
-    let mut desk = wait_for_desk_at(rt, board, seat, count);
+    let patience = Waiting { rt, gate: &NoGate };
+    let mut held = match take_all(&patience, board, seat, held, count) {
+        Ok(held) => held,
+        Err(never) => match never {},
+    };
+    let before = count_words(board, seat, count, 1, 0);
+    let mut desk = match desk_at(&patience, board, seat, count) {
+        Ok(desk) => desk,
+        Err(never) => match never {},
+    };
     flush_held(&mut held, &mut *desk, fresh, delay, now);
     let decision = Decision::Flushed {
         delay,
@@ -260,14 +213,18 @@ impl<K: KeyHash + Drop> Shared<K> {
     fn room(&self, alloc: Global, delay: u64) -> Result<Room, AllocError>
         ensures room { IfOk result (λ room. (room.count ≡ self.now.began.settings.shelves)
             × (room.held.items ≡ []) × (room.count ≤ vec_capacity room.held)) }
-        ensures fresh { IfOk result (λ room. IfSome room.fresh (λ fresh.
-            (room.count ≤ vec_len fresh.shelves) × All IsBare fresh.shelves.items
-            × (fresh.aside.items ≡ []) × (room.count ≤ vec_capacity fresh.aside))) }
+        ensures fresh { IfOk result (λ room. IfSome room.fresh (IsFresh room.count)) }
         ensures at_once { IfOk result (λ room. IfSome room.fresh (λ _. delay ≡ 0)) }
     {
         let count = self.settings.shelves as usize;
         let held = Vec::with_capacity(alloc, count)?;
-        let fresh = fresh_for(alloc, delay, count, self.settings.greatest)?;
+        if delay != 0 {
+            let fresh = None;
+            return Ok(Room { held, count, fresh });
+        }
+        let shelves = bare_shelves(alloc, count, self.settings.greatest)?;
+        let aside = Vec::with_capacity(alloc, TIMES * count)?;
+        let fresh = Some(Fresh { shelves, aside });
         Ok(Room { held, count, fresh })
     }
 }

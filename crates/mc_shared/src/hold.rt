@@ -11,7 +11,7 @@ ghost use Rattle.mc_shared.specs.Rule.{times};
 ghost use Rattle.mc_shared.specs.Store.{resting};
 ghost use Rattle.mc_shared.specs.Seats.{SameSeat, IsFree, LivesAt, Rests, RestsAt, SitsAt};
 ghost use Rattle.mc_shared.specs.Seats.{shelves_at, start_at};
-ghost use Rattle.mc_shared.specs.Holds.{HoldsBoth, HoldsShelf};
+ghost use Rattle.mc_shared.specs.Holds.{HoldsBoth, HoldsShelf, HoldsSome, KeepsShelf, TakesDesk};
 ghost use Rattle.mc_shared.specs.Stacks.{holds_all};
 ghost use Rattle.mc_shared.specs.declared.bay.Bay.{Bay as Held};
 
@@ -24,29 +24,6 @@ use crate::store::Shared;
 use mc_hop::KeyHash;
 use mc_shelf::{Desk, Shelf};
 use std::sync::Wait;
-
-/// Takes a shelf out of its bay, or returns an error if another caller holds it.
-fn shelf_at<B: Drop, P: Patience<B>, K: KeyHash + Drop>(
-    patience: &P,
-    board: &Board<K>,
-    seat: &mut Seat,
-    at: usize,
-) -> Result<Box<Shelf>, B>
-    requires seat { LivesAt board.now seat.old }
-    requires at { at < shelves_at board.now }
-    ensures seat { SameSeat seat.old seat.new }
-    ensures ok { IfOk result (λ shelf. HasTaken (start_at K.hash_of board.now) seat.old.me at
-        (Held.Shelf shelf.value) seat.new.me) }
-    ensures err { IfErr result (λ told. (seat.new.me ≡ seat.old.me)
-        × (times at seat.old.me.0 ≡ 0 → P.busy seat.old.me.0.past at told)
-        × Agrees (start_at K.hash_of board.now) seat.old.me.0.past) }
-{
-    match patience.take(board, seat, at) {
-        Ok(Bay::Shelf(shelf)) => Ok(shelf.into_box()),
-        Ok(Bay::Desk(_)) => unreachable!(),
-        Err(told) => Err(told),
-    }
-}
 
 /// Takes the desk out of its bay, or returns an error if another caller holds it.
 pub(crate) fn desk_at<B: Drop, P: Patience<B>, K: KeyHash + Drop>(
@@ -71,25 +48,6 @@ pub(crate) fn desk_at<B: Drop, P: Patience<B>, K: KeyHash + Drop>(
     }
 }
 
-/// Takes the desk out of its bay, and waits until it is free.
-pub(crate) fn wait_for_desk_at<R: Wait, K: KeyHash + Drop>(
-    rt: &R,
-    board: &Board<K>,
-    seat: &mut Seat,
-    shelves: usize,
-) -> Box<Desk>
-    requires seat { LivesAt board.now seat.old }
-    requires shelves { shelves ≡ shelves_at board.now }
-    ensures seat { SameSeat seat.old seat.new }
-    ensures taken { HasTaken (start_at K.hash_of board.now) seat.old.me shelves
-        (Held.Desk result.value) seat.new.me }
-{
-    match desk_at(&Waiting { rt, gate: &NoGate }, board, seat, shelves) {
-        Ok(desk) => desk,
-        Err(never) => match never {},
-    }
-}
-
 impl<K: KeyHash + Drop> Shared<K> {
     /// Takes a shelf for a seat that holds nothing.
     ///
@@ -110,8 +68,9 @@ impl<K: KeyHash + Drop> Shared<K> {
             × P.busy seat.old.me.0.past at told
             × Agrees (start_of K.hash_of self.now.began) seat.old.me.0.past) }
     {
-        match shelf_at(patience, &self.board, seat, at as usize) {
-            Ok(shelf) => Ok(shelf),
+        match patience.take(&self.board, seat, at as usize) {
+            Ok(Bay::Shelf(shelf)) => Ok(shelf.into_box()),
+            Ok(Bay::Desk(_)) => unreachable!(),
             Err(told) => Err(told),
         }
     }
@@ -149,16 +108,12 @@ impl<K: KeyHash + Drop> Shared<K> {
         patience: &P,
         seat: &mut Seat,
     ) -> Result<Box<Desk>, B>
-        requires { (at : ℕ) × (shelf : ShelfContent)
-            × HoldsShelf K.hash_of self.now seat.old at shelf }
+        requires { HoldsSome K.hash_of self.now seat.old }
         ensures past { seat.new.me.0.past ≡ seat.old.me.0.past }
-        ensures ok { IfOk result (λ desk. (at : ℕ) (shelf : ShelfContent) →
-            HoldsShelf K.hash_of self.now seat.old at shelf →
-            HoldsBoth K.hash_of self.now seat.new at shelf desk.value) }
+        ensures ok { IfOk result (λ desk.
+            TakesDesk K.hash_of self.now seat.old seat.new desk.value) }
         ensures err { IfErr result (P.busy seat.old.me.0.past self.now.began.settings.shelves) }
-        ensures stays { OnErr result ((at : ℕ) (shelf : ShelfContent) →
-            HoldsShelf K.hash_of self.now seat.old at shelf →
-            HoldsShelf K.hash_of self.now seat.new at shelf) }
+        ensures stays { OnErr result (KeepsShelf K.hash_of self.now seat.old seat.new) }
     {
         match desk_at(patience, &self.board, seat, self.settings.shelves as usize) {
             Ok(desk) => Ok(desk),
@@ -168,12 +123,9 @@ impl<K: KeyHash + Drop> Shared<K> {
 
     /// Takes the desk for a seat that holds a shelf, and waits until it is free.
     pub(crate) fn wait_for_desk<R: Wait>(&self, rt: &R, seat: &mut Seat) -> Box<Desk>
-        requires { (at : ℕ) × (shelf : ShelfContent)
-            × HoldsShelf K.hash_of self.now seat.old at shelf }
+        requires { HoldsSome K.hash_of self.now seat.old }
         ensures past { seat.new.me.0.past ≡ seat.old.me.0.past }
-        ensures holds { (at : ℕ) (shelf : ShelfContent) →
-            HoldsShelf K.hash_of self.now seat.old at shelf →
-            HoldsBoth K.hash_of self.now seat.new at shelf result.value }
+        ensures holds { TakesDesk K.hash_of self.now seat.old seat.new result.value }
     {
         match self.take_desk(&Waiting { rt, gate: &NoGate }, seat) {
             Ok(desk) => desk,
@@ -217,33 +169,13 @@ pub(crate) fn take_all<B: Drop, P: Patience<B>, K: KeyHash + Drop>(
     let mut held = room;
     while held.len() < count {
         let at = held.len();
-        match shelf_at(patience, board, seat, at) {
-            Ok(shelf) => held.push_reserved(Boxed::of(shelf)),
+        match patience.take(board, seat, at) {
+            Ok(Bay::Shelf(shelf)) => held.push_reserved(shelf),
+            Ok(Bay::Desk(_)) => unreachable!(),
             Err(told) => return Err(told),
         }
     }
     Ok(held)
-}
-
-/// Takes all shelves, in rising order, and waits for each.
-pub(crate) fn wait_for_all<R: Wait, K: KeyHash + Drop>(
-    rt: &R,
-    board: &Board<K>,
-    seat: &mut Seat,
-    room: Vec<Boxed<Shelf>>,
-    count: usize,
-) -> Vec<Boxed<Shelf>>
-    requires seat { RestsAt board.now seat.old }
-    requires count { count ≡ shelves_at board.now }
-    requires room { (room.items ≡ []) × (count ≤ vec_capacity room) }
-    ensures seat { SameSeat seat.old seat.new }
-    ensures held { (vec_len result ≡ count)
-        × (seat.new.me ≡ holds_all seat.old.me.0.past result.items) }
-{
-    match take_all(&Waiting { rt, gate: &NoGate }, board, seat, room, count) {
-        Ok(held) => held,
-        Err(never) => match never {},
-    }
 }
 
 /// Gives all shelves back, the last one first.

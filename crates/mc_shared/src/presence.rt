@@ -8,10 +8,11 @@ ghost use Rattle.mc_protocol.specs.declared.reply.Reply.{Reply as Told};
 ghost use Rattle.mc_shared.specs.History.{start_of};
 ghost use Rattle.mc_shared.specs.Store.{HasCalled, IsShown};
 
-use crate::steps::{NUMBERS, seek, word_in};
+use crate::steps::{NUMBERS, load_as, word_in};
 use crate::store::{Caller, Shared};
 use mc_hop::KeyHash;
 use mc_time::Moment;
+use std::marker::Brand;
 
 impl<K: KeyHash + Drop> Shared<K> {
     /// Returns whether no key has the key's number, its hash modulo 4096.
@@ -47,6 +48,6 @@ impl<K: KeyHash + Drop> Shared<K> {
     {
         let number = (hash % NUMBERS as u64) as usize;
         let word = word_in(self.settings.shelves as usize, number);
-        seek(&self.board, &mut caller.seat, word, key, now) == 0
+        load_as::<Brand, K>(&self.board, &mut caller.seat, word, key, now) == 0
     }
 }

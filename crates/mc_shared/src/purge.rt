@@ -10,7 +10,7 @@ ghost use Rattle.mc_shared.specs.Counted.{AreCountsBy};
 
 use crate::bay::Bay;
 use crate::boxed::Boxed;
-use crate::count::{count_shelf, count_words_at, lower_words};
+use crate::count::{count_shelf, count_words, lower_words};
 use crate::decision::Decision;
 use crate::rule::Seat;
 use crate::steps::{NUMBERS, decide, give};
@@ -55,7 +55,7 @@ impl<K: KeyHash + Drop> Shared<K> {
             × AreCountsBy (K.hash_of self.now.began.hasher) shelf result }
     {
         let count = self.settings.shelves as usize;
-        count_words_at(&self.board, seat, count, at as usize)
+        count_words(&self.board, seat, count, count, at as usize)
     }
 
     /// Drops a shelf's dead items, and gives it back with the decision.

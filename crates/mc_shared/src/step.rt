@@ -3,7 +3,7 @@
 //! A refused look of a write isn't a reply yet: the step takes the desk and checks there for a
 //! number and chunks first, because these errors come before want of memory. A read gets its error
 //! at once. A purge that finds nothing dead, and a miss, are decided without the desk.
-ghost use Rattle.std.specs.Prelude.{◌≡◌, ◌≤◌, ℕ, length, is_none, true, false, Err};
+ghost use Rattle.std.specs.Prelude.{◌≡◌, ◌≤◌, length, is_none, true, false, Err};
 ghost use Rattle.std.specs.Prelude.{IfOk, IfErr, IfSome, OnErr};
 ghost use Rattle.std.specs.FinMap.{get};
 ghost use Rattle.mc_protocol.specs.Commands.{key_of, longest_key};
@@ -18,8 +18,8 @@ ghost use Rattle.mc_shared.specs.Store.{HasCalled, IsPlanned, Refuses, May};
 ghost use Rattle.mc_shared.specs.Seats.{MayAsk, IsAnswered, IsFree};
 ghost use Rattle.mc_shared.specs.declared.ask.Ask.{Ask as Asked};
 ghost use Rattle.mc_shared.specs.declared.ask.Looked.{Looked as Looks};
-ghost use Rattle.mc_shared.specs.Holds.{HoldsBoth, HoldsShelf, IsAsked, IsLooked};
-ghost use Rattle.mc_shared.specs.Holds.{Unmet, caller_at, told_of};
+ghost use Rattle.mc_shared.specs.Holds.{HoldsBoth, HoldsShelf, HoldsSome, IsAsked, IsLooked};
+ghost use Rattle.mc_shared.specs.Holds.{KeepsShelf, TakesDesk, Unmet, caller_at, told_of};
 
 use crate::ask::{Ask, Looked, Untaken};
 use crate::bay::Bay;
@@ -217,15 +217,12 @@ impl<K: KeyHash + Drop> Shared<K> {
         looked: &Looked<'_>,
     ) -> Result<(Box<Desk>, Brought), B>
         requires looked { (ask : Asked) × IsLooked looked.now shelf.now ask }
-        requires holds { (at : ℕ) × HoldsShelf K.hash_of self.now seat.old at shelf.now.content }
+        requires holds { HoldsSome K.hash_of self.now seat.old }
         ensures past { seat.new.me.0.past ≡ seat.old.me.0.past }
-        ensures ok { IfOk result (λ r. (at : ℕ) →
-            HoldsShelf K.hash_of self.now seat.old at shelf.now.content →
-            HoldsBoth K.hash_of self.now seat.new at shelf.now.content r.0.value) }
+        ensures ok { IfOk result (λ r.
+            TakesDesk K.hash_of self.now seat.old seat.new r.0.value) }
         ensures err { IfErr result (P.busy seat.old.me.0.past self.now.began.settings.shelves) }
-        ensures stays { OnErr result ((at : ℕ) →
-            HoldsShelf K.hash_of self.now seat.old at shelf.now.content →
-            HoldsShelf K.hash_of self.now seat.new at shelf.now.content) }
+        ensures stays { OnErr result (KeepsShelf K.hash_of self.now seat.old seat.new) }
     {
         let exchange = if patience.comes_again() {
             exchange(alloc, shelf, looked)
@@ -398,28 +395,6 @@ impl<K: KeyHash + Drop> Shared<K> {
             Err(Untaken::Refused(fault)) => Err(fault),
             Err(Untaken::Met(never)) => match never {},
         }
-    }
-
-    /// Takes a step as `answer` does, and decides a miss by the key's number if it can.
-    ///
-    /// That is so for a plain read of a key that `absent` reports. No shelf is held then, and no
-    /// gate is called.
-    pub(crate) fn answer_or_miss<R: Wait, G: Gate>(
-        &self,
-        patience: &Waiting<'_, R, G>,
-        alloc: Global,
-        caller: &mut Caller,
-        ask: &Ask<'_>,
-    ) -> Result<Reply, StepFault>
-        requires own { caller.old.table ≡ self.now.table }
-        requires asked { IsAsked K.hash_of self.now ask.now }
-        ensures { IsAnswered (start_of K.hash_of self.now.began) caller.old ask.now.step.now
-            ask.now.moment Refuses result caller.new }
-    {
-        if self.is_told_absent(caller, ask) {
-            return Ok(Reply::Miss);
-        }
-        self.answer(patience, alloc, caller, ask)
     }
 
     /// Returns whether a step is a plain read whose key is absent by its number.

@@ -18,8 +18,9 @@ ghost use Rattle.mc_shared.specs.Rule.{AreFirst};
 use crate::bay::Bay;
 use crate::boxed::Boxed;
 use crate::count::count_shelves;
+use crate::plays::{Fork, Meet};
 use crate::rule::{Board, Seat};
-use crate::steps::{APART, NUMBERS, fork, meet, reload, word_in};
+use crate::steps::{APART, NUMBERS, reload, word_in};
 use atomic_table::Table;
 use mc_hop::KeyHash;
 use mc_shelf::{Desk, Settings, Shelf, Store, StoreParts};
@@ -143,7 +144,7 @@ impl<K: KeyHash + Drop> Shared<K> {
         ensures agrees { Agrees (start_of K.hash_of self.now.began) maker.new.past
             × Agrees (start_of K.hash_of self.now.began) result.past }
     {
-        let mut seat = fork(&self.board, &mut maker.seat);
+        let mut seat = self.board.shared.split_seat::<Fork>(&mut maker.seat);
         reload(&self.board, &mut maker.seat);
         reload(&self.board, &mut seat);
         Caller { seat, grows: None }
@@ -159,7 +160,7 @@ impl<K: KeyHash + Drop> Shared<K> {
         ensures kept { Agrees (start_of K.hash_of self.now.began) into.new.past }
     {
         let Caller { seat, .. } = from;
-        meet(&self.board, &mut into.seat, seat);
+        self.board.shared.join_seat::<Meet>(&mut into.seat, seat);
         reload(&self.board, &mut into.seat);
     }
 

@@ -282,7 +282,7 @@ impl<K: KeyHash + Drop> Shared<K> {
         }
     }
 
-    /// Takes a step as `answer_or_miss` does, and delivers its reply.
+    /// Takes a step, decides a miss by the key's number if it can, and delivers the reply.
     ///
     /// A hit of a read is delivered while its shelf is held and before it is decided: if the
     /// delivery fails, the read isn't taken. Any other reply is delivered once the step is taken.

@@ -1,5 +1,4 @@
-use Rattle.std.proofs.Common.{rules, arith, ◌≡◌, ◌≤◌, length, sym, ap, subst, ◌∙◌, ◌∷◌}
-use Rattle.mc_shared.proofs.Words.{Whole, start_of, OfDesk, holding, Mine}
+use Rattle.mc_shared.proofs.Words.{rules, arith, ◌≡◌, ◌≤◌, length, sym, ap, subst, ◌∙◌, ◌∷◌, Whole, start_of, OfDesk, holding, Mine}
 use Rattle.mc_shared.proofs.Stacked.{none_taken, gathered}
 use Rattle.mc_shared.proofs.close.gather.Goals as goal
 

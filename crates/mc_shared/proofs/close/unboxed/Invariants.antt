@@ -1,4 +1,4 @@
-use Rattle.std.proofs.Common.{◌≡◌, ◌≤◌, ◌+◌, ◌++◌, length, vec_capacity, vec_len}
+use Rattle.mc_shared.proofs.Words.{◌≡◌, ◌≤◌, ◌+◌, ◌++◌, length, vec_capacity, vec_len}
 use Rattle.mc_shared.proofs.close.unboxed.Given as goal
 
 abbrev pub invariant-loop-shelf : goal.invariant-loop-shelf

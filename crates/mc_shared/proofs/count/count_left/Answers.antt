@@ -1,4 +1,4 @@
-use Rattle.std.proofs.Common.{rules, sym, ◌∙◌}
+use Rattle.mc_shared.proofs.Words.{rules, sym, ◌∙◌}
 use Rattle.mc_shared.proofs.CountLemmas.{none_left}
 use Rattle.mc_shared.proofs.count.count_left.Goals as goal
 

@@ -1,4 +1,4 @@
-use Rattle.std.proofs.Common.{arith, ◌%◌}
+use Rattle.mc_shared.proofs.Words.{arith, ◌%◌}
 use Rattle.mc_shared.proofs.count.count_shelf.Goals as goal
 
 pub count_numbers-requires : goal.count_numbers-requires

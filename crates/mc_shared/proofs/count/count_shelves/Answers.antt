@@ -1,4 +1,4 @@
-use Rattle.std.proofs.Common.{rules, arith, ◌≤◌, length}
+use Rattle.mc_shared.proofs.Words.{rules, arith, ◌≤◌, length}
 use Rattle.mc_shared.proofs.CountLemmas.{next_places, counts_next, counts_all}
 use Rattle.mc_shared.proofs.count.count_shelves.Goals as goal
 

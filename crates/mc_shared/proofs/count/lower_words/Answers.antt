@@ -1,5 +1,4 @@
-use Rattle.std.proofs.Common.{rules, arith, ◌≡◌, ◌+◌, ◌-◌, ◌≤◌, ◌<◌, ◌++◌, ℕ, replicate, slice_index, sym, ap, ◌∙◌}
-use Rattle.mc_shared.proofs.Words.{word_of, spread, loaded}
+use Rattle.mc_shared.proofs.Words.{rules, arith, ◌≡◌, ◌+◌, ◌-◌, ◌≤◌, ◌<◌, ◌++◌, ℕ, replicate, slice_index, sym, ap, ◌∙◌, word_of, spread, loaded}
 use Rattle.mc_shared.proofs.SpreadLemmas.{spread_next, spread_end}
 use Rattle.mc_shared.proofs.count.lower_words.Goals as goal
 

@@ -1,5 +1,4 @@
-use Rattle.std.proofs.Common.{◌≡◌, ◌-◌, ◌≤◌, slice_index}
-use Rattle.mc_shared.proofs.Words.{spread, loaded}
+use Rattle.mc_shared.proofs.Words.{◌≡◌, ◌-◌, ◌≤◌, slice_index, spread, loaded}
 use Rattle.mc_shared.proofs.count.lower_words.Given as goal
 
 abbrev pub invariant-loop-number : goal.invariant-loop-number

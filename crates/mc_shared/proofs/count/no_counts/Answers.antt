@@ -1,5 +1,4 @@
-use Rattle.std.proofs.Common.{ℕ}
-use Rattle.std.proofs.lemmas.List.{length-replicate}
+use Rattle.mc_shared.proofs.Words.{ℕ, length-replicate}
 use Rattle.mc_shared.proofs.CountLemmas.{zero_at}
 use Rattle.mc_shared.proofs.count.no_counts.Goals as goal
 

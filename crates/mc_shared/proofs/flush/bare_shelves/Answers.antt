@@ -1,6 +1,4 @@
-use Rattle.std.proofs.Common.{arith, ap, subst, sym}
-use Rattle.mc_shared.proofs.Words.{All, IsBare, ShelfContent}
-use Rattle.std.proofs.lemmas.List.Elements.{All-push}
+use Rattle.mc_shared.proofs.Words.{arith, ap, subst, sym, All, IsBare, ShelfContent, All-push}
 use Rattle.mc_shared.proofs.flush.bare_shelves.Goals as goal
 
 pub loop-preserved : goal.loop-preserved

@@ -1,5 +1,4 @@
-use Rattle.std.proofs.Common.{◌≡◌, vec_len}
-use Rattle.mc_shared.proofs.Words.{All, IsBare}
+use Rattle.mc_shared.proofs.Words.{◌≡◌, vec_len, All, IsBare}
 use Rattle.mc_shared.proofs.flush.bare_shelves.Given as goal
 
 abbrev pub invariant-loop : goal.invariant-loop

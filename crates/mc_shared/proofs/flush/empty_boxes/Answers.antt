@@ -1,20 +1,16 @@
-use Rattle.std.proofs.Common.{arith, [], ◌∷◌, ◌++◌, ap, ◌∙◌}
-use Rattle.mc_shared.proofs.Words.{slice_get-get_or, IsBare}
-use Rattle.std.proofs.lemmas.List.Elements.{All-pop}
+use Rattle.mc_shared.proofs.Words.{rules, arith, ◌≡◌, Some, get_or, [], ◌∷◌, ◌++◌, ap, ◌∙◌, slice_get-get_or, IsBare, All-pop}
 use Rattle.mc_shared.proofs.EmptyLemmas.{at_most_one, emptied_all, emptied_more}
 use Rattle.mc_shared.proofs.flush.empty_boxes.Goals as goal
 
-pub returns-clause-emptied : goal.returns-clause-emptied
-returns-clause-emptied c = (emptied_all c.loop-shelf.invariant.to (omega (arith, c.loop-shelf-test.false, c.loop-shelf.invariant.to.number))).0
-
-pub returns-clause-aside : goal.returns-clause-aside
-returns-clause-aside c = (emptied_all c.loop-shelf.invariant.to (omega (arith, c.loop-shelf-test.false, c.loop-shelf.invariant.to.number))).1
+pub returns : goal.returns
+returns c = emptied_all c.loop-shelf.invariant.to (omega (arith, c.loop-shelf-test.false, c.loop-shelf.invariant.to.number))
 
 pub loop-shelf-preserved : goal.loop-shelf-preserved
 loop-shelf-preserved c =
     let loop = c.loop-shelf in
     let inv = loop.invariant in
-    let here = slice_get-get_or loop.shelves loop.shelf-index c.shelf-item.result (omega (arith, c.loop-shelf-test.true, loop.auto.shelves)) in
+    let same : get_or loop.shelves loop.shelf-index c.shelf-item.result ≡ c.deref_mut.result.now = search rules in
+    let here = slice_get-get_or loop.shelves loop.shelf-index c.shelf-item.result (omega (arith, c.loop-shelf-test.true, loop.auto.shelves)) ∙ ap Some same in
     record {
       many = omega (arith, inv.many, c.pop.ensures.len, at_most_one c.pop.result);
       bare = (All-pop IsBare loop.bare.items c.pop.new.self.items c.pop.result c.pop.ensures.items inv.bare).0;

@@ -1,5 +1,4 @@
-use Rattle.std.proofs.Common.{◌≡◌, ◌≤◌, ◌+◌, length, vec_len, vec_capacity}
-use Rattle.mc_shared.proofs.Words.{All, IsBare}
+use Rattle.mc_shared.proofs.Words.{◌≡◌, ◌≤◌, ◌+◌, length, vec_len, vec_capacity, All, IsBare}
 use Rattle.mc_shared.proofs.EmptyLemmas.{AreEmptiedTo}
 use Rattle.mc_shared.proofs.flush.empty_boxes.Given as goal
 

@@ -1,6 +1,4 @@
-use Rattle.std.proofs.Common.{ℕ, List}
-use Rattle.mc_shared.proofs.Words.{Plain, ArePartsOf}
-use Rattle.mc_shelf.proofs.FlushLemmas.{AreFlushedTo}
+use Rattle.mc_shared.proofs.Words.{ℕ, List, Plain, ArePartsOf, AreFlushedTo}
 use Rattle.mc_shared.proofs.flush.flush_boxes.Given as goal
 
 abbrev pub invariant-loop-shelf : goal.invariant-loop-shelf

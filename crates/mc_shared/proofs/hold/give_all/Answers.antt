@@ -1,5 +1,4 @@
-use Rattle.std.proofs.Common.{rules, arith, ◌≡◌, ◌∷◌, ◌++◌, [], ap, ◌∙◌}
-use Rattle.mc_shared.proofs.Words.{holds_all}
+use Rattle.mc_shared.proofs.Words.{rules, arith, ◌≡◌, ◌∷◌, ◌++◌, [], ap, ◌∙◌, holds_all}
 use Rattle.mc_shared.proofs.Stacked.{held_top, without_top}
 use Rattle.mc_shared.proofs.hold.give_all.Goals as goal
 

@@ -1,5 +1,4 @@
-use Rattle.std.proofs.Common.{◌≡◌, ◌≤◌, vec_len}
-use Rattle.mc_shared.proofs.Words.{holds_all}
+use Rattle.mc_shared.proofs.Words.{◌≡◌, ◌≤◌, vec_len, holds_all}
 use Rattle.mc_shared.proofs.hold.give_all.Given as goal
 
 abbrev pub invariant-loop-shelf : goal.invariant-loop-shelf

@@ -1,5 +1,4 @@
-use Rattle.std.proofs.Common.{◌≡◌, ◌≤◌, ◌-◌, vec_len, vec_capacity}
-use Rattle.mc_shared.proofs.Words.{holds_all}
+use Rattle.mc_shared.proofs.Words.{◌≡◌, ◌≤◌, ◌-◌, vec_len, vec_capacity, holds_all}
 use Rattle.mc_shared.proofs.hold.take_all.Given as goal
 
 abbrev pub invariant-loop-held : goal.invariant-loop-held

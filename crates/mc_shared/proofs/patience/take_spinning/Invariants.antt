@@ -1,4 +1,4 @@
-use Rattle.std.proofs.Common.{◌≡◌}
+use Rattle.mc_shared.proofs.Words.{◌≡◌}
 use Rattle.mc_shared.proofs.patience.take_spinning.Given as goal
 
 abbrev pub invariant-loop-look : goal.invariant-loop-look

@@ -1,4 +1,4 @@
-use Rattle.std.proofs.Common.{◌≡◌}
+use Rattle.mc_shared.proofs.Words.{◌≡◌}
 use Rattle.mc_shared.proofs.patience.take_waiting.Given as goal
 
 abbrev pub invariant-loop : goal.invariant-loop

@@ -1,11 +1,7 @@
-use Rattle.std.proofs.Common.{◌≡◌, ℕ, Err, ap, refl, subst, sym, ◌∙◌}
-use Rattle.mc_shared.proofs.Words.{key_of, StepFault, NoMemory, NumbersSpent, next_of, writes}
+use Rattle.mc_shared.proofs.Words.{◌≡◌, ℕ, Err, ap, refl, subst, sym, ◌∙◌, key_of, StepFault, NoMemory, NumbersSpent, next_of, writes, NeedsPages, Looked, IsLooked}
 use Rattle.mc_shelf.specs.declared.plan.Action.{Action}
-use Rattle.mc_shelf.specs.Plans.{NeedsPages}
 use Rattle.mc_shelf.proofs.TakesLemmas.{is_spent}
 use Rattle.mc_shelf.proofs.RefusalLemmas.{can_wants, needs_can, writes_some}
-use Rattle.mc_shared.specs.declared.ask.Looked.{Looked}
-use Rattle.mc_shared.specs.Holds.{IsLooked}
 use Rattle.mc_shared.proofs.step.begin.Goals as goal
 
 pub returns-in-Planned-clause-spent : goal.returns-in-Planned-clause-spent

@@ -1,5 +1,5 @@
-use Rattle.mc_shared.proofs.Words.{start_of}
+use Rattle.mc_shared.proofs.Words.{start_of, reloaded}
 use Rattle.mc_shared.proofs.steps.reload.Given as goal
 
-abbrev pub ghosts-reload_as : goal.ghosts-reload_as
-ghosts-reload_as g a = record { start = start_of g.K.KeyHash.hash_of a.board.now.shared.key.value }
+abbrev pub ghosts-load : goal.ghosts-load
+ghosts-load g a = record { then = reloaded (start_of g.K.KeyHash.hash_of a.self.now.key.value) }

@@ -1,5 +1,4 @@
-use Rattle.std.proofs.Common.{◌<◌, ℕ, sym, subst}
-use Rattle.mc_shared.proofs.Words.{words_with}
+use Rattle.mc_shared.proofs.Words.{◌<◌, ℕ, sym, subst, words_with}
 use Rattle.mc_shared.proofs.WordLemmas.{word_is, word_inside}
 use Rattle.mc_shared.proofs.steps.word_in.Goals as goal
 

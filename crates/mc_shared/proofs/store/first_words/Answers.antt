@@ -1,4 +1,4 @@
-use Rattle.std.proofs.Common.{rules, arith, ◌<◌, ◌≤◌, refl}
+use Rattle.mc_shared.proofs.Words.{rules, arith, ◌<◌, ◌≤◌, refl}
 use Rattle.mc_shared.proofs.Opening.{fills_one, are_first}
 use Rattle.mc_shared.proofs.store.first_words.Goals as goal
 

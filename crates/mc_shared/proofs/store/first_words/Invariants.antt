@@ -1,5 +1,4 @@
-use Rattle.std.proofs.Common.{◌≤◌}
-use Rattle.mc_shared.proofs.Words.{AreFilled}
+use Rattle.mc_shared.proofs.Words.{◌≤◌, AreFilled}
 use Rattle.mc_shared.proofs.store.first_words.Given as goal
 
 abbrev pub invariant-loop-number : goal.invariant-loop-number

@@ -1,4 +1,4 @@
-use Rattle.std.proofs.Common.{rules, ◌≡◌, ℕ, IfOk, replicate, sym, subst}
+use Rattle.mc_shared.proofs.Words.{rules, ◌≡◌, ℕ, IfOk, replicate, sym, subst}
 use Rattle.mc_shared.proofs.WordLemmas.{words_are}
 use Rattle.mc_shared.proofs.store.no_words.Goals as goal
 

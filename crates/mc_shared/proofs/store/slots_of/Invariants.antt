@@ -1,5 +1,4 @@
-use Rattle.std.proofs.Common.{◌≡◌, ◌++◌, map}
-use Rattle.mc_shared.proofs.Words.{ShelfState, shelf_slot, spaced}
+use Rattle.mc_shared.proofs.Words.{◌≡◌, ◌++◌, map, ShelfState, shelf_slot, spaced}
 use Rattle.mc_shared.proofs.store.slots_of.Given as goal
 
 abbrev pub invariant-loop-shelf : goal.invariant-loop-shelf

@@ -1,5 +1,4 @@
-use Rattle.std.proofs.Common.{sym, ◌∙◌, arith}
-use Rattle.mc_shared.proofs.Words.{parts_of}
+use Rattle.mc_shared.proofs.Words.{sym, ◌∙◌, arith, parts_of}
 use Rattle.mc_shared.proofs.HitLemmas.{length-parts_of, none_behind}
 use Rattle.mc_shared.proofs.telling.part_at.Goals as goal
 

@@ -1,5 +1,4 @@
-use Rattle.std.proofs.Common.{List, ℕ, [], ◌++◌, ◌∙◌}
-use Rattle.mc_shared.proofs.Words.{parts_of}
+use Rattle.mc_shared.proofs.Words.{List, ℕ, [], ◌++◌, ◌∙◌, parts_of}
 use Rattle.mc_shared.proofs.HitLemmas.{concat-eight}
 use Rattle.mc_shared.proofs.telling.parts_of.Goals as goal
 

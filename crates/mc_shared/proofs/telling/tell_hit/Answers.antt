@@ -1,5 +1,4 @@
-use Rattle.std.proofs.Common.{sym, ap, ◌∙◌, subst, refl}
-use Rattle.mc_shared.proofs.Words.{get, alive, hit_of, is_gone}
+use Rattle.mc_shared.proofs.Words.{sym, ap, ◌∙◌, subst, refl, get, alive, hit_of, is_gone}
 use Rattle.mc_shared.proofs.HitLemmas.{found_gone, found_stands}
 use Rattle.mc_shared.proofs.telling.tell_hit.Goals as goal
 

@@ -1,9 +1,5 @@
-use Rattle.std.proofs.Common.{ap, sym, ◌∙◌, subst}
-use Rattle.mc_slab.specs.Classes.{IsClass}
-use Rattle.mc_slab.specs.Slabs.{pages_of, out_of}
+use Rattle.mc_shared.proofs.Words.{ap, sym, ◌∙◌, subst, IsClass, pages_of, out_of, IsAccountAfter, DeskState, Past, start_of}
 use Rattle.mc_slab.specs.declared.stock.Account.{Account}
-use Rattle.mc_shared.specs.Survey.{IsAccountAfter}
-use Rattle.mc_shared.proofs.Words.{DeskState, Past, start_of}
 use Rattle.mc_shared.proofs.DeskLemmas.{account_after}
 use Rattle.mc_shared.proofs.store.Shared.account.Goals as goal
 

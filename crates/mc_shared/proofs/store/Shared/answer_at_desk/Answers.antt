@@ -1,9 +1,7 @@
-use Rattle.std.proofs.Common.{arith, ◌≡◌, ◌+◌, ◌-◌, ◌%◌, ℕ, mod-lt, [], ◌∷◌, Option, Some, None, is_some, is_none, true, false, replicate, refl, sym, ap, ◌∙◌, subst}
-use Rattle.mc_shared.proofs.Words.{get, len, key_of, Plain, ShelfState, ShelfContent, DeskState, IsShelfOf, IsDeskOf, number_of, OfShelf, OfDesk, Operation, start_of}
-use Rattle.mc_shared.proofs.Words.{Stepped, Past, call, word_of, MayDecide, SharedState, Refuses, holds_one, holds_two, Mine, Agrees, HoldsThis}
-use Rattle.mc_shared.proofs.Words.{loaded, decided_by, entry_of, HoldsBoth, HoldsShelf, IsAsked, caller_at}
-use Rattle.mc_shelf.specs.Plans.{StepTaken, finished, told_next}
-use Rattle.mc_shelf.proofs.PartLemmas.{goes_by_step}
+use Rattle.mc_shared.proofs.Words.{arith, ◌≡◌, ◌+◌, ◌-◌, ◌%◌, ℕ, mod-lt, [], ◌∷◌, Option, Some, None, is_some, is_none, true, false, replicate, refl, sym, ap, ◌∙◌, subst, get, len, key_of, Plain}
+use Rattle.mc_shared.proofs.Words.{ShelfState, ShelfContent, DeskState, IsShelfOf, IsDeskOf, number_of, OfShelf, OfDesk, Operation, start_of, Stepped, Past, call, word_of, MayDecide, SharedState}
+use Rattle.mc_shared.proofs.Words.{Refuses, holds_one, holds_two, Mine, Agrees, HoldsThis, loaded, decided_by, entry_of, HoldsBoth, HoldsShelf, IsAsked, caller_at, StepTaken, finished, told_next}
+use Rattle.mc_shared.proofs.Words.{goes_by_step}
 use Rattle.mc_shared.proofs.Decisions.{applies_step, goes_step}
 use Rattle.mc_shared.proofs.NumberSteps.{counts_step, enough}
 use Rattle.mc_shared.proofs.Held.{at_both, both_stand, may_raise, all_named, last_held, one_given, one_rests, now_free, came_out, refused_both}

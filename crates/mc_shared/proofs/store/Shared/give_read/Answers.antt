@@ -1,6 +1,4 @@
-use Rattle.std.proofs.Common.{[], sym, ◌∙◌, subst}
-use Rattle.mc_shared.proofs.Words.{hit_of, ShelfState, OfShelf, start_of, Stepped, MayDecide, HoldsShelf}
-use Rattle.mc_shelf.specs.Plans.{stood}
+use Rattle.mc_shared.proofs.Words.{[], sym, ◌∙◌, subst, hit_of, ShelfState, OfShelf, start_of, Stepped, MayDecide, HoldsShelf, stood}
 use Rattle.mc_shared.proofs.Held.{at_settled}
 use Rattle.mc_shared.proofs.HitLemmas.{read_on_key}
 use Rattle.mc_shared.proofs.store.Shared.give_read.Goals as goal

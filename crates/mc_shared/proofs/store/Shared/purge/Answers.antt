@@ -1,9 +1,7 @@
-use Rattle.std.proofs.Common.{arith, ◌≡◌, ℕ, ◌-◌, List, [], ◌∷◌, slice_index, refl, sym, ap, ◌∙◌, subst}
-use Rattle.mc_shared.proofs.Words.{Plain, keys_with, ShelfState, DeskState, Content, OfShelf, OfDesk, AreCountsBy, start_of, after, Purged, AllFit, MayDecide}
-use Rattle.mc_shared.proofs.Words.{SharedState, spread, HoldsBoth, Past, call, Agrees, HoldsThis, Mine, entry_of, loaded, holds_one}
-use Rattle.mc_shelf.specs.Numbers.{AreHashes}
+use Rattle.mc_shared.proofs.Words.{arith, ◌≡◌, ℕ, ◌-◌, List, [], ◌∷◌, slice_index, refl, sym, ap, ◌∙◌, subst, Plain, keys_with, ShelfState, DeskState, Content, OfShelf, OfDesk, AreCountsBy}
+use Rattle.mc_shared.proofs.Words.{start_of, after, Purged, AllFit, MayDecide, SharedState, spread, HoldsBoth, Past, call, Agrees, HoldsThis, Mine, entry_of, loaded, holds_one, AreHashes}
+use Rattle.mc_shared.proofs.Words.{AreCountsOf}
 use Rattle.mc_shelf.specs.Sweeps.{BeginsPurge}
-use Rattle.mc_shared.specs.Counted.{AreCountsOf}
 use Rattle.mc_shared.proofs.Decisions.{applies, part_held}
 use Rattle.mc_shared.proofs.Held.{at_both, decided_one, lowered_one, now_free, one_given, one_rests}
 use Rattle.mc_shared.proofs.WordLemmas.{words_apart}

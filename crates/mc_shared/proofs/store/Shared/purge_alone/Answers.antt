@@ -1,5 +1,4 @@
-use Rattle.std.proofs.Common.{rules, [], refl, sym, subst}
-use Rattle.mc_shared.proofs.Words.{ShelfState, IsShelfOf, OfShelf, start_of, Purged, MayDecide}
+use Rattle.mc_shared.proofs.Words.{rules, [], refl, sym, subst, ShelfState, IsShelfOf, OfShelf, start_of, Purged, MayDecide}
 use Rattle.mc_shared.proofs.Decisions.{changes_nothing}
 use Rattle.mc_shared.proofs.Held.{at_shelf}
 use Rattle.mc_shared.proofs.NumberSteps.{counts_same}

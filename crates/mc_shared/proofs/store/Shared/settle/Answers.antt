@@ -1,6 +1,4 @@
-use Rattle.std.proofs.Common.{[], sym, subst}
-use Rattle.mc_shared.proofs.Words.{ShelfState, PlanIsSettled, OfShelf, start_of, Stepped, MayDecide, HoldsShelf}
-use Rattle.mc_shelf.specs.Plans.{IsPlan}
+use Rattle.mc_shared.proofs.Words.{[], sym, subst, ShelfState, PlanIsSettled, OfShelf, start_of, Stepped, MayDecide, HoldsShelf, IsPlan}
 use Rattle.mc_shared.proofs.Held.{at_settled}
 use Rattle.mc_shared.proofs.store.Shared.settle.Goals as goal
 

@@ -1,8 +1,5 @@
-use Rattle.std.proofs.Common.{sym, ap, ◌∙◌, subst}
-use Rattle.mc_shelf.specs.Counts.{counts_of}
+use Rattle.mc_shared.proofs.Words.{sym, ap, ◌∙◌, subst, counts_of, AreCountsAfter, Past, start_of}
 use Rattle.mc_shelf.specs.declared.counts.ShelfCounts.{ShelfCounts}
-use Rattle.mc_shared.specs.Survey.{AreCountsAfter}
-use Rattle.mc_shared.proofs.Words.{Past, start_of}
 use Rattle.mc_shared.proofs.Surveyed.{counts_after}
 use Rattle.mc_shared.proofs.store.Shared.shelf_counts.Goals as goal
 

@@ -1,5 +1,4 @@
-use Rattle.std.proofs.Common.{Ok, ◌∙◌}
-use Rattle.mc_shared.proofs.Words.{start_of, Miss}
+use Rattle.mc_shared.proofs.Words.{Ok, ◌∙◌, start_of, Miss}
 use Rattle.mc_shared.specs.declared.telling.Sought.TheVariants.{Told, Nothing, Deferred}
 use Rattle.mc_shared.proofs.TellingLemmas.{answered_from, called_answered, came_from, fails_from, hit_refused, hit_told, taken_told, told_from}
 use Rattle.mc_shared.proofs.store.Shared.step_telling.Goals as goal

@@ -1,4 +1,4 @@
-use Rattle.std.proofs.Common.{ap, sym}
+use Rattle.mc_shared.proofs.Words.{ap, sym}
 use Rattle.mc_shared.proofs.Held.{alive_at, stays_held, takes_desk}
 use Rattle.mc_shared.proofs.store.Shared.take_desk.Goals as goal
 

@@ -1,5 +1,0 @@
-use Rattle.std.proofs.Common.{◌≡◌, ◌*◌, ◌/◌, ℕ, sym, subst}
-use Rattle.mc_shared.proofs.count.lower_number.Goals as goal
-
-pub word_in-word-requires-clause-divides : goal.word_in-word-requires-clause-divides
-word_in-word-requires-clause-divides g c = subst (λ (s : ℕ). 4096 / s * s ≡ 4096) (sym c.requires.shelves) c.requires.seat.fit.divides
