@@ -12,7 +12,7 @@ use std::alloc::{AllocError, Global};
 use std::test::Fail;
 
 /// More rounds than any guest is awake in.
-const ROUNDS: u64 = 1000;
+const ROUNDS: u64 = 100;
 
 /// The bytes that a link gives: an input, and then a number of unspecified bytes.
 #[derive(Drop)]

@@ -114,6 +114,8 @@ fn take_at_last(feed: &mut Feed, well: &mut Well, room: usize) -> Result<bool, A
 /// What happens to a feed.
 #[derive(Clone, Copy)]
 pub(crate) enum Event {
+    /// Nothing happens.
+    Stays,
     /// A piece comes.
     Comes(&'static [u8]),
     /// Pieces of one byte come: the byte, their length, at most 16384, and their number.
@@ -193,6 +195,7 @@ fn read_pieces(
 fn happens(feed: &mut Feed, row: Row) -> Result<bool, AllocError> {
     let (event, seen, held) = row;
     match event {
+        Event::Stays => Ok(true),
         Event::Comes(piece) => push_at_last(feed, piece),
         Event::Runs(byte, len, times) => push_runs(feed, byte, len, times, seen, held),
         Event::Flows(left, times) => read_pieces(feed, left, times, seen, held),

@@ -111,18 +111,18 @@ fn a_queue_takes_from_its_front(rt: HostRuntime) -> Result<(), AllocError> {
     Ok(())
 }
 
-/// A piece that is pushed, the number of bytes to consume then, what is left, and the number of
-/// bytes in memory.
-static CLOSING: [(&[u8], usize, &[u8], usize); 3] = [
-    (b"abcdefgh", 3, b"defgh", 8),
-    (b"i", 2, b"fghi", 9),
-    (b"j", 0, b"fghij", 5),
+/// A piece that is pushed, the number of bytes in memory then, the number of bytes to consume, what
+/// is left, and the number of bytes in memory.
+static CLOSING: [(&[u8], usize, usize, &[u8], usize); 3] = [
+    (b"abcdefgh", 8, 3, b"defgh", 8),
+    (b"i", 9, 2, b"fghi", 9),
+    (b"j", 5, 0, b"fghij", 5),
 ];
 
 fn closes_up(queue: &mut Queue<65536>) -> Result<bool, AllocError> {
-    for (piece, n, left, filled) in &CLOSING {
+    for (piece, pushed, n, left, filled) in &CLOSING {
         queue.push(piece)?;
-        if !consume_to(queue, *n, left, *filled) {
+        if queue.filled_bytes() != *pushed || !consume_to(queue, *n, left, *filled) {
             return Ok(false);
         }
     }
@@ -416,7 +416,7 @@ const OF_202: Seen = Seen::Bad(LineFault::TooLarge { passed: 202 }, 15);
 
 const OF_2097154: Seen = Seen::Bad(LineFault::TooLarge { passed: 2097154 }, 19);
 
-/// The last byte of the block that is skipped comes with the next line.
+/// The next line comes behind the block that is skipped.
 static PASSED_OVER: [Row; 7] = [
     (Event::Comes(b"set a 0 0 200\r\nxyz"), OF_202, 18),
     (Event::Leaves(15), Seen::More, 0),
@@ -430,6 +430,19 @@ static PASSED_OVER: [Row; 7] = [
 #[test]
 fn a_block_that_is_passed_over(rt: HostRuntime) -> Result<(), AllocError> {
     goes(&rt, rt.alloc(), 100, &PASSED_OVER)
+}
+
+/// The last byte of the block that is skipped comes with the next line.
+static PASSED_OVER_WITH_A_LINE: [Row; 4] = [
+    (Event::Comes(b"set a 0 0 200\r\nxyz"), OF_202, 18),
+    (Event::Leaves(15), Seen::More, 0),
+    (Event::Runs(b'x', 1, 198), Seen::More, 0),
+    (Event::Comes(b"xversion\r\n"), VERSION, 9),
+];
+
+#[test]
+fn a_block_that_is_passed_over_ends_in_a_piece(rt: HostRuntime) -> Result<(), AllocError> {
+    goes(&rt, rt.alloc(), 100, &PASSED_OVER_WITH_A_LINE)
 }
 
 static NEVER_HELD: [Row; 5] = [
@@ -472,7 +485,7 @@ fn a_block_comes_from_a_source(rt: HostRuntime) -> Result<(), AllocError> {
 
 /// A block of 100 bytes in pieces. Only the last piece ends a unit.
 static PIECES: [Row; 6] = [
-    (Event::Comes(b""), Seen::More, 0),
+    (Event::Stays, Seen::More, 0),
     (Event::Comes(b"set a 0 0 100\r\nxyz"), Seen::More, 18),
     (
         Event::Comes(b"0123456789012345678901234567890123456789012345678901234567890123456789"),
@@ -505,7 +518,7 @@ fn the_longest_line_in_pieces(rt: HostRuntime) -> Result<(), AllocError> {
 }
 
 static LINE_TOO_LONG: [Row; 4] = [
-    (Event::Comes(b""), Seen::More, 0),
+    (Event::Stays, Seen::More, 0),
     (Event::Runs(b' ', 8192, 8), Seen::More, 65536),
     (Event::Comes(b" "), Seen::TooLong, 65537),
     (Event::Comes(b"\n"), Seen::TooLong, 65538),
@@ -579,7 +592,7 @@ fn offers_a_large_block(feed: &mut Feed) -> Result<bool, AllocError> {
 fn goes_on_behind_it(feed: &mut Feed) -> Result<bool, AllocError> {
     let is_same = push_at_last(feed, b"version\r\n")?;
     let is_copied = !lends_memory(feed.peek()) && len_of(feed.peek()) == Some(100020);
-    let is_passed = passes(feed, 100020, 9) && push_at_last(feed, b"")?;
+    let is_passed = passes(feed, 100020, 9) && push_at_last(feed, b"")? && feed.held() == 9;
     let is_next = shows(feed.peek(), VERSION) && passes(feed, 9, 0);
     Ok(is_same && is_copied && is_passed && is_next && frees_a_large_block(feed)?)
 }

@@ -422,9 +422,10 @@ fn gets_a_block(
 
 /// It rests before and after the block is sent.
 fn rests_around_its_text(session: &mut Session) -> bool {
+    let is_written = session.out().len() == 9023;
     let is_held = session.rest() >= 9023;
     let is_sent = sends(session, 9023);
-    is_held && is_sent && session.rest() <= 4096 && session.capacity() <= 4096
+    is_written && is_held && is_sent && session.rest() <= 4096 && session.capacity() <= 4096
 }
 
 /// What a new session does over a new store.
@@ -594,6 +595,7 @@ fn is_decided(
         Ok(_) => {
             holds(rt, session.is_idle());
             has_text(rt, session, asked.command, asked.text);
+            sends_first(rt, session, asked.command, asked.text);
             true
         }
         Err(fault) => {
@@ -610,6 +612,13 @@ fn has_text(rt: &impl Abort, session: &Session, command: &str, text: &str) {
         Some(behind) => are_bytes_at(rt, command, behind, text.as_bytes()),
         None => holds(rt, false),
     }
+}
+
+/// The session sends the first text, of 7 bytes, and the command's is left.
+fn sends_first(rt: &impl Abort, session: &mut Session, command: &str, text: &str) {
+    let len = session.out().len();
+    session.sent(len.min(7));
+    are_bytes_at(rt, command, session.out(), text.as_bytes());
 }
 
 /// Takes a step after another turn.

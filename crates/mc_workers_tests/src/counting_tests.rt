@@ -123,12 +123,14 @@ static ROWS: [Row; 12] = [
     (b"", Ask::Flush(0), Outcome::Flushed),
 ];
 
-/// Returns whether a step is reported once more, with the row's outcome.
-fn is_heard<S: Steps>(store: &mut S, alloc: Global, heard: &Heard, row: &Row, way: Way) -> bool {
-    let (key, ask, outcome) = *row;
-    let (times, ..) = heard.hearing.get();
+/// Returns whether the step of the row at a place is the only one reported behind those before it,
+/// with its outcome.
+fn is_heard<S: Steps>(store: &mut S, alloc: Global, heard: &Heard, at: usize, way: Way) -> bool {
+    let Some((key, ask, outcome)) = ROWS.get(at).copied() else {
+        return false;
+    };
     take(store, alloc, key, ask, way);
-    heard.hearing.get() == (times.saturating_add(1), key.len(), Some(outcome))
+    heard.hearing.get() == (at.saturating_add(1), key.len(), Some(outcome))
 }
 
 /// Returns the first step that isn't reported once with the row's outcome.
@@ -138,8 +140,8 @@ fn first_unheard_by<S: Steps>(
     heard: &Heard,
     way: Way,
 ) -> Option<usize> {
-    for (at, row) in ROWS.iter().enumerate() {
-        if !is_heard(store, alloc, heard, row, way) {
+    for at in 0..ROWS.len() {
+        if !is_heard(store, alloc, heard, at, way) {
             return Some(at);
         }
     }
