@@ -271,12 +271,15 @@ def lacking_options():
 
 
 def unplanted():
-    """Wrong bodies that cite a text which the sources don't have any more."""
+    """Wrong bodies that cite a text, or name a function, which the sources don't have any more."""
     for crate in crates():
         sources = bodies.Sources(ROOT / f"crates/{crate}")
         for path in tracked(f"crates/{crate}/wrong/*.edit"):
             try:
-                sources.cuts(bodies.read(ROOT / path))
+                body = bodies.read(ROOT / path)
+                sources.cuts(body)
+                if sources.lacks(body):
+                    yield f"{path}: there is no function {body.function}"
             except bodies.Unplanted as error:
                 yield f"{path}: {error}"
 

@@ -11,6 +11,7 @@ A wrong body is a file `crates/NAME/wrong/BODY.edit`:
 stands once in its file. The function is refused where a goal of its contract or of its body is not proved, or where a line of its proof
 doesn't fit any more. It is not refused where a name is gone, where the text can't be read, or where only a callee is not proved.
 """
+import glob
 import os
 import re
 from dataclasses import dataclass
@@ -28,6 +29,8 @@ GONE = re.compile(r"has no field|is not in scope|has no `|was not admitted|is no
 AT_END = re.compile(r"\(`returns(-clause-[\w-]+)?`\)")
 FALSE = "allow values at which this goal is false"
 HEAD = re.compile(r"(\s*)(?:pub(?:\([a-z]+\))? )?(?:const )?(?:unsafe )?fn (\w+)")
+# What owns functions: a trait, an `impl` of a type, or of a trait for it.
+OWNER = re.compile(r"(?:pub(?:\([a-z]+\))? )?(?:trait|impl(?:<.*?>)?) (?:(\w+)(?:<.*?>)? for )?&?(?:\w+::)*(\w+)")
 
 
 class Unplanted(Exception):
@@ -72,7 +75,7 @@ class Sources:
     """The files of a crate as they stand."""
 
     def __init__(self, folder):
-        self.folder, self.texts = folder, {}
+        self.folder, self.texts, self.names = folder, {}, set()
 
     def text(self, file):
         """The text of a file below src/, specs/ or proofs/."""
@@ -83,6 +86,13 @@ class Sources:
             with open(f"{self.folder}/{file}", encoding="utf-8") as it:
                 self.texts[file] = it.read()
         return self.texts[file]
+
+    def lacks(self, body):
+        """Whether the crate has no function of the name that a wrong body gives."""
+        if not self.names:
+            self.names = {it for path in glob.iglob(f"{self.folder}/src/**/*.rt", recursive=True) for it in names(path)}
+        owner, _, name = body.function.rpartition("::")
+        return not any(name == it[1] and owner.rpartition("::")[2].startswith(it[0]) for it in self.names)
 
     def cuts(self, body):
         """What a wrong body replaces: the file, where it begins and ends there, and the new text."""
@@ -147,6 +157,20 @@ class Sources:
             else:
                 together.append(([body], set(spots)))
         return [it for it, _ in together] + alone
+
+
+def names(path):
+    """The functions of a source, each with what the last name before its own begins with where a check prints it: its file, or its owner.
+
+    An `impl` of a trait for a type has both names as one, before those of the trait's arguments.
+    """
+    owner = module = os.path.basename(path).removesuffix(".rt")
+    with open(path, encoding="utf-8") as file:
+        for line in file:
+            if found := OWNER.match(line):
+                owner = f"{found[2]}{found[1] or ''}"
+            elif found := HEAD.match(line):
+                yield owner if found[1] else module, found[2]
 
 
 def functions(text):
