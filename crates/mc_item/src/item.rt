@@ -4,14 +4,8 @@ ghost use Rattle.std.specs.Prelude.{◌≡◌, ◌+◌, ◌<◌, ◌≤◌, ◌+
 ghost use Rattle.std.specs.List.{concat};
 ghost use Rattle.mc_slab.specs.Chunks.{AreChunks, need_in, with_part};
 ghost use Rattle.mc_slab.specs.Needs.{size_in};
-ghost use Rattle.mc_item.specs.Items.{
-  IsItem,
-  charge_of,
-  header_size,
-  item_need,
-  longest_key,
-  parts_of,
-};
+ghost use Rattle.mc_item.specs.Items.{IsItem, charge_of, header_size, item_need, longest_key};
+ghost use Rattle.mc_item.specs.Items.{parts_of};
 ghost use Rattle.mc_item.specs.Layout.{item_in};
 
 use crate::header::{

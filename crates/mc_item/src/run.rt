@@ -1,40 +1,13 @@
 //! Writes an item's header and key into the head of its chunks, and its block into their bytes.
 
-ghost use Rattle.std.specs.Prelude.{
-  ◌≡◌,
-  ◌+◌,
-  ◌-◌,
-  ◌<◌,
-  ◌≤◌,
-  ◌^◌,
-  ◌++◌,
-  [],
-  length,
-  take,
-  drop,
-  decimal,
-  Some,
-  IfSome,
-  IsTrue,
-  IsFalse,
-  slice_get,
-  vec_capacity,
-};
+ghost use Rattle.std.specs.Prelude.{◌≡◌, ◌+◌, ◌-◌, ◌<◌, ◌≤◌, ◌^◌, ◌++◌, [], length, take, drop};
+ghost use Rattle.std.specs.Prelude.{decimal, Some, IfSome, IsTrue, IsFalse, slice_get};
+ghost use Rattle.std.specs.Prelude.{vec_capacity};
 ghost use Rattle.mc_slab.specs.Classes.{size_of};
 ghost use Rattle.mc_slab.specs.Chunks.{AreChunks, TakesOver, chunk_at, need_in, with_part};
 ghost use Rattle.mc_item.specs.Items.{header_size, longest_key, parts_of, start_of};
-ghost use Rattle.mc_item.specs.Layout.{
-  block_in,
-  block_length_in,
-  header_in,
-  item_in,
-  key_in,
-  key_length_in,
-  updated_in,
-  HoldsItem,
-  KeepsBytes,
-  KeepsHead,
-};
+ghost use Rattle.mc_item.specs.Layout.{block_in, block_length_in, header_in, item_in, key_in};
+ghost use Rattle.mc_item.specs.Layout.{key_length_in, updated_in, HoldsItem, KeepsBytes, KeepsHead};
 
 use crate::header::{HEADER, Header, block_length_in, key_length_in};
 use itoa::Buffer;

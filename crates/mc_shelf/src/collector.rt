@@ -7,16 +7,8 @@
 
 ghost use Rattle.std.specs.Prelude.{◌≡◌, ◌+◌, ◌-◌, ◌<◌, ◌≤◌, ℕ, List, [], true, false, slice_index, vec_len, IfOk};
 ghost use Rattle.mc_slab.specs.Classes.{IsClass};
-ghost use Rattle.mc_slab.specs.Slabs.{
-  IsSlab,
-  Readies,
-  Takes,
-  given,
-  out_of,
-  pages_left,
-  pages_of,
-  untouched,
-};
+ghost use Rattle.mc_slab.specs.Slabs.{IsSlab, Readies, Takes, given, out_of, pages_left, pages_of};
+ghost use Rattle.mc_slab.specs.Slabs.{untouched};
 ghost use Rattle.mc_shelf.specs.Asides.{AreCollected, GivesOwn, LieAside, Suffices, all_out, count_in, none_out};
 
 use crate::aside::{AsidePlace, chunks_of, join, next_chunks};

@@ -4,19 +4,8 @@ ghost use Rattle.std.specs.Prelude.{◌≡◌, ◌+◌, ◌-◌, ◌^◌, ◌<�
 ghost use Rattle.std.specs.Prelude.{ℕ, List};
 ghost use Rattle.mc_slab.specs.Needs.{IsNeed};
 ghost use Rattle.mc_slab.specs.Chunks.{AreChunksOf};
-ghost use Rattle.mc_slab.specs.Slabs.{
-  IsSlab,
-  WantsPages,
-  given,
-  has_room_with,
-  made_ready,
-  out_of,
-  pages_of,
-  pages_wanted,
-  taken,
-  untouched,
-  unused,
-};
+ghost use Rattle.mc_slab.specs.Slabs.{IsSlab, WantsPages, given, has_room_with, made_ready, out_of};
+ghost use Rattle.mc_slab.specs.Slabs.{pages_of, pages_wanted, taken, untouched, unused};
 ghost use Rattle.mc_protocol.specs.Plain.{Plain};
 ghost use Rattle.mc_shelf.specs.Asides.{none_out};
 ghost use Rattle.mc_shelf.specs.Parts.{ArePartsOf};

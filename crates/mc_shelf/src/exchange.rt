@@ -11,16 +11,8 @@ ghost use Rattle.std.specs.FinMap.{get};
 ghost use Rattle.mc_slab.specs.Chunks.{need_in};
 ghost use Rattle.mc_slab.specs.Needs.{NeedState};
 ghost use Rattle.mc_protocol.specs.declared.step.KeyStep.{KeyStep as Step};
-ghost use Rattle.mc_shelf.specs.Plans.{
-  GivesBack,
-  IsOut,
-  IsPlan,
-  IsSought,
-  exchange_for,
-  left_behind,
-  need_brought,
-  pages_in,
-};
+ghost use Rattle.mc_shelf.specs.Plans.{GivesBack, IsOut, IsPlan, IsSought, exchange_for};
+ghost use Rattle.mc_shelf.specs.Plans.{left_behind, need_brought, pages_in};
 
 use crate::desk::Desk;
 use crate::plan::{Action, Plan};

@@ -15,18 +15,8 @@ ghost use Rattle.mc_shelf.specs.Counts.{CatchesUp, CaughtUp, FitTogether, KeepsT
 ghost use Rattle.mc_shelf.specs.Deaths.{DieNoSooner, NoneIsDead};
 ghost use Rattle.mc_shelf.specs.KeyMaps.{IsHashOf, EntriesAreKeyed};
 ghost use Rattle.mc_shelf.specs.States.{EntryState};
-ghost use Rattle.mc_shelf.specs.Places.{
-  ItemIsChanged,
-  IsEntryOf,
-  IsKeyAt,
-  IsKeyFound,
-  IsOfClass,
-  KeyGoes,
-  KeyComes,
-  entries_of,
-  hashes_of,
-  items_of,
-};
+ghost use Rattle.mc_shelf.specs.Places.{ItemIsChanged, IsEntryOf, IsKeyAt, IsKeyFound, IsOfClass};
+ghost use Rattle.mc_shelf.specs.Places.{KeyGoes, KeyComes, entries_of, hashes_of, items_of};
 
 use crate::counts::ShelfCounts;
 use crate::entry::Entry;

@@ -9,30 +9,15 @@ ghost use Rattle.mc_protocol.specs.Purge.{purged};
 ghost use Rattle.mc_protocol.specs.Laws.{IsOnKey};
 ghost use Rattle.mc_shelf.specs.States.{ShelfContent, DeskState, nothing_held};
 ghost use Rattle.mc_slab.specs.Slabs.{IsSlab};
-ghost use Rattle.mc_shelf.specs.Plans.{
-  StepTaken,
-  PlanIsSettled,
-  IsSpent,
-  MayWantMemory,
-  NeedsPages,
-  has_no_number,
-  next_of,
-  writes,
-};
+ghost use Rattle.mc_shelf.specs.Plans.{StepTaken, PlanIsSettled, IsSpent, MayWantMemory};
+ghost use Rattle.mc_shelf.specs.Plans.{NeedsPages, has_no_number, next_of, writes};
 ghost use Rattle.mc_shelf.specs.Counts.{AreReclaimed, DropsAlone, counts_of};
 ghost use Rattle.mc_shelf.specs.Sweeps.{AreOut, GivesFor};
 ghost use Rattle.mc_shelf.specs.Deaths.{NoneIsDead};
 ghost use Rattle.mc_shelf.specs.Unions.{IsFlushed, lefts};
 ghost use Rattle.mc_shelf.specs.Stores.{NoneRises};
-ghost use Rattle.mc_shelf.specs.Parts.{
-  shelf_of,
-  IsShelfOf,
-  IsDeskOf,
-  ArePartsOf,
-  GoesTo,
-  GoesByStep,
-  GoesWithoutDesk,
-};
+ghost use Rattle.mc_shelf.specs.Parts.{shelf_of, IsShelfOf, IsDeskOf, ArePartsOf, GoesTo};
+ghost use Rattle.mc_shelf.specs.Parts.{GoesByStep, GoesWithoutDesk};
 
 use crate::desk::Desk;
 use crate::shelf::Shelf;

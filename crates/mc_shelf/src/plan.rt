@@ -14,18 +14,8 @@ ghost use Rattle.mc_protocol.specs.Plain.{hit_of, row_of};
 ghost use Rattle.mc_shelf.specs.declared.plan.Action.TheVariants.{Answer};
 ghost use Rattle.mc_shelf.specs.States.{CanStandAt, DeskState, ShelfContent};
 ghost use Rattle.mc_shelf.specs.Plans as plans;
-ghost use Rattle.mc_shelf.specs.Plans.{
-  IsPlan,
-  WantsDesk,
-  block_in,
-  charge_of,
-  item_in,
-  is_gone,
-  made_block,
-  next_found,
-  wants_desk,
-  writes,
-};
+ghost use Rattle.mc_shelf.specs.Plans.{IsPlan, WantsDesk, block_in, charge_of, item_in, is_gone};
+ghost use Rattle.mc_shelf.specs.Plans.{made_block, next_found, wants_desk, writes};
 
 use crate::entry::Entry;
 use crate::index::Place;

@@ -4,13 +4,8 @@
 //! 256 shelves: a key's home in its shelf's table is its hash divided by 256.
 
 ghost use Rattle.std.specs.Prelude.{◌≡◌, ◌↔◌, IfSome, IsSome};
-ghost use Rattle.mc_shelf.specs.Ranges.{
-  AreInRange,
-  IsGreatestCharge,
-  IsPageCount,
-  IsShelfCount,
-  is_shelf_count,
-};
+ghost use Rattle.mc_shelf.specs.Ranges.{AreInRange, IsGreatestCharge, IsPageCount, IsShelfCount};
+ghost use Rattle.mc_shelf.specs.Ranges.{is_shelf_count};
 
 /// The settings of a store. Each value is in its range.
 #[derive(Clone, Copy, Debug, PartialEq, Eq)]

@@ -17,37 +17,12 @@ ghost use Rattle.mc_protocol.specs.Plain.{Entry as Item};
 ghost use Rattle.mc_shelf.specs.Counts.{AreReclaimed, CatchesUp, DropsAlone, FitTogether, KeepsTable, MovesFew, counts_of};
 ghost use Rattle.mc_shelf.specs.States.{CanStandAt, IsHash, nothing_held};
 ghost use Rattle.mc_shelf.specs.Numbers.{KeysAreCounted, HasPlaces};
-ghost use Rattle.mc_shelf.specs.Plans.{
-  CanFinish,
-  CanLook,
-  CanSettle,
-  CanWrite,
-  GivesBack,
-  HasCaughtUp,
-  HasRoom,
-  IsDropped,
-  IsKnown,
-  IsOut,
-  IsPlan,
-  IsPut,
-  PlanIsSettled,
-  IsSought,
-  IsSpent,
-  StepTaken,
-  LookTakesMemory,
-  MayWantMemory,
-  NeedsPages,
-  PutsEntry,
-  back_at,
-  finished,
-  gives_way_to,
-  has_no_number,
-  item_in,
-  next_of,
-  row_at,
-  told_next,
-  writes,
-};
+ghost use Rattle.mc_shelf.specs.Plans.{CanFinish, CanLook, CanSettle, CanWrite, GivesBack};
+ghost use Rattle.mc_shelf.specs.Plans.{HasCaughtUp, HasRoom, IsDropped, IsKnown, IsOut, IsPlan};
+ghost use Rattle.mc_shelf.specs.Plans.{IsPut, PlanIsSettled, IsSought, IsSpent, StepTaken};
+ghost use Rattle.mc_shelf.specs.Plans.{LookTakesMemory, MayWantMemory, NeedsPages, PutsEntry};
+ghost use Rattle.mc_shelf.specs.Plans.{back_at, finished, gives_way_to, has_no_number, item_in};
+ghost use Rattle.mc_shelf.specs.Plans.{next_of, row_at, told_next, writes};
 ghost use Rattle.mc_shelf.specs.Sweeps.{AreOut, GivesFor};
 
 use crate::begun::Begun;

@@ -10,15 +10,8 @@ ghost use Rattle.mc_protocol.specs.Commands.{key_of, longest_key};
 ghost use Rattle.mc_protocol.specs.Plain.{Plain, opening, starting, plain, Spent, MayFail};
 ghost use Rattle.mc_protocol.specs.Laws.{IsOnKey};
 ghost use Rattle.mc_shelf.specs.Parts.{ArePartsOf, shelf_of};
-ghost use Rattle.mc_shelf.specs.Stores.{
-  IsSetUp,
-  AreAlike,
-  FallsAt,
-  FewMoveAt,
-  HoldSame,
-  TookStep,
-  shelf_purged,
-};
+ghost use Rattle.mc_shelf.specs.Stores.{IsSetUp, AreAlike, FallsAt, FewMoveAt, HoldSame, TookStep};
+ghost use Rattle.mc_shelf.specs.Stores.{shelf_purged};
 ghost use Rattle.mc_shelf.specs.Unions.{lefts};
 
 use crate::desk::Desk;

@@ -15,37 +15,12 @@ ghost use Rattle.mc_protocol.specs.Plain.{block_of, charge, item_need, write_rep
 ghost use Rattle.mc_shelf.specs.Counts.{KeepsTable, counts_of};
 ghost use Rattle.mc_shelf.specs.States.{CanStandAt};
 ghost use Rattle.mc_shelf.specs.Plans as plans;
-ghost use Rattle.mc_shelf.specs.Plans.{
-  CanPut,
-  CanWrite,
-  CanWriteBlock,
-  GivesBack,
-  GoesApart,
-  GoesInto,
-  GoesOver,
-  StoodBefore,
-  IsDropped,
-  IsKnown,
-  IsOut,
-  IsPut,
-  StepTaken,
-  IsLeft,
-  IsWriteOf,
-  NeedsPages,
-  PutsEntry,
-  Suits,
-  block_beside,
-  block_in,
-  drafted,
-  drawn,
-  has_no_number,
-  is_gone,
-  item_in,
-  left_of,
-  made_block,
-  write_told,
-  written,
-};
+ghost use Rattle.mc_shelf.specs.Plans.{CanPut, CanWrite, CanWriteBlock, GivesBack, GoesApart};
+ghost use Rattle.mc_shelf.specs.Plans.{GoesInto, GoesOver, StoodBefore, IsDropped, IsKnown, IsOut};
+ghost use Rattle.mc_shelf.specs.Plans.{IsPut, StepTaken, IsLeft, IsWriteOf, NeedsPages, PutsEntry};
+ghost use Rattle.mc_shelf.specs.Plans.{Suits, block_beside, block_in, drafted, drawn};
+ghost use Rattle.mc_shelf.specs.Plans.{has_no_number, is_gone, item_in, left_of, made_block};
+ghost use Rattle.mc_shelf.specs.Plans.{write_told, written};
 
 use crate::begun::{Begun, Unwritten};
 use crate::desk::Desk;

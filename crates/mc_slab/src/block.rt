@@ -12,24 +12,8 @@
 //! A write can't fail, so memory for a copy is reserved when the chunk is made. It is touched only
 //! if other memory for a copy is refused.
 
-ghost use Rattle.std.specs.Prelude.{
-  ◌≡◌,
-  ◌+◌,
-  ◌-◌,
-  ◌≤◌,
-  ◌↔◌,
-  ◌++◌,
-  [],
-  length,
-  take,
-  drop,
-  true,
-  IfOk,
-  IfSome,
-  IsTrue,
-  IsFalse,
-  vec_capacity,
-};
+ghost use Rattle.std.specs.Prelude.{◌≡◌, ◌+◌, ◌-◌, ◌≤◌, ◌↔◌, ◌++◌, [], length, take, drop, true};
+ghost use Rattle.std.specs.Prelude.{IfOk, IfSome, IsTrue, IsFalse, vec_capacity};
 ghost use Rattle.mc_slab.specs.Chunks.{with_part};
 ghost use Rattle.mc_slab.specs.Blocks.{bytes_in, is_shared, IsBlock};
 

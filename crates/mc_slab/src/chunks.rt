@@ -4,16 +4,8 @@
 //! destructor by hand in each type that holds chunks.
 
 ghost use Rattle.std.specs.Prelude.{◌≡◌, ◌+◌, ◌-◌, ◌<◌, ◌≤◌, length, take, drop, IfOk, IfSome, IsTrue, IsFalse};
-ghost use Rattle.mc_slab.specs.Chunks.{
-  ChunksState,
-  AreChunks,
-  AreChunksOf,
-  TakesOver,
-  chunk_at,
-  need_in,
-  with_part,
-  written_cut,
-};
+ghost use Rattle.mc_slab.specs.Chunks.{ChunksState, AreChunks, AreChunksOf, TakesOver, chunk_at};
+ghost use Rattle.mc_slab.specs.Chunks.{need_in, with_part, written_cut};
 ghost use Rattle.mc_slab.specs.Classes.{size_of};
 ghost use Rattle.mc_slab.specs.Helds.{chunks_in};
 ghost use Rattle.mc_slab.specs.declared.held.Held.TheVariants.{Sheets};

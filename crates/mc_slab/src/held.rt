@@ -8,17 +8,8 @@
 //! if its length is an invariant.
 
 ghost use Rattle.std.specs.Prelude.{◌≡◌, ◌+◌, ◌-◌, ◌<◌, ◌≤◌, length, take, drop, IfSome, IsTrue, IsFalse};
-ghost use Rattle.mc_slab.specs.Chunks.{
-  AreChunks,
-  IsFirst,
-  IsHead,
-  TakesOver,
-  chunk_at,
-  need_in,
-  one_chunk,
-  with_part,
-  written_cut,
-};
+ghost use Rattle.mc_slab.specs.Chunks.{AreChunks, IsFirst, IsHead, TakesOver, chunk_at, need_in};
+ghost use Rattle.mc_slab.specs.Chunks.{one_chunk, with_part, written_cut};
 ghost use Rattle.mc_slab.specs.Classes.{size_of};
 ghost use Rattle.mc_slab.specs.Helds.{chunks_in};
 

@@ -3,20 +3,9 @@
 ghost use Rattle.std.specs.Prelude.{◌≡◌, ℕ, ◌+◌, ◌*◌, ◌/◌, ◌<◌, ◌≤◌, [], ◌∷◌, map, Some, None, true};
 ghost use Rattle.mc_slab.specs.Classes.{chunk_sizes, chunks_a_page, class_of};
 ghost use Rattle.mc_slab.specs.Needs.{NeedState, IsNeed};
-ghost use Rattle.mc_slab.specs.Slabs.{
-  SlabState,
-  IsSlab,
-  TellsFull,
-  WantsPages,
-  given,
-  has_room,
-  has_room_with,
-  made_ready,
-  out_of,
-  pages_left,
-  pages_wanted,
-  unused,
-};
+ghost use Rattle.mc_slab.specs.Slabs.{SlabState, IsSlab, TellsFull, WantsPages, given, has_room};
+ghost use Rattle.mc_slab.specs.Slabs.{has_room_with, made_ready, out_of, pages_left, pages_wanted};
+ghost use Rattle.mc_slab.specs.Slabs.{unused};
 
 /// States the table of classes. It does nothing.
 ///

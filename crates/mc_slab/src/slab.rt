@@ -2,19 +2,8 @@
 
 ghost use Rattle.std.specs.Prelude.{◌≡◌, ◌+◌, ◌≤◌, map, IfOk};
 ghost use Rattle.std.specs.List.{range_with_len};
-ghost use Rattle.mc_slab.specs.Slabs.{
-  IsSlab,
-  Takes,
-  Readies,
-  untouched,
-  empty_stock,
-  chunks_of,
-  pages_of,
-  out_of,
-  pages_left,
-  given,
-  unused,
-};
+ghost use Rattle.mc_slab.specs.Slabs.{IsSlab, Takes, Readies, untouched, empty_stock, chunks_of};
+ghost use Rattle.mc_slab.specs.Slabs.{pages_of, out_of, pages_left, given, unused};
 ghost use Rattle.mc_slab.specs.declared.slab.TakeFault.TheVariants.{NoMemory};
 
 use crate::chunks::Chunks;

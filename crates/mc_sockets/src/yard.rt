@@ -103,16 +103,8 @@ pub type SocketYard = Yard<Gathering<SocketChannel>>;
 
 impl<L: Lingering + Drop> Yard<L> {
     ghost use Rattle.std.specs.Prelude.{ℕ};
-    ghost use Rattle.mc_sockets.specs.Yards.{
-      place_at,
-      Changes,
-      Free,
-      InUse,
-      TakesIn,
-      Stays,
-      HasSent,
-      SendsRest,
-    };
+    ghost use Rattle.mc_sockets.specs.Yards.{place_at, Changes, Free, InUse, TakesIn, Stays};
+    ghost use Rattle.mc_sockets.specs.Yards.{HasSent, SendsRest};
 
     /// Makes a yard whose places are all free. It takes no memory.
     pub fn new(alloc: Global) -> Yard<L>
