@@ -19,11 +19,11 @@ abbrev pub Pair : Type 0
 Pair = List ℕ × Entry
 
 -- a key below each key of a list is not found in it
-first : (a b : Bool) → T (a && b) → T a
+pub first : (a b : Bool) → T (a && b) → T a
 first true b h = tt
 first false b h = h
 
-second : (a b : Bool) → T (a && b) → T b
+pub second : (a b : Bool) → T (a && b) → T b
 second true b h = h
 second false b h = absurd h
 

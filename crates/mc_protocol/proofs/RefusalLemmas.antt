@@ -5,7 +5,7 @@ use Rattle.std.proofs.lemmas.Bool.{ltb-false, le-ltb, eq-eqb, ne_eqb}
 use Rattle.mc_time.specs.declared.expiry.Expiry.{Expiry}
 use Rattle.mc_slab.specs.Needs.{NeedState, need_for}
 use Rattle.mc_protocol.specs.declared.reply.Reply.{Reply}
-use Rattle.mc_protocol.specs.declared.reply.Reply.TheVariants.{Stored, NotStored, Exists, NotFound, Miss, Hit, Touched, Deleted, Number, NotNumeric, TooLarge, NoChunk, Flushed}
+use Rattle.mc_protocol.specs.declared.reply.Reply.TheVariants.{TooLarge, NoChunk}
 use Rattle.mc_protocol.specs.declared.step.KeyStep.{KeyStep}
 use Rattle.mc_protocol.specs.declared.step.KeyStep.TheVariants.{Flush}
 use Rattle.mc_protocol.specs.declared.row.Row.{Row}
@@ -22,19 +22,8 @@ use Rattle.mc_protocol.proofs.LawLemmas.{on_key}
 
 -- the reply that a refusal is
 abbrev pub is_refusal : Reply → Bool
-is_refusal Stored = false
-is_refusal NotStored = false
-is_refusal Exists = false
-is_refusal NotFound = false
-is_refusal Miss = false
-is_refusal (Hit flags unique block) = false
-is_refusal Touched = false
-is_refusal Deleted = false
-is_refusal (Number number) = false
-is_refusal NotNumeric = false
-is_refusal TooLarge = false
 is_refusal NoChunk = true
-is_refusal Flushed = false
+is_refusal other = false
 
 abbrev pub told : Outcome → Bool
 told (Answered reply new) = is_refusal reply

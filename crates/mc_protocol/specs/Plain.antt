@@ -381,13 +381,7 @@ coded_entry =
     code_by (ℕ × (Expiry × (List ℕ × (ℕ × ℕ))))
     (coded× coded_ℕ (coded× coded_expiry (coded× (coded_list coded_ℕ) (coded× coded_ℕ coded_ℕ))))
     (λ e. (e.flags, (e.expiry, (e.block, (e.unique, e.updated)))))
-    (λ p. record {
-      flags = p.0;
-      expiry = p.1.0;
-      block = p.1.1.0;
-      unique = p.1.1.1.0;
-      updated = p.1.1.1.1;
-    })
+    (λ p. record { flags = p.0; expiry = p.1.0; block = p.1.1.0; unique = p.1.1.1.0; updated = p.1.1.1.1 })
     (λ _. refl)
 
 abbrev pub coded_plain : Coded Plain
@@ -397,11 +391,7 @@ coded_plain =
     (coded× (coded_option coded_ℕ) (coded× coded_ℕ (coded_list coded_ℕ))))))
     (λ s. (s.greatest, (s.limit, (s.items, (s.cut, (s.next_unique, s.pages))))))
     (λ p. record {
-      greatest = p.0;
-      limit = p.1.0;
-      items = p.1.1.0;
-      cut = p.1.1.1.0;
-      next_unique = p.1.1.1.1.0;
-      pages = p.1.1.1.1.1;
+      greatest = p.0; limit = p.1.0; items = p.1.1.0;
+      cut = p.1.1.1.0; next_unique = p.1.1.1.1.0; pages = p.1.1.1.1.1;
     })
     (λ _. refl)
