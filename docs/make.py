@@ -149,7 +149,8 @@ def made_crates():
         direct = [low for low in libraries if low in crates() and not any(low in under(other) for other in libraries)]
         tests = re.search(r"Tests: (.*?)\.?$", page(name)[-1])
         what = re.split(r"(?<=\.) ", page(name)[0])[0].rstrip(".")
-        rows.append(f"| `{name}` | {what.translate(CELL)} | {' '.join(direct)} | {tests.group(1).replace('`', '') if tests else ''} |\n")
+        files = re.sub(r"`|src/(tests/)?", "", tests.group(1)) if tests else ""
+        rows.append(f"| `{name}` | {what.translate(CELL)} | {' '.join(direct)} | {files} |\n")
     return "| Crate | What it is | Stands on | Tests |\n|---|---|---|---|\n" + "".join(rows)
 
 
@@ -237,8 +238,8 @@ def lost(path, words):
             if not any((place / span).exists() for place in PLACES):
                 yield f"{path}: there is no {span}"
         elif found := re.fullmatch(r"(mc_\w+_tests|mc_sockets)/(\w+)(?:: (\w+))?", span):
-            test = ROOT / f"crates/{found[1]}/src/{found[2]}.rt"
-            if not test.exists() or (found[3] and found[3] not in test.read_text(encoding="utf-8")):
+            tests = list((ROOT / f"crates/{found[1]}/src").rglob(f"{found[2]}.rt"))
+            if not tests or (found[3] and found[3] not in tests[0].read_text(encoding="utf-8")):
                 yield f"{path}: there is no {span}"
         elif path in INSIDE and re.fullmatch(r"[A-Za-z_][\w:]*(\(\))?", span):
             yield from (f"{path}: nothing is named {word}" for word in re.findall(r"\w+", span) if word not in words | OTHERS)
@@ -251,7 +252,7 @@ def lost_tests():
         if not tests and not crate.endswith("_tests"):
             yield f"{root_file(crate)}: the page doesn't end with 'Tests: CRATE, src/FILE.rt.'"
         yield from (f"{root_file(crate)}: there is no {other}/{file}" for line in tests
-                    for other, file in re.findall(r"`?(mc_\w+)`?, `?(src/\w+\.rt)", line) if not (ROOT / f"crates/{other}/{file}").exists())
+                    for other, file in re.findall(r"`?(mc_\w+)`?, `?(src/[\w/]+\.rt)", line) if not (ROOT / f"crates/{other}/{file}").exists())
     for path in tracked():
         if path.endswith((".rt", ".py", ".antt", "Makefile", ".sh")) and not path.startswith("docs/"):
             yield from (f"{path}: there is no {name}" for name in re.findall(r"\bdocs/[\w-]+\.md", read(path)) if not (ROOT / name).exists())

@@ -54,7 +54,7 @@ def tests_to_refuse():
             listed = listed_by(program)
             made += [Refused(crate, it) for it in listed if MODULE in it.split("::") and it not in more]
             made += [Refused(crate, it, None if it in listed else f"there is no test {it}") for it in more]
-        elif more or os.path.exists(f"{ROOT}/crates/{crate}/src/{MODULE}.rt"):
+        elif more or os.path.exists(f"{ROOT}/crates/{crate}/src/tests/{MODULE}.rt"):
             made.append(Refused(crate, "tests", f"no program is at {program}: make crate C={crate} builds it"))
     return made
 

@@ -18,7 +18,7 @@
 //!
 //! Begin with `specs/Queues.antt` and `src/queue.rt`.
 //!
-//! Tests: mc_session_tests, src/parse_tests.rt.
+//! Tests: mc_session_tests, src/tests/parse_tests.rt.
 #![tactic(auto)]
 
 mod append;

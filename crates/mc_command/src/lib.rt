@@ -11,7 +11,7 @@
 //!
 //! Begin with `src/plain.rt`.
 //!
-//! Tests: mc_session_tests, src/plain_tests.rt.
+//! Tests: mc_session_tests, src/tests/plain_tests.rt.
 #![tactic(auto)]
 
 mod plain;

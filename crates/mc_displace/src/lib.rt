@@ -16,7 +16,7 @@
 //!
 //! Begin with `specs/Moves.antt` and `src/displace.rt`.
 //!
-//! Tests: mc_grow_tests, src/displace_tests.rt.
+//! Tests: mc_grow_tests, src/tests/displace_tests.rt.
 #![tactic(auto)]
 
 mod displace;

@@ -23,7 +23,7 @@
 //! Begin with `specs/Indexes.antt` and `src/index.rt`; then `src/moving.rt` (how entries come to a
 //! table), `src/parts.rt` (each part by itself) and `src/strays.rt`.
 //!
-//! Tests: mc_grow_tests, src/index_tests.rt.
+//! Tests: mc_grow_tests, src/tests/index_tests.rt.
 #![tactic(auto)]
 
 mod adding;

@@ -8,20 +8,6 @@
 //! (`mc_grow`), and streams (`mc_testing`). What tests of an index share is `src/marked.rt`.
 #![tactic(auto)]
 
-#[cfg(test)]
-mod displace_tests;
-#[cfg(test)]
-mod growth_tests;
-#[cfg(test)]
-mod hash_tests;
-#[cfg(test)]
-mod hop_tests;
-#[cfg(test)]
-mod index_tests;
-#[cfg(test)]
-mod lag_tests;
 mod marked;
 #[cfg(test)]
-mod random_tests;
-#[cfg(test)]
-mod stream_tests;
+mod tests;

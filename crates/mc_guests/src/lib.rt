@@ -21,7 +21,7 @@
 //!
 //! Begin with `specs/Visits.antt`, `src/guest.rt` and `src/guests.rt`.
 //!
-//! Tests: mc_guests_tests, src/visit_tests.rt.
+//! Tests: mc_guests_tests, src/tests/visit_tests.rt.
 #![tactic(auto)]
 
 mod budget;

@@ -7,18 +7,10 @@
 //! announce blocks (`src/lines.rt`), and guests with their store (`src/halls.rt`).
 #![tactic(auto)]
 
-#[cfg(test)]
-mod budget_tests;
 mod counting;
-#[cfg(test)]
-mod door_tests;
-#[cfg(test)]
-mod gathering_tests;
 #[cfg(test)]
 mod halls;
 #[cfg(test)]
 mod lines;
 #[cfg(test)]
-mod visit_tests;
-#[cfg(test)]
-mod waiting_tests;
+mod tests;

@@ -20,7 +20,7 @@
 //!
 //! Begin with `specs/Tables.antt` and `src/table.rt`; how a bucket is stored is `src/cells.rt`.
 //!
-//! Tests: mc_grow_tests, src/hop_tests.rt.
+//! Tests: mc_grow_tests, src/tests/hop_tests.rt.
 #![tactic(auto)]
 
 mod bits;

@@ -22,7 +22,7 @@
 //!
 //! Begin with `specs/Ends.antt` and `src/end.rt`, then `src/binding.rt`.
 //!
-//! Tests: mc_server_tests, src/session_tests.rt.
+//! Tests: mc_server_tests, src/tests/session_tests.rt.
 #![tactic(auto)]
 
 mod binding;

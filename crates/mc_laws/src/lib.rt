@@ -8,7 +8,7 @@
 //!
 //! Begin with `specs/Laws.antt` and `src/laws.rt`. The tests check the laws with callers that meet.
 //!
-//! Tests: mc_shared_tests, src/law_tests.rt.
+//! Tests: mc_shared_tests, src/tests/law_tests.rt.
 #![tactic(auto)]
 
 mod laws;

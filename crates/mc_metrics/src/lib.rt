@@ -20,7 +20,7 @@
 //! Begin with `specs/Pages.antt`, `src/page.rt` and `src/reading.rt`; then `specs/Scrapes.antt`,
 //! `specs/Access.antt` and `src/request.rt`.
 //!
-//! Tests: mc_server_tests, src/telemetry_tests.rt.
+//! Tests: mc_server_tests, src/tests/telemetry_tests.rt.
 #![tactic(auto)]
 
 mod access;

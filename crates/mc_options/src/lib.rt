@@ -18,7 +18,7 @@
 //!
 //! Begin with `specs/Asked.antt` and `src/options.rt`.
 //!
-//! Tests: mc_server_tests, src/session_tests.rt.
+//! Tests: mc_server_tests, src/tests/session_tests.rt.
 #![tactic(auto)]
 
 mod endpoints;

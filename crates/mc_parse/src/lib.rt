@@ -24,7 +24,7 @@
 //!
 //! Begin with `specs/Lines.antt` and `src/line.rt` for the grammar, `src/feed.rt` for the stream.
 //!
-//! Tests: mc_session_tests, src/parse_tests.rt.
+//! Tests: mc_session_tests, src/tests/parse_tests.rt.
 #![tactic(auto)]
 
 mod ahead;

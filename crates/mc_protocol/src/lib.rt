@@ -21,7 +21,7 @@
 //!
 //! Begin with `src/command.rt`, `specs/Plain.antt` and `src/row.rt`.
 //!
-//! Tests: mc_session_tests, src/parse_line_tests.rt.
+//! Tests: mc_session_tests, src/tests/parse_line_tests.rt.
 #![tactic(auto)]
 
 mod answer;

@@ -19,7 +19,7 @@
 //!
 //! Begin with `specs/Texts.antt` and `src/texts.rt`.
 //!
-//! Tests: mc_session_tests, src/reply_tests.rt.
+//! Tests: mc_session_tests, src/tests/reply_tests.rt.
 #![tactic(auto)]
 
 mod around;

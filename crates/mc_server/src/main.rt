@@ -18,7 +18,7 @@
 //!
 //! Begin with `running.rt`, `serving.rt` and `listening.rt`.
 //!
-//! Tests: mc_server_tests, src/tcp_tests.rt.
+//! Tests: mc_server_tests, src/tests/tcp_tests.rt.
 #![tactic(auto)]
 
 ghost use Rattle.std.specs.Prelude.{◌≡◌};

@@ -8,19 +8,9 @@
 //! They are a crate of their own, so that the libraries aren't proved a second time with them, and
 //! make public calls alone. No program uses it.
 //!
-//! Begin with `src/session_tests.rt` and `src/tcp_tests.rt`.
+//! Begin with `src/tests/session_tests.rt` and `src/tests/tcp_tests.rt`.
 #![tactic(auto)]
 
-#[cfg(test)]
-mod idle_tests;
-#[cfg(test)]
-mod lines_tests;
-#[cfg(test)]
-mod quit_tests;
-#[cfg(test)]
-mod session_tests;
 mod settings;
 #[cfg(test)]
-mod tcp_tests;
-#[cfg(test)]
-mod telemetry_tests;
+mod tests;

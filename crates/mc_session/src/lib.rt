@@ -22,7 +22,7 @@
 //!
 //! Begin with `specs/Turns.antt` and `src/session.rt`; the loop is `src/rounds.rt`.
 //!
-//! Tests: mc_session_tests, src/session_tests.rt.
+//! Tests: mc_session_tests, src/tests/session_tests.rt.
 #![tactic(auto)]
 
 mod after_turn;

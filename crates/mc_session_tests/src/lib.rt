@@ -15,22 +15,6 @@
 mod checks;
 #[cfg(test)]
 mod feeds;
-#[cfg(test)]
-mod hit_tests;
-#[cfg(test)]
-mod lent_tests;
-#[cfg(test)]
-mod parse_line_tests;
-#[cfg(test)]
-mod parse_tests;
-#[cfg(test)]
-mod plain_tests;
-#[cfg(test)]
-mod reply_tests;
-#[cfg(test)]
-mod rows_tests;
-#[cfg(test)]
-mod session_tests;
-#[cfg(test)]
-mod spares_tests;
 mod stores;
+#[cfg(test)]
+mod tests;

@@ -11,34 +11,10 @@
 //! `must-fail/` changes.
 #![tactic(auto)]
 
-#[cfg(test)]
-mod absent_tests;
 mod asked;
-#[cfg(test)]
-mod busy_tests;
-#[cfg(test)]
-mod flush_tests;
-#[cfg(test)]
-mod gate_tests;
-#[cfg(test)]
-mod growth_tests;
-#[cfg(test)]
-mod join_tests;
-#[cfg(test)]
-mod law_tests;
-#[cfg(test)]
-mod lent_tests;
-#[cfg(test)]
-mod presence_tests;
 #[cfg(test)]
 mod sole;
 #[cfg(test)]
-mod step_tests;
-#[cfg(test)]
 mod stores;
 #[cfg(test)]
-mod survey_tests;
-#[cfg(test)]
-mod telling_tests;
-#[cfg(test)]
-mod thread_tests;
+mod tests;

@@ -22,7 +22,7 @@
 //! Begin with `specs/States.antt` and `specs/Plans.antt`, then `src/shelf.rt`, `src/plan.rt` (what
 //! a step needs) and `src/write.rt` (a write with the desk).
 //!
-//! Tests: mc_shelf_tests, src/store_tests.rt.
+//! Tests: mc_shelf_tests, src/tests/store_tests.rt.
 #![tactic(auto)]
 
 mod aside;

@@ -8,35 +8,21 @@
 //! which changes nothing and takes no memory (`src/seen.rt`). A step in two parts, and a flush that
 //! lays the shelves aside, work the same way (`src/parted.rt`, `src/aside.rt`).
 //!
-//! Begin with `src/store_tests.rt`. `src/compare_tests.rt` has random steps, with the plain store's
+//! Begin with `src/tests/store_tests.rt`. `src/tests/compare_tests.rt` has random steps, with the plain store's
 //! replies.
 #![tactic(auto)]
 
 #[cfg(test)]
 mod aside;
 #[cfg(test)]
-mod aside_tests;
-#[cfg(test)]
 mod both;
 #[cfg(test)]
-mod compare_tests;
-#[cfg(test)]
-mod lag_tests;
-#[cfg(test)]
 mod lengths;
-#[cfg(test)]
-mod number_tests;
-#[cfg(test)]
-mod overwrite_tests;
-#[cfg(test)]
-mod paged_tests;
 mod parted;
 #[cfg(test)]
 mod plays;
 #[cfg(test)]
 mod seen;
-#[cfg(test)]
-mod settings_tests;
-#[cfg(test)]
-mod store_tests;
 mod stores;
+#[cfg(test)]
+mod tests;

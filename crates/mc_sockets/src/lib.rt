@@ -22,7 +22,7 @@
 //!
 //! Begin with `src/channel.rt`, `src/readiness.rt` and `src/links.rt`.
 //!
-//! Tests: mc_server_tests, src/lines_tests.rt.
+//! Tests: mc_server_tests, src/tests/lines_tests.rt.
 #![tactic(auto)]
 
 mod accepting;

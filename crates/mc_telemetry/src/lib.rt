@@ -23,7 +23,7 @@
 //! Begin with `specs/Counting.antt`, `specs/Labels.antt` and `src/stats.rt`, then `src/scrape.rt`
 //! and `src/logger.rt`.
 //!
-//! Tests: mc_server_tests, src/telemetry_tests.rt.
+//! Tests: mc_server_tests, src/tests/telemetry_tests.rt.
 #![tactic(auto)]
 
 mod counting;

@@ -16,11 +16,11 @@
 //!
 //! It has hardly any contracts, and is proved safe as all else is. It uses only mc_time, mc_hop and
 //! mc_protocol, so that tests of every store can use it. The rows of the plain store are in
-//! `mc_session_tests` (`src/rows_tests.rt`).
+//! `mc_session_tests` (`src/tests/rows_tests.rt`).
 //!
 //! Begin with `src/streams.rt`, `src/marks.rt` and `src/steps.rt`.
 //!
-//! Tests: mc_grow_tests, src/stream_tests.rt; mc_session_tests, src/rows_tests.rt.
+//! Tests: mc_grow_tests, src/tests/stream_tests.rt; mc_session_tests, src/tests/rows_tests.rt.
 #![tactic(auto)]
 
 mod calls;

@@ -22,7 +22,7 @@
 //!
 //! Begin with `src/expiry.rt` and `specs/Death.antt`, then `src/steady.rt`.
 //!
-//! Tests: mc_session_tests, src/rows_tests.rt; mc_time_tests, src/steady_tests.rt.
+//! Tests: mc_session_tests, src/tests/rows_tests.rt; mc_time_tests, src/steady_tests.rt.
 #![tactic(auto)]
 
 mod clock;

@@ -15,7 +15,7 @@
 //!
 //! Begin with `specs/Rounds.antt` and `src/worker.rt`.
 //!
-//! Tests: mc_workers_tests, src/worker_tests.rt.
+//! Tests: mc_workers_tests, src/tests/worker_tests.rt.
 #![tactic(auto)]
 
 mod counting;

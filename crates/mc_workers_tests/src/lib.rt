@@ -8,17 +8,11 @@
 //! They are a crate of their own, so that the library isn't proved a second time with them. No
 //! program uses this crate.
 //!
-//! Begin with `src/held.rt`, `src/serving.rt` and `src/worker_tests.rt`.
+//! Begin with `src/held.rt`, `src/serving.rt` and `src/tests/worker_tests.rt`.
 #![tactic(auto)]
 
-#[cfg(test)]
-mod counting_tests;
-#[cfg(test)]
-mod gate_tests;
 mod held;
 #[cfg(test)]
 mod serving;
 #[cfg(test)]
-mod tidying_tests;
-#[cfg(test)]
-mod worker_tests;
+mod tests;

@@ -23,7 +23,7 @@
 //!
 //! Begin with `specs/Worlds.antt`, `src/event.rt` and `src/world.rt`; then `src/serving.rt`.
 //!
-//! Tests: mc_world_tests, src/event_tests.rt.
+//! Tests: mc_world_tests, src/tests/event_tests.rt.
 #![tactic(auto)]
 
 mod event;

@@ -7,33 +7,19 @@
 //! They are a crate of their own, so that the library isn't proved a second time with them. No
 //! program uses this crate.
 //!
-//! Begin with `src/worlds.rt` and `src/event_tests.rt`.
+//! Begin with `src/worlds.rt` and `src/tests/event_tests.rt`.
 #![tactic(auto)]
 
 #[cfg(test)]
 mod acts;
 #[cfg(test)]
-mod event_tests;
-#[cfg(test)]
-mod growth_tests;
-#[cfg(test)]
-mod hostile_tests;
-#[cfg(test)]
-mod large_tests;
-#[cfg(test)]
-mod refusal_tests;
-#[cfg(test)]
-mod room_tests;
-#[cfg(test)]
 mod runs;
-#[cfg(test)]
-mod serving_tests;
 #[cfg(test)]
 mod set_ups;
 #[cfg(test)]
-mod texts;
+mod tests;
 #[cfg(test)]
-mod through_tests;
+mod texts;
 #[cfg(test)]
 mod told;
 mod worlds;

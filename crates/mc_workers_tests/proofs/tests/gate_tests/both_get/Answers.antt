@@ -7,8 +7,8 @@ use Rattle.mc_workers_tests.specs.contracts.held.Seen as seen
 use Rattle.mc_workers_tests.proofs.held.Seen.TheSendSync as seens
 use Rattle.mc_guests.proofs.guests.WorkEnd.TheSendSync as ends
 use Rattle.mc_workers_tests.specs.contracts.gate_tests.HoldsShelf as gate
-use Rattle.mc_workers_tests.proofs.gate_tests.HoldsShelf.TheSendSync as gates
-use Rattle.mc_workers_tests.proofs.gate_tests.both_get.Goals as goal
+use Rattle.mc_workers_tests.proofs.tests.gate_tests.HoldsShelf.TheSendSync as gates
+use Rattle.mc_workers_tests.proofs.tests.gate_tests.both_get.Goals as goal
 
 hasher_sync : IsSync fnv.the_row
 hasher_sync = search sendable

@@ -5,7 +5,7 @@
 
 use crate::plays::are_answered;
 use crate::seen::account;
-use crate::store_tests::answers;
+use crate::tests::store_tests::answers;
 use crate::stores::{open, small_items};
 use mc_hop::Fnv;
 use mc_protocol::{Bytes, KeyStep, Reply, Verb};

@@ -1,6 +1,6 @@
 use Rattle.std.proofs.Common.{sym, subst}
 use Rattle.mc_laws.specs.Laws.{HasDrawnNumbers}
-use Rattle.mc_shared_tests.proofs.law_tests.empty_store.Goals as goal
+use Rattle.mc_shared_tests.proofs.tests.law_tests.empty_store.Goals as goal
 
 pub returns : goal.returns
 returns c =

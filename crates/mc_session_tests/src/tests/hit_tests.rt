@@ -4,7 +4,7 @@ ghost use Rattle.std.specs.Prelude.{◌≡◌, refl, OnOk, OnErr};
 ghost use Rattle.mc_protocol.specs.declared.reply.Reply.{Reply as Told};
 
 use crate::checks::are_bytes_at;
-use crate::session_tests::RUNS;
+use crate::tests::session_tests::RUNS;
 use mc_command::PlainStore;
 use mc_protocol::{Answer, Bytes, KeyStep, Reply, StepFault, Steps, Unanswered};
 use mc_session::{Session, Turn, TurnFault};

@@ -2,7 +2,7 @@
 
 use crate::lengths::{ByLength, front, set_key};
 use crate::seen::{counts, dead_chunks, keys, reclaimed};
-use crate::store_tests::answers;
+use crate::tests::store_tests::answers;
 use crate::stores::open_with;
 use mc_hop::{Constant, KeyHash};
 use mc_protocol::Verb;

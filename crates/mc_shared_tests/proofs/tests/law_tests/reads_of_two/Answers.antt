@@ -1,6 +1,6 @@
 use Rattle.mc_shared.specs.History.{start_of}
 use Rattle.mc_shared_tests.proofs.LawUses.{reads_of_two}
-use Rattle.mc_shared_tests.proofs.law_tests.reads_of_two.Goals as goal
+use Rattle.mc_shared_tests.proofs.tests.law_tests.reads_of_two.Goals as goal
 
 pub returns : goal.returns
 returns g c =
