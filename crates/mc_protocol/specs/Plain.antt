@@ -390,12 +390,5 @@ coded_plain =
     (coded× coded_ℕ (coded× coded_ℕ (coded× (code (coded_list coded_ℕ) coded_entry)
     (coded× (coded_option coded_ℕ) (coded× coded_ℕ (coded_list coded_ℕ))))))
     (λ s. (s.greatest, (s.limit, (s.items, (s.cut, (s.next_unique, s.pages))))))
-    (λ p. record {
-      greatest = p.0;
-      limit = p.1.0;
-      items = p.1.1.0;
-      cut = p.1.1.1.0;
-      next_unique = p.1.1.1.1.0;
-      pages = p.1.1.1.1.1;
-    })
+    (λ p. record { greatest = p.0; limit = p.1.0; items = p.1.1.0; cut = p.1.1.1.0; next_unique = p.1.1.1.1.0; pages = p.1.1.1.1.1 })
     (λ _. refl)
