@@ -16,7 +16,7 @@ use Rattle.mc_parse.proofs.CursorLemmas.{points_more}
 use Rattle.mc_parse.proofs.UnitLemmas.{none_in}
 
 -- bytes are passed over of what came first, and then of what came later
-passed_along : (n : ℕ) (first later : List ℕ) → (n < length first) ⊎ (length first ≤ n) → drop (n - length first) (drop n first ++ later) ≡ drop n (first ++ later)
+pub passed_along : (n : ℕ) (first later : List ℕ) → (n < length first) ⊎ (length first ≤ n) → drop (n - length first) (drop n first ++ later) ≡ drop n (first ++ later)
 passed_along n first later (inl within) =
     let none : n - length first ≡ 0 = omega arith in
     rw (none, drop-append-le n first later (omega arith)) refl
@@ -45,17 +45,19 @@ pub left_found : (greatest taken passed : ℕ) (bytes : List ℕ) (found : Optio
 left_found greatest taken passed bytes None h whole = tt
 left_found greatest taken passed bytes (Some (unit, len)) h whole = (h.0, record { unit = unit; spelled = h.1; left = sym (whole unit len h.1) })
 
+-- it doesn't matter whether what is to be passed over is dropped before more bytes come
+pub pushed_settled : (u : Unread) (more : List ℕ) → pushed (settled u) more ≡ pushed u more
+pushed_settled u more =
+    let count : (u.passed - length u.bytes) - length (drop u.passed u.bytes ++ more) ≡ u.passed - length (u.bytes ++ more) =
+    omega (arith, length-append u.bytes more, length-append (drop u.passed u.bytes) more, length-drop u.passed u.bytes) in
+    ap (λ n. unread u.greatest n (drop (u.passed - length u.bytes) (drop u.passed u.bytes ++ more))) count
+    ∙ ap (unread u.greatest (u.passed - length (u.bytes ++ more))) (passed_along u.passed u.bytes more (cases_lt u.passed (length u.bytes)))
+
 -- pieces that come one after another leave what they leave joined
 pub pushed_twice : (u : Unread) (piece more : List ℕ) → pushed (pushed u piece) more ≡ pushed u (piece ++ more)
 pushed_twice u piece more =
-    let first = u.bytes ++ piece in
-    let joined : first ++ more ≡ u.bytes ++ (piece ++ more) = append_assoc u.bytes piece more in
-    let count : (u.passed - length first) - length (drop u.passed first ++ more) ≡ u.passed - length (u.bytes ++ (piece ++ more)) =
-    omega (arith, ap length joined, length-append first more, length-append (drop u.passed first) more, length-drop u.passed first) in
-    let kept : drop (u.passed - length first) (drop u.passed first ++ more) ≡ drop u.passed (u.bytes ++ (piece ++ more)) =
-    passed_along u.passed first more (cases_lt u.passed (length first)) ∙ ap (drop u.passed) joined in
-    ap (λ n. unread u.greatest n (drop (u.passed - length first) (drop u.passed first ++ more))) count
-    ∙ ap (unread u.greatest (u.passed - length (u.bytes ++ (piece ++ more)))) kept
+    pushed_settled (unread u.greatest u.passed (u.bytes ++ piece)) more
+    ∙ ap (λ bytes. settled (unread u.greatest u.passed bytes)) (append_assoc u.bytes piece more)
 
 -- of what is settled no byte is unread while some are to be passed over
 settled_stays : (u : Unread) → (u.passed < length u.bytes) ⊎ (length u.bytes ≤ u.passed) → IsSettled (settled u)

@@ -284,7 +284,10 @@ fn keys_noted(text: &[u8], args: &[u8]) -> Result<KeySpan, LineFault>
         (λ fault. keys_formed (words args.now) ≡ Err fault) }
 {
     let keys = keys_formed(args)?;
-    Ok(KeySpan::new(text.len() - args.len(), keys.len()))
+    Ok(KeySpan {
+        from: text.len() - args.len(),
+        count: keys.len(),
+    })
 }
 
 /// Returns the keys that are the words of a text. There must be at least one.

@@ -52,16 +52,6 @@ pub struct KeySpan {
     pub(crate) count: usize,
 }
 
-impl KeySpan {
-    /// Returns the span of the `count` words behind the first `from` bytes.
-    pub(crate) fn new(from: usize, count: usize) -> KeySpan
-        ensures from { result.from ≡ from }
-        ensures count { result.count ≡ count }
-    {
-        KeySpan { from, count }
-    }
-}
-
 impl KeysPlace for KeySpan {
     ghost keys = { λ span text. keys_at text span };
 
