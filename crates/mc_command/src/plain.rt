@@ -136,12 +136,7 @@ impl PlainStore {
 // Steps, by the protocol's table.
 impl PlainStore {
     /// Takes a step. A step that writes no item and has no hit takes no memory.
-    fn perform(
-        &mut self,
-        alloc: Global,
-        step: &KeyStep<'_>,
-        now: Moment,
-    ) -> Result<Reply, StepFault>
+    fn take(&mut self, alloc: Global, step: &KeyStep<'_>, now: Moment) -> Result<Reply, StepFault>
         requires { length (key_of step.now) ≤ longest_key }
         ensures { Ends (plain self.old step.now now) result self.old self.new }
     {
@@ -275,6 +270,6 @@ impl Steps for PlainStore {
         ensures refused { result ≡ Err StepFault.NoMemory → MayFail (plain self.old step.now now) }
         ensures err { OnErr result (self.new ≡ self.old) }
     {
-        self.perform(alloc, step, now)
+        self.take(alloc, step, now)
     }
 }
