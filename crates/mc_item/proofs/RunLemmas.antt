@@ -344,10 +344,10 @@ Lies-written chunks new at part holds within keeps is =
     }
 
 -- all its parts
-pub concat-all : (item : ItemState) → IsItem item → (n : ℕ) → item.count ≤ n → concat (take n (parts_of item)) ≡ concat (parts_of item)
+pub concat-all : (item : ItemState) → IsItem item → (n : ℕ) → item.count ≤ n → concat (take n (parts_of item)) ≡ item.block
 concat-all item is n all =
     let parts = length-parts_of item is in
-    ap concat (take_all n (parts_of item) (omega arith))
+    ap concat (take_all n (parts_of item) (omega arith)) ∙ concat-parts_of item is
 
 -- an item whose block was filled from a place on, and is filled on
 pub fills-more : (old item : ItemState) (at place : ℕ) (done part all : List ℕ) → item ≡ record old { block = with_part old.block at done }

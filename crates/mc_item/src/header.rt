@@ -169,7 +169,7 @@ impl Header {
     }
 
     /// Returns the bytes of the header.
-    pub(crate) fn bytes(self) -> [u8; 48]
+    pub(crate) fn bytes(self) -> [u8; HEADER]
         ensures value { header_in result ≡ self }
         ensures latest { self.updated ≤ 2 ^ 62 }
     {

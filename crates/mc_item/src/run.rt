@@ -76,25 +76,10 @@ fn put_head(chunks: &mut Chunks, offset: usize, source: &[u8])
     chunks.write_head(offset, source);
 }
 
-/// Copies `source` to an offset in the bytes. The head in front of it is unchanged, and all of it
-/// from class 27 on.
+/// Copies `source` to an offset in the bytes, and returns at once if it is empty.
+///
+/// The head in front of the offset is unchanged, and all of it from class 27 on.
 fn put(chunks: &mut Chunks, offset: usize, source: &[u8])
-    requires are { AreChunks chunks.old }
-    requires room { offset + length source.now ≤ length chunks.old.bytes }
-    ensures head { KeepsHead chunks.old chunks.new offset }
-    ensures before { take (offset + length source.now) chunks.new.bytes
-        ≡ take offset chunks.old.bytes ++ source.now }
-    ensures behind { drop (offset + length source.now) chunks.new.bytes
-        ≡ drop (offset + length source.now) chunks.old.bytes }
-    ensures size { length chunks.new.bytes ≡ length chunks.old.bytes }
-    ensures need { need_in chunks.new ≡ need_in chunks.old }
-    ensures are { AreChunks chunks.new }
-{
-    chunks.write_at(offset, source);
-}
-
-/// Copies a source that is mostly empty to an offset, and returns at once if it is.
-fn put_more(chunks: &mut Chunks, offset: usize, source: &[u8])
     requires are { AreChunks chunks.old }
     requires room { offset + length source.now ≤ length chunks.old.bytes }
     ensures head { KeepsHead chunks.old chunks.new offset }
@@ -109,7 +94,7 @@ fn put_more(chunks: &mut Chunks, offset: usize, source: &[u8])
     if source.is_empty() {
         return;
     }
-    put(chunks, offset, source);
+    chunks.write_at(offset, source);
 }
 
 /// Writes the header. The bytes behind it are unchanged.
@@ -118,8 +103,8 @@ fn put_header(chunks: &mut Chunks, header: Header)
     requires room { header_size ≤ length chunks.old.head }
     ensures value { header_in chunks.new.head ≡ header }
     ensures latest { header.updated ≤ 2 ^ 62 }
-    ensures behind { drop 48 chunks.new.head ≡ drop 48 chunks.old.head }
-    ensures bytes { KeepsBytes chunks.old chunks.new 48 }
+    ensures behind { drop header_size chunks.new.head ≡ drop header_size chunks.old.head }
+    ensures bytes { KeepsBytes chunks.old chunks.new header_size }
     ensures head { length chunks.new.head ≡ length chunks.old.head }
     ensures size { length chunks.new.bytes ≡ length chunks.old.bytes }
     ensures need { need_in chunks.new ≡ need_in chunks.old }
@@ -163,7 +148,7 @@ fn put_block(chunks: &mut Chunks, offset: usize, first: &[u8], second: &[u8], le
     if take_over(chunks, first, second, lent) {
         return;
     }
-    put_more(chunks, offset, first);
+    put(chunks, offset, first);
     put(chunks, offset + first.len(), second);
 }
 
@@ -321,16 +306,8 @@ pub(crate) fn part_of(chunks: &Chunks, at: usize) -> &[u8]
     ensures value { slice_get (parts_of (item_in chunks.now)) at ≡ Some result.now }
     ensures lone { chunks.now.count ≡ 1 → result.now ≡ block_in chunks.now }
 {
-    let head = front(chunks);
-    let start = block_start(chunks, key_length_in(head) as usize);
-    let end = start + block_length_in(head) as usize;
-    if at == 0 {
-        let first = chunks.first();
-        return &first[start..usize::min(end, first.len())];
-    }
-    let chunk = chunks.part(at);
-    let left = end.saturating_sub(at * chunk.len());
-    &chunk[..usize::min(left, chunk.len())]
+    let (from, to) = ends_of_part(chunks, at);
+    &chunks.part(at)[from..to]
 }
 
 /// Lends the part of the item's block in the chunk at a place for as long as the result is there.

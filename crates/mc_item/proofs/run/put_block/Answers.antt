@@ -13,9 +13,9 @@ overflow_add-offset c =
 
 pub returns-clause-head : goal.returns-clause-head
 returns-clause-head c =
-    let first = subst (λ (s : ChunksState). KeepsHead s c.put_more.new.chunks c.args.offset) (c.if-take_over.ensures.kept refl) c.put_more.ensures.head in
-    KeepsHead-twice c.args.chunks.now c.put_more.new.chunks c.put.new.chunks c.args.offset _ (c.put_more.ensures.need ∙ ap need_in (c.if-take_over.ensures.kept refl)) (omega arith) first
-    c.put.ensures.head
+    let first = subst (λ (s : ChunksState). KeepsHead s c.put.new.chunks c.args.offset) (c.if-take_over.ensures.kept refl) c.put.ensures.head in
+    KeepsHead-twice c.args.chunks.now c.put.new.chunks c.put-2.new.chunks c.args.offset _ (c.put.ensures.need ∙ ap need_in (c.if-take_over.ensures.kept refl)) (omega arith) first
+    c.put-2.ensures.head
 
 pub returns-clause-block : goal.returns-clause-block
 returns-clause-block c =
@@ -26,9 +26,9 @@ returns-clause-block c =
     let kept : length c.take_over.new.chunks.bytes ≡ length c.args.chunks.now.bytes = ap (λ (s : ChunksState). length s.bytes) (c.if-take_over.ensures.kept refl) in
     let room = c.requires.room in
     let place : start + length block ≡ start + length c.args.first.now + length c.args.second.now = omega arith in
-    let run : take (start + length c.args.first.now + length c.args.second.now) c.put.new.chunks.bytes ≡ (front ++ c.args.first.now) ++ c.args.second.now =
-    c.put.ensures.before ∙ ap (λ (l : List ℕ). l ++ c.args.second.now) c.put_more.ensures.before in
+    let run : take (start + length c.args.first.now + length c.args.second.now) c.put-2.new.chunks.bytes ≡ (front ++ c.args.first.now) ++ c.args.second.now =
+    c.put-2.ensures.before ∙ ap (λ (l : List ℕ). l ++ c.args.second.now) c.put.ensures.before in
     let long : length front ≡ start = length-take-le start c.take_over.new.chunks.bytes (omega arith) in
-    ap (λ (n : ℕ). take n (drop start c.put.new.chunks.bytes)) (sym size)
-    ∙ behind_at start front block c.put.new.chunks.bytes long
-    (ap (λ (n : ℕ). take n c.put.new.chunks.bytes) place ∙ run ∙ append_assoc front c.args.first.now c.args.second.now)
+    ap (λ (n : ℕ). take n (drop start c.put-2.new.chunks.bytes)) (sym size)
+    ∙ behind_at start front block c.put-2.new.chunks.bytes long
+    (ap (λ (n : ℕ). take n c.put-2.new.chunks.bytes) place ∙ run ∙ append_assoc front c.args.first.now c.args.second.now)

@@ -33,9 +33,5 @@ loop-index-preserved c =
     }
 
 pub returns-clause-ok : goal.returns-clause-ok
-returns-clause-ok c =
-    let count = c.parts-parts.ensures.value in
-    let end = c.loop-index-test.false in
-    let all : concat (take c.loop-index.index (parts_of c.args.self.now)) ≡ c.args.self.now.block =
-    concat-all c.args.self.now c.parts-parts.ensures.is_item c.loop-index.index (omega arith) ∙ c.parts-parts.ensures.joined in
-    c.loop-index.invariant.items ∙ ap (λ (l : List ℕ). c.args.out.now.items ++ l) all
+returns-clause-ok c = c.loop-index.invariant.items
+    ∙ ap (λ (l : List ℕ). c.args.out.now.items ++ l) (concat-all c.args.self.now c.parts-parts.ensures.is_item c.loop-index.index (omega (arith, c.parts-parts.ensures.value, c.loop-index-test.false)))

@@ -58,12 +58,9 @@ loop-index-preserved c =
     }
 
 pub returns-clause-value : goal.returns-clause-value
-returns-clause-value c =
-    let count = c.parts-count.ensures.value in
-    let end = c.loop-index-test.false in
-    let all : concat (take c.loop-index.index (parts_of c.args.other.now)) ≡ c.args.other.now.block =
-    concat-all c.args.other.now c.parts-count.ensures.is_item c.loop-index.index (omega arith) ∙ c.parts-count.ensures.joined in
-    c.loop-index.invariant.filled ∙ ap (λ (b : List ℕ). record c.args.self.now { block = with_part c.args.self.now.block c.args.at b }) all
+returns-clause-value c = c.loop-index.invariant.filled
+    ∙ ap (λ (b : List ℕ). record c.args.self.now { block = with_part c.args.self.now.block c.args.at b })
+    (concat-all c.args.other.now c.parts-count.ensures.is_item c.loop-index.index (omega (arith, c.parts-count.ensures.value, c.loop-index-test.false)))
 
 pub returns-clause-is_item : goal.returns-clause-is_item
 returns-clause-is_item c =
