@@ -2,9 +2,8 @@
 use Rattle.std.proofs.Common.{◌≡◌, ℕ, zero, suc, ◌+◌, ◌-◌, ◌*◌, ◌<◌, ◌≤◌, List, [], ◌∷◌, ◌++◌, length, take, drop, Some, refl, sym, ap, ◌∙◌, append_assoc, min, None, arith}
 use Rattle.std.specs.Prelude.{slice_get}
 use Rattle.std.specs.List.{concat}
-use Rattle.std.proofs.lemmas.List.{append-nil, length-append, length-drop, length-take-le, take_all, take_at, take-take, drop_at, drop-drop, drop-take, drop-append-le}
+use Rattle.std.proofs.lemmas.List.{append-nil, length-append, length-drop, length-take-le, take_all, take_at, take-take, drop_at, drop-drop}
 use Rattle.std.proofs.lemmas.List.{take-append-le, take-append-drop, nil_from_length}
-use Rattle.std.proofs.Math.Seq.{take-append-add}
 use Rattle.std.proofs.Math.Nat.{suc-mul}
 use Rattle.mc_slab.specs.Chunks.{with_part}
 use Rattle.mc_slab.proofs.BlockLemmas.{drop-take-sub}

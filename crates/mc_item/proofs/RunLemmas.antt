@@ -1,10 +1,9 @@
 -- What a run of bytes shows in which a header, a key and a block were written.
-use Rattle.std.proofs.Common.{◌≡◌, ◌⊎◌, ℕ, ◌+◌, ◌-◌, ◌*◌, ◌^◌, ◌<◌, ◌≤◌, zero, suc, inl, inr, List, ◌++◌, length, take, drop, refl, sym, ap, subst, ◌∙◌, append_assoc, min, Some, arith}
+use Rattle.std.proofs.Common.{◌≡◌, ◌⊎◌, ℕ, ◌+◌, ◌-◌, ◌*◌, ◌^◌, ◌<◌, ◌≤◌, zero, suc, inl, inr, List, ◌++◌, length, take, drop, refl, sym, ap, subst, ◌∙◌, min, Some, arith}
 use Rattle.std.proofs.lemmas.Nat.{mul-le}
 use Rattle.std.proofs.Math.Nat.{suc-mul}
 use Rattle.std.proofs.lemmas.Bool.{cases_lt}
 use Rattle.std.proofs.lemmas.List.{length-take-le, length-drop, take_all, take_at, drop_at, drop-append-le, drop-take, take-take}
-use Rattle.std.proofs.Math.Seq.{take-add}
 use Rattle.byteorder.specs.Numbers.{little_from-take}
 use Rattle.mc_slab.specs.Classes.{size_of}
 use Rattle.mc_slab.specs.Needs.{NeedState, size_in}
