@@ -7,7 +7,7 @@ use Rattle.std.specs.List.{AllByRecursion}
 use Rattle.std.specs.Str.Lines.{strip_carriage_return}
 use Rattle.mc_protocol.specs.Words.{words}
 use Rattle.mc_protocol.specs.declared.fault.LineFault.{LineFault}
-use Rattle.std.proofs.Common.{true, false}
+use Rattle.std.proofs.Common.{true, false, if◌then◌else◌}
 use Rattle.std.specs.Str.{bytes_eq}
 use Rattle.mc_protocol.specs.declared.fault.LineFault.TheVariants.{BadChunk}
 use Rattle.mc_protocol.specs.Commands.{block_in}
@@ -101,6 +101,11 @@ stored_whole head block ended is = rw is refl
 pub stored_fault : (head : Line) (block ended : List ℕ) → bytes_eq ended (13 ∷ 10 ∷ []) ≡ false → Fault BadChunk ≡ stored head block ended
 stored_fault head block ended isnt = rw isnt refl
 
+-- what a line with its block spells is a set or a fault
+Spells_stored : (greatest : ℕ) (head : Line) (block ended front : List ℕ) → SpellsLine greatest (stored head block ended) front → Spells greatest (stored head block ended) front
+Spells_stored greatest head block ended front = elim (bytes_eq ended (13 ∷ 10 ∷ [])) as (λ b. SpellsLine greatest (if b then Request (with_block head block) else Fault BadChunk) front
+    → Spells greatest (if b then Request (with_block head block) else Fault BadChunk) front) [ true ↦ λ s. s | false ↦ λ s. s ]
+
 -- The bytes begin with a line whose line feed is at end.
 module _ (greatest : ℕ) (bytes : List ℕ) (end : ℕ) (line : IsLine (take (end + 1) bytes) (take end bytes)) where
   abbrev meant : Result Line LineFault
@@ -144,6 +149,18 @@ module _ (greatest : ℕ) (bytes : List ℕ) (end : ℕ) (line : IsLine (take (e
         ap length e ∙ length-take-le 2 (drop len rest) (omega (arith, length-drop len rest)),
         u,
       )))
+
+  -- so it is found
+  pub finds_block : (head : Line) (len : ℕ) (rest block ended : List ℕ) (unit : ProtocolUnit) → meant ≡ Ok head → block_in head ≡ Some len
+      → rest ≡ drop (end + 1) bytes → len + 2 ≤ length rest → block ≡ take len rest → ended ≡ take 2 (drop len rest) → unit ≡ stored head block ended
+      → IsSpelled greatest (unit, end + 1 + (len + 2)) bytes
+  finds_block head len rest block ended unit is its r enough b e u =
+      let front : List ℕ = take (end + 1 + (len + 2)) bytes in
+      let line_is : SpellsLine greatest (stored head block ended) front = spells_block head len rest block ended (stored head block ended) is its r enough b e refl in
+      record {
+        within = omega (arith, ap length r, length-drop (end + 1) bytes);
+        spelled = subst (λ v. Spells greatest v front) (sym u) (Spells_stored greatest head block ended front line_is);
+      }
 
   none_of : (unit : ProtocolUnit) (front more : List ℕ) (head : Line) (len : ℕ) → meant ≡ Ok head → block_in head ≡ Some len
       → length (drop (end + 1) bytes) < len + 2 → bytes ≡ front ++ more → SpellsLine greatest unit front → ⊥
