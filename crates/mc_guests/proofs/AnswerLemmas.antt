@@ -46,6 +46,17 @@ split_out session written part rest parts =
 same_out : (old new : List ℕ) → new ≡ old → [] ++ new ≡ old ++ []
 same_out old new is = is ∙ sym (append-nil old)
 
+-- these bytes more were given, and these were taken
+abbrev Grows : (old new : LinkState) (piece part : List ℕ) → Type 0
+Grows old new piece part = (new.given ≡ grown old.given piece) × (new.taken ≡ grown old.taken part)
+
+-- a link that is as another that gave and took as much as this one
+stays : (old same new : LinkState) → new ≡ same → same.given ≡ old.given → same.taken ≡ old.taken → Grows old new [] []
+stays old same new is given taken = (
+  ap (λ (l : LinkState). l.given) is ∙ given ∙ sym (grown_nothing old.given),
+  ap (λ (l : LinkState). l.taken) is ∙ taken ∙ sym (grown_nothing old.taken),
+)
+
 module _ {S : Type 0} (relations : Relations S) where
   step_anywhere : (command : Command) (at : ℕ) (step : KeyStep) (now : ℕ) (before after : S) (text : List ℕ)
       → AnswersStep relations command at step now before after text → AnswersStep any_store command at step now tt tt text
@@ -68,18 +79,9 @@ module _ {S : Type 0} (relations : Relations S) where
   -- a turn is one of any store
   turn_anywhere : (now : ℕ) (old new : SessionState) (before after : S)
       → TakesTurn relations now old new before after → TakesTurn any_store now old new tt tt
-  turn_anywhere now old new before after takes = record {
-    unit = takes.unit;
-    front = takes.front;
-    rest = takes.rest;
-    text = takes.text;
-    opens = takes.opens;
-    parts = takes.parts;
-    spelled = takes.spelled;
-    due = takes.due;
-    answers = answer_anywhere takes.unit old.taken now before after takes.text takes.answers;
-    moves = takes.moves;
-  }
+  turn_anywhere now old new before after t =
+      let answers = answer_anywhere t.unit old.taken now before after t.text t.answers in
+      record { unit = t.unit; front = t.front; rest = t.rest; text = t.text; opens = t.opens; parts = t.parts; spelled = t.spelled; due = t.due; answers = answers; moves = t.moves }
 
   module _ (greatest : ℕ) where
     -- these turns lead from the stream that was given to this session, with what was taken in front
@@ -251,75 +253,46 @@ module _ {S : Type 0} (relations : Relations S) where
       ∙ append_assoc old.session.out (texts relations earlier) (texts relations more)
       ∙ ap (λ l. old.session.out ++ l) (sym (texts_append relations earlier more))
 
-  -- what the link shows grows by what one visit read
-  visit_given : (now : ℕ) (answer : Visit) (old new : GuestState) (before after : S)
+  -- what the link shows grows by what one visit read, and by what it wrote
+  visit_grows : (now : ℕ) (answer : Visit) (old new : GuestState) (before after : S)
       → (visited : Visited relations now answer old new before after)
-      → new.link.given ≡ grown old.link.given (piece_of relations now answer old new before after visited)
-  visit_given now answer old new before after (inl ended) =
-      ap (λ (g : GuestState). g.link.given) ended.guest ∙ sym (grown_nothing old.link.given)
-  visit_given now Wrote old new before after (inr due) =
-      ap (λ (l : LinkState). l.given) due.does.0.link ∙ sym (grown_nothing old.link.given)
-  visit_given now Turned old new before after (inr due) =
-      ap (λ (l : LinkState). l.given) due.does.link ∙ sym (grown_nothing old.link.given)
-  visit_given now Read old new before after (inr due) = ap (λ (l : LinkState). l.given) due.does.0.link
-  visit_given now Later old new before after (inr due) =
-      ap (λ (l : LinkState). l.given) due.does.0.link ∙ sym (grown_nothing old.link.given)
-  visit_given now Served old new before after (inr due) =
-      elim due.does.0.over [
-        | inl closed_before ↦ ap (λ (l : LinkState). l.given) closed_before.1
-        | inr waits ↦ ap (λ (l : LinkState). l.given) waits.1
-      ] ∙ sym (grown_nothing old.link.given)
-  visit_given now Broken old new before after (inr due) =
-      ap (λ (l : LinkState). l.given) due.does.0.link ∙ sym (grown_nothing old.link.given)
-  visit_given now Refused old new before after (inr due) =
-      elim due.does [
-        | inl turn ↦ ap (λ (l : LinkState). l.given) turn.link
-        | inr piece ↦ ap (λ (l : LinkState). l.given) piece.0.link
-      ] ∙ sym (grown_nothing old.link.given)
+      → Grows old.link new.link (piece_of relations now answer old new before after visited) (part_of relations now answer old new before after visited)
+  visit_grows now answer old new before after (inl ended) = stays old.link _ new.link (ap (λ (g : GuestState). g.link) ended.guest) refl refl
+  visit_grows now Wrote old new before after (inr due) =
+      let is = due.does.0.link in (ap (λ (l : LinkState). l.given) is ∙ sym (grown_nothing old.link.given), ap (λ (l : LinkState). l.taken) is)
+  visit_grows now Turned old new before after (inr due) = stays old.link _ new.link due.does.link refl refl
+  visit_grows now Read old new before after (inr due) =
+      let is = due.does.0.link in (ap (λ (l : LinkState). l.given) is, ap (λ (l : LinkState). l.taken) is ∙ sym (grown_nothing old.link.taken))
+  visit_grows now Later old new before after (inr due) = stays old.link _ new.link due.does.0.link refl refl
+  visit_grows now Served old new before after (inr due) = elim due.does.0.over [
+    | inl closed_before ↦ stays old.link _ new.link closed_before.1 refl refl
+    | inr waits ↦ stays old.link _ new.link waits.1 refl refl
+  ]
+  visit_grows now Broken old new before after (inr due) = stays old.link _ new.link due.does.0.link refl refl
+  visit_grows now Refused old new before after (inr due) = elim due.does [
+    | inl turn ↦ stays old.link _ new.link turn.link refl refl
+    | inr piece ↦ stays old.link _ new.link piece.0.link refl refl
+  ]
+
+  visits_grow : (turns : List (TakenTurn relations)) (old new : GuestState) → (visits : Visits relations turns old new)
+      → Grows old.link new.link (bytes_given relations visits) (bytes_taken relations visits)
+  visits_grow turns old new nothing = (sym (grown_nothing old.link.given), sym (grown_nothing old.link.taken))
+  visits_grow turns old new (visit {turns = earlier} {old = mid} {before = before} {after = after} now answer visits visited) =
+      let piece = piece_of relations now answer mid new before after visited in
+      let part = part_of relations now answer mid new before after visited in
+      let one = visit_grows now answer mid new before after visited in
+      let all = visits_grow earlier old mid visits in (
+        one.0 ∙ ap (λ known. grown known piece) all.0 ∙ grown_twice old.link.given (bytes_given relations visits) piece,
+        one.1 ∙ ap (λ known. grown known part) all.1 ∙ grown_twice old.link.taken (bytes_taken relations visits) part,
+      )
 
   pub visits_given : (turns : List (TakenTurn relations)) (old new : GuestState) → (visits : Visits relations turns old new)
       → new.link.given ≡ grown old.link.given (bytes_given relations visits)
-  visits_given turns old new nothing = sym (grown_nothing old.link.given)
-  visits_given turns old new (visit {turns = earlier} {old = mid} {before = before} {after = after} now answer visits visited) =
-      let piece = piece_of relations now answer mid new before after visited in
-      visit_given now answer mid new before after visited
-      ∙ ap (λ known. grown known piece) (visits_given earlier old mid visits)
-      ∙ grown_twice old.link.given (bytes_given relations visits) piece
-
-  -- and by what it wrote
-  visit_taken : (now : ℕ) (answer : Visit) (old new : GuestState) (before after : S)
-      → (visited : Visited relations now answer old new before after)
-      → new.link.taken ≡ grown old.link.taken (part_of relations now answer old new before after visited)
-  visit_taken now answer old new before after (inl ended) =
-      ap (λ (g : GuestState). g.link.taken) ended.guest ∙ sym (grown_nothing old.link.taken)
-  visit_taken now Wrote old new before after (inr due) = ap (λ (l : LinkState). l.taken) due.does.0.link
-  visit_taken now Turned old new before after (inr due) =
-      ap (λ (l : LinkState). l.taken) due.does.link ∙ sym (grown_nothing old.link.taken)
-  visit_taken now Read old new before after (inr due) =
-      ap (λ (l : LinkState). l.taken) due.does.0.link ∙ sym (grown_nothing old.link.taken)
-  visit_taken now Later old new before after (inr due) =
-      ap (λ (l : LinkState). l.taken) due.does.0.link ∙ sym (grown_nothing old.link.taken)
-  visit_taken now Served old new before after (inr due) =
-      elim due.does.0.over [
-        | inl closed_before ↦ ap (λ (l : LinkState). l.taken) closed_before.1
-        | inr waits ↦ ap (λ (l : LinkState). l.taken) waits.1
-      ] ∙ sym (grown_nothing old.link.taken)
-  visit_taken now Broken old new before after (inr due) =
-      ap (λ (l : LinkState). l.taken) due.does.0.link ∙ sym (grown_nothing old.link.taken)
-  visit_taken now Refused old new before after (inr due) =
-      elim due.does [
-        | inl turn ↦ ap (λ (l : LinkState). l.taken) turn.link
-        | inr piece ↦ ap (λ (l : LinkState). l.taken) piece.0.link
-      ] ∙ sym (grown_nothing old.link.taken)
+  visits_given turns old new visits = (visits_grow turns old new visits).0
 
   pub visits_taken : (turns : List (TakenTurn relations)) (old new : GuestState) → (visits : Visits relations turns old new)
       → new.link.taken ≡ grown old.link.taken (bytes_taken relations visits)
-  visits_taken turns old new nothing = sym (grown_nothing old.link.taken)
-  visits_taken turns old new (visit {turns = earlier} {old = mid} {before = before} {after = after} now answer visits visited) =
-      let part = part_of relations now answer mid new before after visited in
-      visit_taken now answer mid new before after visited
-      ∙ ap (λ known. grown known part) (visits_taken earlier old mid visits)
-      ∙ grown_twice old.link.taken (bytes_taken relations visits) part
+  visits_taken turns old new visits = (visits_grow turns old new visits).1
 
   pub visits_first : (law : OneSpelling) (turns : List (TakenTurn relations)) (greatest : ℕ) (link : LinkState)
       (new : GuestState) (units : List ProtocolUnit) → (visits : Visits relations turns (welcomed greatest link) new)

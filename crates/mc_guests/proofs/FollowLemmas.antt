@@ -179,16 +179,12 @@ module _ (a b c : BooksState) (f : Follows a b) (g : Follows b c) where
   came_then : (place number : ℕ) (later : RowGuest) → HasNumber c.row place number → StandsAt place c.row later → Stood number later a.row
   came_then place number later has stands =
       let one = g.came place number later has stands in
-      let two = f.came one.at number one.guest one.has_it one.stands in record {
-        at = two.at;
-        guest = two.guest;
-        has_it = two.has_it;
-        stands = two.stands;
-        same = elim one.same [
-          | inl e ↦ elim two.same [ inl d ↦ inl (e ∙ d) | inr d ↦ inr (e ∙ d) ]
-          | inr e ↦ elim two.same [ inl d ↦ inr (e ∙ ap (in_line Next) d) | inr d ↦ inr (e ∙ ap (in_line Next) d) ]
-        ];
-      }
+      let two = f.came one.at number one.guest one.has_it one.stands in
+      let same : (later ≡ two.guest) ⊎ (later ≡ in_line Next two.guest) = elim one.same [
+        | inl e ↦ elim two.same [ inl d ↦ inl (e ∙ d) | inr d ↦ inr (e ∙ d) ]
+        | inr e ↦ elim two.same [ inl d ↦ inr (e ∙ ap (in_line Next) d) | inr d ↦ inr (e ∙ ap (in_line Next) d) ]
+      ] in
+      record { at = two.at; guest = two.guest; has_it = two.has_it; stands = two.stands; same = same }
 
   alone_before : OneAlone b c → OneAlone a c
   alone_before alone =
@@ -208,16 +204,9 @@ module _ (a b c : BooksState) (f : Follows a b) (g : Follows b c) where
       ]
 
   alone_after : c.budget.promised ≡ b.budget.promised → OneAlone a b → OneAlone a c
-  alone_after same alone = record {
-    number = alone.number;
-    at = alone.at;
-    guest = alone.guest;
-    has_it = alone.has_it;
-    stands = alone.stands;
-    queued = alone.queued;
-    none = ap (λ (x : Budget). x.large) g.budget ∙ alone.none;
-    all = same ∙ alone.all;
-  }
+  alone_after same a =
+      let none = ap (λ (x : Budget). x.large) g.budget ∙ a.none in
+      record { number = a.number; at = a.at; guest = a.guest; has_it = a.has_it; stands = a.stands; queued = a.queued; none = none; all = same ∙ a.all }
 
   within_after : c.budget.promised ≡ b.budget.promised → plus b.budget.held b.budget.promised ≤ b.budget.share → plus c.budget.held c.budget.promised ≤ c.budget.share
   within_after same within =
@@ -242,13 +231,9 @@ module _ (a b c : BooksState) (f : Follows a b) (g : Follows b c) where
   follows_then = record {
     guests = λ at number guest has stands.
         let one = f.guests at number guest has stands in
-        let two = g.guests one.place number one.later one.has_it one.stands in record {
-          place = two.place;
-          later = two.later;
-          has_it = two.has_it;
-          stands = two.stands;
-          fate = fate_then at one.place two.place guest one.later two.later one.fate two.fate;
-        };
+        let two = g.guests one.place number one.later one.has_it one.stands in
+        let fate = fate_then at one.place two.place guest one.later two.later one.fate two.fate in
+        record { place = two.place; later = two.later; has_it = two.has_it; stands = two.stands; fate = fate };
     came = came_then;
     budget = g.budget ∙ ap (λ (x : Budget). record x { promised = c.budget.promised; is_kept = c.budget.is_kept }) f.budget;
     more = (let one = f.more in let two = g.more in omega (arith, one, two));
@@ -264,13 +249,8 @@ pub unmoved : (old : BooksState) (kept : Bool) (queue : List ℕ) (last strayed 
     → ((number : ℕ) → IsIn number old.queue → IsIn number queue ⊎ NoneWaits number old.row)
     → Follows old (record old { budget = record old.budget { is_kept = kept }; queue = queue; is_last = last; has_strays = strayed })
 unmoved old kept queue last strayed few leaving = record {
-  guests = λ at number guest has stands. record {
-    place = at;
-    later = guest;
-    has_it = has;
-    stands = stands;
-    fate = inl (record { same = refl; awake = λ h. h; asleep = λ h. h });
-  };
+  guests = λ at number guest has stands.
+      record { place = at; later = guest; has_it = has; stands = stands; fate = inl (record { same = refl; awake = λ h. h; asleep = λ h. h }) };
   came = λ place number later has stands. record { at = place; guest = later; has_it = has; stands = stands; same = inl refl };
   budget = refl;
   more = omega arith;
@@ -368,16 +348,10 @@ module _ (at number : ℕ) (guest : RowGuest) (old new : BooksState) (budget : B
       | inl same ↦ inl (ap (λ (x : Budget). x.promised) budget_is ∙ same)
       | inr some ↦ elim some [
         | inl within ↦ inr (inl (subst (λ (x : Budget). plus x.held x.promised ≤ x.share) (sym budget_is) within))
-        | inr alone ↦ inr (inr (record {
-          number = number;
-          at = at;
-          guest = guest;
-          has_it = has;
-          stands = stands;
-          queued = alone.0;
-          none = ap (λ (x : Budget). x.large) budget_is ∙ alone.1;
-          all = ap (λ (x : Budget). x.promised) budget_is ∙ alone.2;
-        }))
+        | inr alone ↦
+            (let none = ap (λ (x : Budget). x.large) budget_is ∙ alone.1 in
+            let all = ap (λ (x : Budget). x.promised) budget_is ∙ alone.2 in
+            inr (inr (record { number = number; at = at; guest = guest; has_it = has; stands = stands; queued = alone.0; none = none; all = all })))
       ]
     ];
   }

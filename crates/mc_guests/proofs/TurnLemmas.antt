@@ -2,7 +2,7 @@
 use Rattle.std.proofs.Common.{◌≡◌, ◌≢◌, ℕ, ◌<◌, ◌+◌, List, [], ◌∷◌, ◌++◌, length, take, drop, refl, sym, ap, ◌∙◌, subst, arith, get_or, inl, inr, Option, Some, None, IfSome}
 use Rattle.std.specs.Prelude.{is_none}
 use Rattle.std.proofs.Math.ListN.{set}
-use Rattle.std.proofs.lemmas.List.{take_more, take_more_set, get_or-drop, drop-set-lt}
+use Rattle.std.proofs.lemmas.List.{take_more_set, drop-set-lt}
 use Rattle.std.proofs.lemmas.Grind.{drop_more_same}
 use Rattle.mc_protocol.specs.declared.step.Steps.{Ghosts as Relations}
 use Rattle.mc_guests.specs.Asks.{AsksAndVisits, IsKeptWaiting}
@@ -10,6 +10,7 @@ use Rattle.mc_guests.specs.Budgets.{uncounted, IsHeldBack, IsCounted, Recounts}
 use Rattle.mc_guests.specs.Guests.{RowGuest}
 use Rattle.mc_guests.specs.declared.budget.Budget.{Budget}
 use Rattle.mc_guests.specs.Turns.{HasTurn, HaveTurns, next}
+use Rattle.mc_guests.proofs.RoundLemmas.{front_more}
 use Rattle.mc_guests.specs.declared.guest.Visit.{Visit}
 use Rattle.mc_guests.specs.declared.guest.Visit.TheVariants.{Wrote}
 
@@ -33,12 +34,7 @@ module _ {S : Type 0} (relations : Relations S) (now : ℕ) where
       → HaveTurns relations now (take (i + 1) olds) (take (i + 1) (set news i y)) before after budget later
       × (drop (i + 1) (set news i y) ≡ drop (i + 1) olds)
   turns_more olds news i x y before between after budget mid later long inside is goes turn =
-      let within : i < length olds = subst (λ n. i < n) long inside in
-      let heads : get_or (drop i olds) 0 x ≡ get_or (drop i news) 0 x = ap (λ l. get_or l 0 x) (sym goes.1) in
-      let none : i + 0 ≡ i = omega arith in
-      let same : get_or olds i x ≡ x = cc (get_or-drop i olds 0 x, get_or-drop i news 0 x, heads, is, none) in
-      let one : take (i + 1) olds ≡ take i olds ++ x ∷ [] =
-      take_more olds i x within ∙ ap (λ (z : RowGuest). take i olds ++ z ∷ []) same in (
+      let one = front_more olds news i x long inside is goes.1 in (
         subst (λ l. HaveTurns relations now l (take (i + 1) (set news i y)) before after budget later) (sym one)
             (subst (λ l. HaveTurns relations now (take i olds ++ x ∷ []) l before after budget later)
             (sym (take_more_set news i y inside)) (next goes.0 turn)),

@@ -2,7 +2,7 @@
 use Rattle.std.proofs.Common.{◌≡◌, ℕ, ◌<◌, ◌≤◌, ◌+◌, List, [], ◌∷◌, ◌++◌, length, take, drop, refl, sym, ap, ◌∙◌}
 use Rattle.std.proofs.Common.{subst, arith, get_or, inl, inr, Option, Some, None, Bool, true, false, ◌⊎◌, IsTrue, IsFalse}
 use Rattle.std.proofs.Math.ListN.{set}
-use Rattle.std.proofs.lemmas.List.{take_more, take_more_set, get_or-drop, drop-set-lt}
+use Rattle.std.proofs.lemmas.List.{take_more_set, drop-set-lt}
 use Rattle.std.proofs.lemmas.Grind.{drop_more_same}
 use Rattle.mc_protocol.specs.declared.step.Steps.{Ghosts as Relations}
 use Rattle.std.proofs.lemmas.List.{take-append-drop, take-append-le, length-append, length-take-le, append-nil}
@@ -13,6 +13,7 @@ use Rattle.mc_guests.specs.Guests.{GuestState, IsWaiting, IsOffer}
 use Rattle.mc_guests.specs.Visits.{WritesFront, ReadsPiece, WaitsForLink, EndsServed, EndsBroken, RefusesPiece, RefusesTurn, Reads, Does, Visited, GoesRound, next}
 use Rattle.mc_guests.specs.declared.guest.Visit.{Visit}
 use Rattle.mc_guests.specs.declared.guest.Visit.TheVariants.{Wrote, Turned, Read, Later, Served, Broken, Refused}
+use Rattle.mc_guests.proofs.RoundLemmas.{front_more}
 
 -- a front of what isn't empty
 is_offer : (all front : List ℕ) → IsFront all front → (all ≡ [] → ⊥) → IsOffer (length front) (length all)
@@ -46,12 +47,7 @@ pub round_more : {S : Type 0} (relations : Relations S) (now : ℕ) (olds news :
     → GoesRound relations now (take (i + 1) olds) (take (i + 1) (set news i y)) before after
     × (drop (i + 1) (set news i y) ≡ drop (i + 1) olds)
 round_more {S} relations now olds news i x y before between after answer long inside is goes visit =
-    let within : i < length olds = subst (λ n. i < n) long inside in
-    let heads : get_or (drop i olds) 0 x ≡ get_or (drop i news) 0 x = ap (λ l. get_or l 0 x) (sym goes.1) in
-    let none : i + 0 ≡ i = omega arith in
-    let same : get_or olds i x ≡ x = cc (get_or-drop i olds 0 x, get_or-drop i news 0 x, heads, is, none) in
-    let one : take (i + 1) olds ≡ take i olds ++ x ∷ [] =
-    take_more olds i x within ∙ ap (λ (z : GuestState). take i olds ++ z ∷ []) same in (
+    let one = front_more olds news i x long inside is goes.1 in (
       subst (λ l. GoesRound relations now l (take (i + 1) (set news i y)) before after) (sym one)
           (subst (λ l. GoesRound relations now (take i olds ++ x ∷ []) l before after)
           (sym (take_more_set news i y inside)) (next goes.0 answer visit)),

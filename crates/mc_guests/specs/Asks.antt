@@ -4,7 +4,7 @@ use Rattle.mc_protocol.specs.declared.step.KeyStep.{KeyStep}
 use Rattle.mc_protocol.specs.declared.step.KeyStep.TheVariants.{Read}
 use Rattle.mc_protocol.specs.declared.step.Steps.{Ghosts as Relations}
 use Rattle.mc_protocol.specs.declared.reply.Reply.{Reply}
-use Rattle.mc_protocol.specs.declared.reply.Reply.TheVariants.{Stored, NotStored, Exists, NotFound, Miss, Hit, Touched, Deleted, Number, NotNumeric, TooLarge, NoChunk, Flushed}
+use Rattle.mc_protocol.specs.declared.reply.Reply.TheVariants.{Hit}
 use Rattle.mc_session.specs.Reading.{ReadsNext}
 use Rattle.mc_session.specs.Turns.{SessionState, closed}
 use Rattle.mc_guests.specs.Guests.{GuestState, has_ended}
@@ -39,19 +39,8 @@ pub record NamesKey (session : SessionState) (key : List ℕ) : Type 0 where
 
 -- the length of the block of a reply; only a hit has one
 abbrev pub block_length : Reply → ℕ
-block_length Stored = 0
-block_length NotStored = 0
-block_length Exists = 0
-block_length NotFound = 0
-block_length Miss = 0
 block_length (Hit flags unique block) = length block
-block_length Touched = 0
-block_length Deleted = 0
-block_length (Number number) = 0
-block_length NotNumeric = 0
-block_length TooLarge = 0
-block_length NoChunk = 0
-block_length Flushed = 0
+block_length reply = 0
 
 module _ {S : Type 0} (took : S → KeyStep → ℕ → Reply → S → Type 0) (now : ℕ) where
   -- a key was read at that moment, and the block that was found has this length; 0 if none was

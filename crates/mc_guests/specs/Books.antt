@@ -8,7 +8,7 @@ use Rattle.mc_guests.specs.declared.guest.Visit.{Visit}
 use Rattle.mc_guests.specs.declared.guest.Visit.TheVariants.{Served, Broken, Refused}
 use Rattle.mc_guests.specs.declared.guests.WorkEnd.{WorkEnd}
 use Rattle.mc_guests.specs.declared.guests.Fate.{Fate}
-use Rattle.mc_guests.specs.declared.guests.Fate.TheVariants.{GoesOn, Waits, Sleeps, Ended}
+use Rattle.mc_guests.specs.declared.guests.Fate.TheVariants.{Waits, Sleeps, Ended}
 
 -- guests in a row, and beside each the number of its link
 pub record RowState : Type 0 where
@@ -73,14 +73,8 @@ pub record BooksState : Type 0 where
 
 -- what contracts see of guests with these fields
 abbrev pub books : RowState → (awake : ℕ) → Budget → (queue : List ℕ) → (is_last has_strays : Bool) → BooksState
-books row awake budget queue is_last has_strays = record {
-  row = row;
-  awake = awake;
-  budget = budget;
-  queue = queue;
-  is_last = is_last;
-  has_strays = has_strays;
-}
+books row awake budget queue last strays =
+    record { row = row; awake = awake; budget = budget; queue = queue; is_last = last; has_strays = strays }
 
 -- no guests, with what a budget has beside those that it counts
 abbrev pub no_books : Budget → BooksState
@@ -179,24 +173,19 @@ counted last count = count
 
 -- whether a guest is to go
 abbrev pub is_over : Fate → Bool
-is_over GoesOn = false
-is_over Waits = false
-is_over Sleeps = false
 is_over Ended = true
+is_over fate = false
 
 -- whether a guest is to sleep
 abbrev pub is_asleep : Fate → Bool
-is_asleep GoesOn = false
 is_asleep Waits = true
 is_asleep Sleeps = true
-is_asleep Ended = false
+is_asleep fate = false
 
 -- whether a guest is to be put into the queue
 abbrev pub is_to_queue : Fate → Bool
-is_to_queue GoesOn = false
 is_to_queue Waits = true
-is_to_queue Sleeps = false
-is_to_queue Ended = false
+is_to_queue fate = false
 
 -- what becomes of the guest at a place: it is to go if it has ended, which is counted, and else to sleep if it waits for
 -- room or its link gave or took nothing; if it waits and is left out of the queue it is put into it

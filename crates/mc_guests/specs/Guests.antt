@@ -5,10 +5,10 @@ use Rattle.mc_session.specs.Turns.{SessionState, NoTurnDue, TurnIsDue, opened}
 use Rattle.mc_guests.specs.Links.{LinkState, IsRoom, grown}
 use Rattle.mc_guests.specs.Paces.{begun}
 use Rattle.mc_guests.specs.declared.guest.Visit.{Visit}
-use Rattle.mc_guests.specs.declared.guest.Visit.TheVariants.{Wrote, Turned, Read, Later, Served, Broken, Refused}
+use Rattle.mc_guests.specs.declared.guest.Visit.TheVariants.{Later, Served, Broken, Refused}
 use Rattle.mc_guests.specs.declared.pace.Pace.{Pace}
 use Rattle.mc_guests.specs.declared.weighed.Line.{Line}
-use Rattle.mc_guests.specs.declared.weighed.Line.TheVariants.{Out, Queued, Next}
+use Rattle.mc_guests.specs.declared.weighed.Line.TheVariants.{Out, Queued}
 
 -- its session, its link, and the answer of its last visit
 pub record GuestState : Type 0 where
@@ -22,13 +22,10 @@ welcomed greatest link = record { session = opened greatest; link = link; last =
 
 -- whether an answer is a guest's last
 abbrev pub ends : Visit → Bool
-ends Wrote = false
-ends Turned = false
-ends Read = false
-ends Later = false
 ends Served = true
 ends Broken = true
 ends Refused = true
+ends answer = false
 
 -- whether a guest has ended, by the answer of its last visit
 abbrev pub has_ended : Option Visit → Bool
@@ -94,15 +91,13 @@ newcomer guest = record {
 
 -- whether a guest that waits is in the queue
 abbrev pub is_in_queue : Line → Bool
-is_in_queue Out = false
 is_in_queue Queued = true
-is_in_queue Next = false
+is_in_queue line = false
 
 -- whether a guest that waits is left out: it isn't in the queue, and isn't tried again
 abbrev pub is_left_out : Line → Bool
 is_left_out Out = true
-is_left_out Queued = false
-is_left_out Next = false
+is_left_out line = false
 
 -- whether a guest waits in the queue
 abbrev pub is_queued : RowGuest → Bool
@@ -122,14 +117,8 @@ in_line line guest = record guest { line = line }
 
 -- whether its link gave or took nothing at the last visit
 abbrev pub is_later : Option Visit → Bool
-is_later None = false
-is_later (Some Wrote) = false
-is_later (Some Turned) = false
-is_later (Some Read) = false
 is_later (Some Later) = true
-is_later (Some Served) = false
-is_later (Some Broken) = false
-is_later (Some Refused) = false
+is_later last = false
 
 -- whether a guest that hasn't ended sleeps: it waits for room, or its link gave or took nothing
 abbrev pub is_to_sleep : RowGuest → Bool

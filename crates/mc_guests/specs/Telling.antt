@@ -64,18 +64,16 @@ module _ {S : Type 0} (relations : Relations S) where
   part_of now answer old new before after (inr due) = []
 
   -- the bytes that the link gave in visits, one piece after another
-  abbrev pub bytes_given : {turns : List TakenTurn} {old new : GuestState} → Visits turns old new
-      → List ℕ
+  abbrev pub bytes_given : {turns : List TakenTurn} {old new : GuestState}
+      → Visits turns old new → List ℕ
   bytes_given nothing = []
-  bytes_given (visit now answer visits visited) =
-      bytes_given visits ++ piece_of now answer _ _ _ _ visited
+  bytes_given (visit now answer visits visited) = bytes_given visits ++ piece_of now answer _ _ _ _ visited
 
   -- the bytes that the link took in visits, one part after another
-  abbrev pub bytes_taken : {turns : List TakenTurn} {old new : GuestState} → Visits turns old new
-      → List ℕ
+  abbrev pub bytes_taken : {turns : List TakenTurn} {old new : GuestState}
+      → Visits turns old new → List ℕ
   bytes_taken nothing = []
-  bytes_taken (visit now answer visits visited) =
-      bytes_taken visits ++ part_of now answer _ _ _ _ visited
+  bytes_taken (visit now answer visits visited) = bytes_taken visits ++ part_of now answer _ _ _ _ visited
 
   -- the unit of a turn, and the turn's place among those of the unit
   abbrev pub turn_of : TakenTurn → ProtocolUnit × ℕ

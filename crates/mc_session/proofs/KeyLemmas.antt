@@ -61,15 +61,8 @@ module _ (law : OneSpelling) (s : SessionState) (found : Option (ProtocolUnit ×
   -- the key that the first turn of what was found reads is the session's next
   reads_unit : (unit : ProtocolUnit) (front rest key : List ℕ) → IsTrue s.is_open → to_read s.unread ≡ front ++ rest → Spells s.unread.greatest unit front
       → unit_key unit s.taken ≡ Some key → ReadsNext s key
-  reads_unit (Request command) front rest key opens parts spelled is = record {
-    command = command;
-    front = front;
-    rest = rest;
-    opens = opens;
-    parts = parts;
-    spelled = spelled;
-    is_next = is;
-  }
+  reads_unit (Request command) front rest key opens parts spelled is =
+      record { command = command; front = front; rest = rest; opens = opens; parts = parts; spelled = spelled; is_next = is }
   reads_unit (Fault fault) front rest key opens parts spelled is = absurd (cc)
   reads_unit LongLine front rest key opens parts spelled is = absurd (cc)
 

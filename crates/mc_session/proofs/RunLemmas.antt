@@ -79,19 +79,9 @@ module _ {S : Type 0} (relations : Relations S) where
   -- and with earlier output in front
   unfoldable pub turn_written : (now : ℕ) (old new : SessionState) (before after : S) (written : List ℕ) → TakesTurn relations now old new before after
       → TakesTurn relations now (with_written written old) (with_written written new) before after
-  turn_written now old new before after written taken_turn = record {
-    unit = taken_turn.unit;
-    front = taken_turn.front;
-    rest = taken_turn.rest;
-    text = taken_turn.text;
-    opens = taken_turn.opens;
-    parts = taken_turn.parts;
-    spelled = taken_turn.spelled;
-    due = taken_turn.due;
-    answers = taken_turn.answers;
-    moves = ap (with_written written) taken_turn.moves
-        ∙ moved_written old taken_turn.unit taken_turn.rest taken_turn.text written (is_last taken_turn.unit) (old.taken + 1 == turn_count taken_turn.unit);
-  }
+  turn_written now old new before after written t =
+      let moves = ap (with_written written) t.moves ∙ moved_written old t.unit t.rest t.text written (is_last t.unit) (old.taken + 1 == turn_count t.unit) in
+      record { unit = t.unit; front = t.front; rest = t.rest; text = t.text; opens = t.opens; parts = t.parts; spelled = t.spelled; due = t.due; answers = t.answers; moves = moves }
 
   -- a run is a run of the longer stream
   pub run_more : (may_give : ℕ → Type 0) (first last : SessionState) (before after : S) (turns : List (ProtocolUnit × ℕ)) (more : List ℕ) → Run relations may_give first before turns last after
