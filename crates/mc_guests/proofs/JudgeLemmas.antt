@@ -11,6 +11,10 @@ use Rattle.mc_guests.specs.Books.{RowState, changed}
 use Rattle.mc_guests.specs.Judging.{slowness, undercuts, FindsSlowest, Judges, judged}
 use Rattle.mc_guests.specs.declared.weighed.Judged.{Judged}
 
+-- a place of a row that is shown is one of the row itself
+pub within_shown : (at : ℕ) (row shown : RowState) → row ≡ shown → at < length shown.guests → at < length row.guests
+within_shown at row shown is within = subst (λ (r : RowState). at < length r.guests) (sym is) within
+
 module _ {A : Type 0} (f : A → A) where
   pub length_changed : (at : ℕ) (xs : List A) → length (changed f at xs) ≡ length xs
   length_changed at [] = refl

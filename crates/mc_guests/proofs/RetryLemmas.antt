@@ -23,6 +23,10 @@ wakes_if at old new within asleep awake = by_test (nat_le old.awake at) refl
     by_test true is = asleep (record { stands = within; behind = leb-true old.awake at is })
     by_test false is = awake (leb-false old.awake at is)
 
+-- one that waits in the queue stands in the row
+pub queued_within : (number at : ℕ) (row : RowState) → IsQueuedAt number at row → at < length row.guests
+queued_within number at row waits = slice_get_within row.guests at waits.guest waits.stands
+
 -- all that stand in a row stay where one is tried again
 pub long_lined : (at : ℕ) (line : Line) (books : BooksState) → length (lined at line books).row.guests ≡ length books.row.guests
 long_lined at line books = length_changed (in_line line) at books.row.guests

@@ -102,8 +102,7 @@ pub fn length_at<S: Steps>(
     now: Moment,
 ) -> Result<usize, Unanswered>
     requires { length key.now ≤ longest_key }
-    ensures ok { IfOk result (λ bytes.
-        ReadsLength S.took now key.now bytes store.old store.new) }
+    ensures ok { IfOk result (λ bytes. ReadsLength S.took now key.now bytes store.old store.new) }
     ensures err { OnErr result (MayRead S.took S.same now key.now store.old store.new) }
     ensures spent { result ≡ Err Unanswered.NumbersSpent →
         SpendsRead S.spent now key.now store.old }

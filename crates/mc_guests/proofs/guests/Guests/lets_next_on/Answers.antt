@@ -1,8 +1,7 @@
 use Rattle.std.proofs.Common.{◌<◌, length, refl, sym, ap, ◌∙◌, subst}
-use Rattle.std.proofs.lemmas.Option.{slice_get_within}
 use Rattle.mc_guests.specs.Books.{BooksState}
 use Rattle.mc_guests.specs.Retries.{nobody_waits, tried_again, turn_passed}
-use Rattle.mc_guests.proofs.RetryLemmas.{turn_struck, turn_taken, turn_ended, still_within}
+use Rattle.mc_guests.proofs.RetryLemmas.{queued_within, turn_struck, turn_taken, turn_ended, still_within}
 use Rattle.mc_guests.proofs.guests.Guests.lets_next_on.Goals as goal
 
 pub returns-in_default-clause-ends : goal.returns-in_default-clause-ends
@@ -13,9 +12,7 @@ returns-in_default-waiting_place-clause-goes g c = λ _.
     turn_struck c.in-Some.number c.args.self.now c.strike_out.new.self (sym c.in-Some.ensures) (c.in_default-waiting_place.ensures.none refl) c.strike_out.ensures
 
 pub finds_room-requires : goal.finds_room-requires
-finds_room-requires g c =
-    let waits = c.in-Some-waiting_place.ensures.some in
-    slice_get_within c.args.self.now.row.guests c.in-Some-waiting_place.place waits.guest waits.stands
+finds_room-requires g c = queued_within c.in-Some.number c.in-Some-waiting_place.place c.args.self.now.row c.in-Some-waiting_place.ensures.some
 
 pub keep_room-requires : goal.keep_room-requires
 keep_room-requires g c = still_within c.in-Some-waiting_place.place c.finds_room.result c.args.self.now c.finds_room.new.self c.finds_room.ensures

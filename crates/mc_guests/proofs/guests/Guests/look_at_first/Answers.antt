@@ -1,8 +1,7 @@
 use Rattle.std.proofs.Common.{◌<◌, length, refl, sym, ap, ◌∙◌, subst}
-use Rattle.std.proofs.lemmas.Option.{slice_get_within}
 use Rattle.mc_guests.specs.Books.{BooksState}
 use Rattle.mc_guests.specs.Retries.{tried_again}
-use Rattle.mc_guests.proofs.RetryLemmas.{look_none, look_dropped, look_taken, look_behind, still_within}
+use Rattle.mc_guests.proofs.RetryLemmas.{queued_within, look_none, look_dropped, look_taken, look_behind, still_within}
 use Rattle.mc_guests.proofs.guests.Guests.look_at_first.Goals as goal
 
 pub returns-in_default : goal.returns-in_default
@@ -13,9 +12,7 @@ returns-in_default-waiting_place g c =
     look_dropped c.in-Some.number c.args.self.now c.drop_first.new.self (sym c.in-Some.ensures) (c.in_default-waiting_place.ensures.none refl) c.drop_first.ensures
 
 pub finds_room-requires : goal.finds_room-requires
-finds_room-requires g c =
-    let waits = c.in-Some-waiting_place.ensures.some in
-    slice_get_within c.args.self.now.row.guests c.in-Some-waiting_place.place waits.guest waits.stands
+finds_room-requires g c = queued_within c.in-Some.number c.in-Some-waiting_place.place c.args.self.now.row c.in-Some-waiting_place.ensures.some
 
 pub try_again-requires : goal.try_again-requires
 try_again-requires g c =

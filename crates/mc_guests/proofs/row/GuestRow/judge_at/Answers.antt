@@ -1,11 +1,11 @@
 use Rattle.std.specs.Prelude.{slice_set}
-use Rattle.std.proofs.Common.{◌<◌, List, length, refl, sym, ap, ◌∙◌, subst}
+use Rattle.std.proofs.Common.{List, refl, sym, ap, ◌∙◌, subst}
 use Rattle.std.proofs.lemmas.List.{length-set}
 use Rattle.std.proofs.lemmas.Option.{slice_get_read}
 use Rattle.mc_guests.specs.Books.{RowState}
 use Rattle.mc_guests.specs.Guests.{RowGuest}
 use Rattle.mc_guests.specs.Judging.{JudgesAt, judged, verdict}
-use Rattle.mc_guests.proofs.JudgeLemmas.{set_changed}
+use Rattle.mc_guests.proofs.JudgeLemmas.{within_shown, set_changed}
 use Rattle.mc_guests.proofs.row.GuestRow.judge_at.Goals as goal
 
 pub invariant_of-self : goal.invariant_of-self
@@ -14,7 +14,7 @@ invariant_of-self g c = c.self.invariant ∙ sym (length-set c.self.inside.guest
 pub returns : goal.returns
 returns g c =
     let items = c.self.inside.guests.items in
-    let within : c.args.at < length items = subst (λ (r : RowState). c.args.at < length r.guests) (sym c.self.view_is) c.requires in
+    let within = within_shown c.args.at _ c.args.self.now c.self.view_is c.requires in
     let stands = slice_get_read items _ c.args.at c.index_mut.result.now refl within c.index_mut.ensures.value in
     let same = ◌∙◌ {b = c.behind-self.inside.inner.value} c.deref_mut.ensures.value c.behind-self.view_is in
     subst (λ (r : RowState). JudgesAt c.args.ticks c.args.at c.judge.result r (record {

@@ -1,9 +1,9 @@
-use Rattle.std.proofs.Common.{◌<◌, List, length, refl, sym, ap, ◌∙◌, subst}
+use Rattle.std.proofs.Common.{List, refl, sym, ap, ◌∙◌}
 use Rattle.std.proofs.lemmas.List.{length-set}
 use Rattle.std.proofs.lemmas.Option.{slice_get_read}
 use Rattle.mc_guests.specs.Books.{RowState, with_guest}
 use Rattle.mc_guests.specs.Guests.{RowGuest, in_line}
-use Rattle.mc_guests.proofs.JudgeLemmas.{set_changed}
+use Rattle.mc_guests.proofs.JudgeLemmas.{within_shown, set_changed}
 use Rattle.mc_guests.proofs.row.GuestRow.set_line.Goals as goal
 
 pub invariant_of-self : goal.invariant_of-self
@@ -12,7 +12,7 @@ invariant_of-self g c = c.self.invariant ∙ sym (length-set c.self.inside.guest
 pub returns : goal.returns
 returns g c =
     let items = c.self.inside.guests.items in
-    let within : c.args.at < length items = subst (λ (r : RowState). c.args.at < length r.guests) (sym c.self.view_is) c.requires in
+    let within = within_shown c.args.at _ c.args.self.now c.self.view_is c.requires in
     let same = ◌∙◌ {b = c.behind-self.inside.inner.value} c.deref_mut.ensures.value c.behind-self.view_is in
     ap (λ (l : List RowGuest). record { guests = l; numbers = c.self.inside.numbers })
     (set_changed (in_line c.args.line) c.args.at items _ c.set_line.new.self (slice_get_read items _ c.args.at _ refl within c.index_mut.ensures.value)
