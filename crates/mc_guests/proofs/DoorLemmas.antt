@@ -2,8 +2,9 @@
 use Rattle.std.specs.Prelude.{◌&&◌, ◌==◌}
 use Rattle.std.proofs.Common.{◌≡◌, ◌↔◌, ◌<◌, ℕ, ◌+◌, Bool, true, false, length, Some, refl, sym, ap, ◌∙◌, subst, IsTrue}
 use Rattle.mc_guests.specs.Books.{BooksState, Wakes, quiet}
-use Rattle.mc_guests.specs.Doors.{unasked, came, heard, counted_in, WakesNamed, and_one, WakesAllNamed, WakesAfter, LetsIn, ComesNothing, Opens, link, none_now, none_more, over}
-use Rattle.mc_guests.specs.Doors.{LinksCame, one_came, OpensForAll, then_none}
+use Rattle.mc_guests.specs.Doors.{unasked, came, heard, counted_in, WakesNamed, WakesAllNamed, WakesAfter, LetsIn, ComesNothing, Opens, link, none_now, none_more, over}
+use Rattle.mc_guests.specs.Doors.{LinksCame, OpensForAll, then_none}
+use Rattle.mc_guests.specs.Repeats.{one_more}
 use Rattle.mc_guests.specs.declared.door.Door.{Door}
 use Rattle.mc_guests.specs.declared.guests.WorkEnd.{WorkEnd}
 use Rattle.mc_guests.specs.declared.talk.Came.{Came}
@@ -14,7 +15,7 @@ use Rattle.mc_guests.specs.declared.talk.Talk.{Talk}
 pub named_more : (number counter : ℕ) (talk later last : Talk) (old mid new : BooksState) → last ≡ heard (Some number) later
     → WakesNamed talk old later mid × (later.names ≡ counter) → Wakes number mid new → WakesNamed talk old last new × (last.names ≡ counter + 1)
 named_more number counter talk later last old mid new is front wakes = (
-  subst (λ (t : Talk). WakesNamed talk old t new) (sym is) (and_one number front.0 wakes),
+  (front.0.0 + 1, one_more front.0.1 (record { number = number; talk = is; wakes = wakes })),
   ap (λ (t : Talk). t.names) is ∙ ap (λ (n : ℕ). n + 1) front.1,
 )
 
@@ -57,10 +58,10 @@ module _ (count : ℕ) (door last later : Door) (old between new : BooksState) (
   pub came_one_more : LinksCame count door last old between before mid → is_quiet ≡ quiet between
       → Opens is_quiet last later between new mid after goes_on → (IsTrue gave ↔ (later.talk.came ≡ Some Link)) → gave ≡ true
       → LinksCame (count + 1) door later old new before after
-  came_one_more front is opens says gives = one_came front
-      (subst (λ (q : Bool). Opens q last later between new mid after true) is
-      (subst (Opens is_quiet last later between new mid after) (opens_on opens (says.0 gives)) opens))
-      (says.0 gives)
+  came_one_more front is opens says gives =
+      let came = says.0 gives in
+      let on = subst (Opens is_quiet last later between new mid after) (opens_on opens came) opens in
+      one_more front (record { opens = subst (λ (q : Bool). Opens q last later between new mid after true) is on; came = came })
 
   pub came_no_more : count < 32 → LinksCame count door last old between before mid → is_quiet ≡ quiet between
       → Opens is_quiet last later between new mid after goes_on → (IsTrue gave ↔ (later.talk.came ≡ Some Link)) → gave ≡ false

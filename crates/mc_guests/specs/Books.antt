@@ -2,6 +2,7 @@
 use Rattle.std.specs.Prelude.{◌≡◌, ◌⊎◌, ◌≤◌, ◌<◌, ◌+◌, ◌-◌, ◌^◌, ◌==◌, ◌&&◌, not, ℕ, zero, suc, List, [], ◌∷◌, ◌++◌, length, take, drop, min, swap, slice_get, Option, Some, Bool, true, false, IsTrue, IsFalse}
 use Rattle.mc_guests.specs.Budgets.{rest_of, may_try}
 use Rattle.mc_guests.specs.Guests.{GuestState, RowGuest, newcomer, has_ended, is_to_sleep, is_stray, in_line}
+use Rattle.mc_guests.specs.Repeats.{Repeats}
 use Rattle.mc_guests.specs.declared.budget.Budget.{Budget}
 use Rattle.mc_guests.specs.declared.weighed.Line.TheVariants.{Queued}
 use Rattle.mc_guests.specs.declared.guest.Visit.{Visit}
@@ -209,12 +210,16 @@ pub record Settles (at : ℕ) (old new : BooksState) (before after : WorkEnd) : 
   pub stays : IsFalse (has_ended guest.guest.last) → IsFalse (is_to_sleep guest) → new ≡ old
   pub counts : after ≡ counted guest.guest.last before
 
+-- The guest before a place was settled: the places from which on guests are settled, the books, and the endings that are
+-- counted, each before that and after it.
+pub record SettlesBefore (old new : ℕ × BooksState × WorkEnd) : Type 0 where
+  pub place : old.0 ≡ new.0 + 1
+  pub settles : Settles new.0 old.1 new.1 old.2 new.2
+
 -- of those that were awake the ones from a place on were settled, the last one first
-pub data SettlesFrom : (at : ℕ) (old new : BooksState) (before after : WorkEnd) → Type 0 where
-  none : {books : BooksState} {count : WorkEnd} → SettlesFrom books.awake books books count count
-  and_one : {at : ℕ} {old mid new : BooksState} {before between after : WorkEnd}
-      → SettlesFrom (at + 1) old mid before between → Settles at mid new between after
-      → SettlesFrom at old new before after
+abbrev pub SettlesFrom : (at : ℕ) (old new : BooksState) (before after : WorkEnd) → Type 0
+SettlesFrom at old new before after =
+    (count : ℕ) × Repeats SettlesBefore count (old.awake, old, before) (at, new, after)
 
 -- a round leaves those that sleep, all numbers, who is awake, the share, and the queue
 pub record KeepsBooks (old new : BooksState) : Type 0 where

@@ -3,6 +3,7 @@ use Rattle.std.specs.Prelude.{◌≡◌, ◌⊎◌, ◌<◌, ◌+◌, ◌%◌, �
 use Rattle.mc_guests.specs.Links.{LinkState}
 use Rattle.mc_guests.specs.Guests.{welcomed}
 use Rattle.mc_guests.specs.Books.{BooksState, Wakes, let_in, one_more, quiet}
+use Rattle.mc_guests.specs.Repeats.{Repeats}
 use Rattle.mc_guests.specs.declared.guests.WorkEnd.{WorkEnd}
 use Rattle.mc_guests.specs.declared.talk.Came.{Came}
 use Rattle.mc_guests.specs.declared.talk.Came.TheVariants.{Link, Later, Closed}
@@ -30,12 +31,15 @@ abbrev pub heard : Option ℕ → Talk → Talk
 heard None talk = record talk { named = None }
 heard (Some number) talk = record talk { names = talk.names + 1; named = Some number }
 
+-- a link was named, and its guest woke if it slept
+pub record WakesOneNamed (old new : Talk × BooksState) : Type 0 where
+  pub number : ℕ
+  pub talk : new.0 ≡ heard (Some number) old.0
+  pub wakes : Wakes number old.1 new.1
+
 -- links were named one after another, and the guest of each woke if it slept
-pub data WakesNamed : (talk : Talk) (old : BooksState) (later : Talk) (new : BooksState) → Type 0 where
-  nobody : {talk : Talk} {books : BooksState} → WakesNamed talk books talk books
-  and_one : {talk later : Talk} {old between new : BooksState} (number : ℕ)
-      → WakesNamed talk old later between → Wakes number between new
-      → WakesNamed talk old (heard (Some number) later) new
+abbrev pub WakesNamed : (talk : Talk) (old : BooksState) (later : Talk) (new : BooksState) → Type 0
+WakesNamed talk old later new = (count : ℕ) × Repeats WakesOneNamed count (talk, old) (later, new)
 
 -- the same, until none was named any more, or 1024 were
 pub record WakesAllNamed (talk : Talk) (old : BooksState) (later : Talk) (new : BooksState) : Type 0 where
@@ -89,14 +93,15 @@ pub data Opens (is_quiet : Bool) : (door later : Door) (old new : BooksState) (b
   over : {door : Door} {books : BooksState} {end : WorkEnd} → length books.row.guests ≡ 0
       → Opens is_quiet door (asks_next Closed door) books books end end false
 
--- The door was opened `count` times, and a link came each time. Whether the guests were quiet was
--- seen anew before each.
-pub data LinksCame : (count : ℕ) (door later : Door) (old new : BooksState) (before after : WorkEnd) → Type 0 where
-  none_yet : {door : Door} {books : BooksState} {end : WorkEnd} → LinksCame 0 door door books books end end
-  one_came : {count : ℕ} {door last later : Door} {old between new : BooksState} {before mid after : WorkEnd}
-      → LinksCame count door last old between before mid
-      → Opens (quiet between) last later between new mid after true → later.talk.came ≡ Some Link
-      → LinksCame (count + 1) door later old new before after
+-- The door was opened, and a link came. Whether the guests were quiet was seen before it.
+pub record LinkCame (old new : Door × BooksState × WorkEnd) : Type 0 where
+  pub opens : Opens (quiet old.1) old.0 new.0 old.1 new.1 old.2 new.2 true
+  pub came : new.0.talk.came ≡ Some Link
+
+-- the door was opened `count` times, and a link came each time
+abbrev pub LinksCame : (count : ℕ) (door later : Door) (old new : BooksState) (before after : WorkEnd) → Type 0
+LinksCame count door later old new before after =
+    Repeats LinkCame count (door, old, before) (later, new, after)
 
 -- What the openings of the door between two rounds do: a link came at each, until 32 did, or until
 -- one more opening at which none came. That one says whether more can come.

@@ -1,9 +1,9 @@
-use Rattle.mc_guests.specs.Doors.{nobody}
+use Rattle.mc_guests.specs.Repeats.{none_yet}
 use Rattle.mc_guests.proofs.DoorLemmas.{named_more}
 use Rattle.mc_guests.proofs.talk.Talk.wake_named.Goals as goal
 
 pub loop-init : goal.loop-init
-loop-init g c = (nobody, c.requires)
+loop-init g c = ((0, none_yet), c.requires)
 
 pub loop-preserved : goal.loop-preserved
 loop-preserved g c =
