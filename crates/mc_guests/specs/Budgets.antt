@@ -2,7 +2,7 @@
 use Rattle.std.specs.Prelude.{◌≡◌, ◌⊎◌, ◌<◌, ◌≤◌, ℕ, ◌+◌, ◌-◌, ◌/◌, ◌==◌, ◌&&◌, ◌||◌, Bool, false, cond, if◌then◌else◌, not, nat_lt, nat_le, min, max, List, length, IsTrue, IsFalse}
 use Rattle.std.specs.List.{sum_by}
 use Rattle.mc_session.specs.Turns.{SessionState}
-use Rattle.mc_guests.specs.Asks.{little, most}
+use Rattle.mc_guests.specs.Asks.{little, most, StaysOrLosesLink}
 use Rattle.mc_guests.specs.Guests.{GuestState, RowGuest, has_ended}
 use Rattle.mc_guests.specs.declared.budget.Budget.{Budget}
 
@@ -92,6 +92,14 @@ uncounted bytes waits budget = record budget {
   waiting = budget.waiting - one_if waits;
   large = budget.large - one_if (is_large bytes waits);
 }
+
+-- A guest goes on as it was; or it waits, held back by what the budget counts of the others, and is as it was or has ended
+-- with its link.
+pub record GoesOnOrWaits (goes_on : Bool) (old new : RowGuest) (budget : Budget) : Type 0 where
+  pub stays : StaysOrLosesLink old.guest new.guest
+  pub goes : IsTrue goes_on → new.guest ≡ old.guest
+  pub held_back : IsFalse goes_on → IsHeldBack new.guest (uncounted old.counted old.waits budget)
+  pub waits : new.waits ≡ not goes_on
 
 -- one more guest is counted for this many bytes
 abbrev pub counted_too : (bytes : ℕ) (waits : Bool) → Budget → Budget

@@ -77,17 +77,14 @@ pub record RowGuest : Type 0 where
   pub is_unread : Bool
   pub pace : Pace
 
+-- what contracts see of a guest of a worker with these fields
+abbrev pub row_guest : GuestState → (waits : Bool) → (counted : ℕ) → Line → (wanted : ℕ) → (is_unread : Bool) → Pace → RowGuest
+row_guest guest waits counted line wanted unread pace =
+    record { guest = guest; waits = waits; counted = counted; line = line; wanted = wanted; is_unread = unread; pace = pace }
+
 -- a guest that just came
 abbrev pub newcomer : GuestState → RowGuest
-newcomer guest = record {
-  guest = guest;
-  waits = false;
-  counted = 0;
-  line = Out;
-  wanted = 0;
-  is_unread = false;
-  pace = begun 0;
-}
+newcomer guest = row_guest guest false 0 Out 0 false (begun 0)
 
 -- whether a guest that waits is in the queue
 abbrev pub is_in_queue : Line → Bool

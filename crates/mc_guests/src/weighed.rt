@@ -7,9 +7,9 @@
 //! half-sent blocks delayed everyone else for minutes.
 ghost use Rattle.std.specs.Prelude.{◌≡◌, ◌≢◌, ◌<◌, not, true, false, is_none, IfSome, None};
 ghost use Rattle.std.specs.Prelude.{IsTrue, IsFalse};
-ghost use Rattle.mc_guests.specs.Asks.{AsksAndVisits, IsKeptWaiting, StaysOrLosesLink};
+ghost use Rattle.mc_guests.specs.Asks.{AsksAndVisits, IsKeptWaiting};
 ghost use Rattle.mc_guests.specs.Asks.{little, most, MayAsk, NamesKey};
-ghost use Rattle.mc_guests.specs.Budgets.{uncounted, counted_too, IsHeldBack, Recounts};
+ghost use Rattle.mc_guests.specs.Budgets.{uncounted, counted_too, IsHeldBack, GoesOnOrWaits, Recounts};
 ghost use Rattle.mc_guests.specs.Budgets.{Covers, IsCounted};
 ghost use Rattle.mc_guests.specs.Guests.{newcomer, has_ended, is_in_queue, is_left_out};
 ghost use Rattle.mc_guests.specs.Guests.{is_queued, is_stray, missing, in_line};
@@ -103,19 +103,12 @@ pub enum Judged {
 }
 
 impl<L: Link + Drop> Model for Weighed<L> {
-    ghost use Rattle.mc_guests.specs.Guests.{RowGuest};
+    ghost use Rattle.mc_guests.specs.Guests.{RowGuest, row_guest};
 
     ghost Value = { RowGuest };
 
-    ghost view = { λ w. record {
-      guest = w.guest;
-      waits = w.waits;
-      counted = w.counted;
-      line = w.line;
-      wanted = w.wanted;
-      is_unread = w.is_unread;
-      pace = w.pace;
-    } };
+    ghost view = { λ w.
+        row_guest w.guest w.waits w.counted w.line w.wanted w.is_unread w.pace };
 }
 
 impl<L: Link + Drop> Weighed<L> {
@@ -311,11 +304,7 @@ impl<L: Link + Drop> Weighed<L> {
     /// Returns whether it may go on with a request of `asked` bytes; otherwise it waits.
     #[inline]
     fn may_go_on(&mut self, asked: usize, budget: &mut Budget) -> bool
-        ensures stays { StaysOrLosesLink self.old.guest self.new.guest }
-        ensures goes { IsTrue result → self.new.guest ≡ self.old.guest }
-        ensures held_back { IsFalse result →
-            IsHeldBack self.new.guest (uncounted self.old.counted self.old.waits budget.old) }
-        ensures waits { self.new.waits ≡ not result }
+        ensures goes { GoesOnOrWaits result self.old self.new budget.old }
         ensures counts { Recounts self.old self.new budget.old budget.new }
     {
         if !self.waits && self.with_unsent(asked, budget) <= LITTLE {
@@ -331,11 +320,7 @@ impl<L: Link + Drop> Weighed<L> {
     /// Otherwise it waits. If its link failed or is to end, it has ended.
     #[inline(never)]
     fn sends_and_finds_room(&mut self, asked: usize, budget: &mut Budget) -> bool
-        ensures stays { StaysOrLosesLink self.old.guest self.new.guest }
-        ensures goes { IsTrue result → self.new.guest ≡ self.old.guest }
-        ensures held_back { IsFalse result →
-            IsHeldBack self.new.guest (uncounted self.old.counted self.old.waits budget.old) }
-        ensures waits { self.new.waits ≡ not result }
+        ensures goes { GoesOnOrWaits result self.old self.new budget.old }
         ensures counts { Recounts self.old self.new budget.old budget.new }
     {
         self.guest.pause();

@@ -12,9 +12,9 @@ invariant_of-self g c = c.self.invariant ∙ sym (length-set c.self.inside.guest
 pub returns : goal.returns
 returns g c =
     let items = c.self.inside.guests.items in
-    let within = within_shown c.args.at _ c.args.self.now c.self.view_is c.requires in
-    let same = ◌∙◌ {b = c.behind-self.inside.inner.value} c.deref_mut.ensures.value c.behind-self.view_is in
     ap (λ (l : List RowGuest). record { guests = l; numbers = c.self.inside.numbers })
-    (set_changed (in_line c.args.line) c.args.at items _ c.set_line.new.self (slice_get_read items _ c.args.at _ refl within c.index_mut.ensures.value)
-    (◌∙◌ {b = in_line c.args.line c.deref_mut.result.now} c.set_line.ensures (ap (in_line c.args.line) same)))
+    (set_changed (in_line c.args.line) c.args.at items _ c.set_line.new.self
+    (slice_get_read items _ c.args.at _ refl (within_shown c.args.at _ c.args.self.now c.self.view_is c.requires) c.index_mut.ensures.value)
+    (◌∙◌ {b = in_line c.args.line c.deref_mut.result.now} c.set_line.ensures
+    (ap (in_line c.args.line) (◌∙◌ {b = c.behind-self.inside.inner.value} c.deref_mut.ensures.value c.behind-self.view_is))))
     ∙ ap (λ (r : RowState). with_guest (in_line c.args.line) c.args.at r) c.self.view_is
