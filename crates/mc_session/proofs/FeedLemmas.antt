@@ -1,13 +1,12 @@
 -- More bytes leave the first unit as it is.
-use Rattle.std.proofs.Common.{◌≡◌, ◌<◌, ◌≤◌, ◌+◌, ◌-◌, ℕ, Bool, true, IsTrue, ◌⊎◌, inl, inr, List, [], ◌∷◌, ◌++◌, length, drop, refl, sym, ap, ◌∙◌, subst, arith, append_assoc}
-use Rattle.std.proofs.Math.Seq.{drop-append-add}
-use Rattle.std.proofs.lemmas.Bool.{cases_lt}
-use Rattle.std.proofs.lemmas.List.{drop-append-le, drop_all, length-append, length-drop}
+use Rattle.std.proofs.Common.{◌≡◌, ◌<◌, ◌+◌, ◌-◌, ℕ, Bool, true, IsTrue, List, [], ◌∷◌, ◌++◌, length, drop, sym, ap, ◌∙◌, subst, arith, append_assoc}
+use Rattle.std.proofs.lemmas.List.{append-nil, drop-append-le, length-append, length-drop}
 use Rattle.std.specs.Result.{OnOk, OnErr, IfOk}
 use Rattle.std.specs.Prelude.{Result, Ok, Err}
 use Rattle.mc_parse.specs.Units.{ProtocolUnit, Request, Fault, LongLine, Spells}
 use Rattle.mc_parse.specs.Feeds.{Unread, pushed, settled, TakesPiece}
 use Rattle.mc_bytes.specs.Sources.{Brings}
+use Rattle.mc_parse.proofs.FeedLemmas.{pushed_twice}
 use Rattle.mc_parse.specs.Peeks.{BeginsWithNone}
 use Rattle.mc_session.specs.Answers.{IsWithinUnit, at_start, inside}
 use Rattle.mc_session.specs.Turns.{SessionState, fed, FedPiece}
@@ -15,29 +14,9 @@ use Rattle.mc_session.specs.Turns.{SessionState, fed, FedPiece}
 abbrev unread_of : ℕ → ℕ → List ℕ → Unread
 unread_of greatest passed bytes = record { greatest = greatest; passed = passed; bytes = bytes }
 
--- bytes are passed over of what came first, and then of what came later
-passed_along : (n : ℕ) (first later : List ℕ) → (n < length first) ⊎ (length first ≤ n) → drop (n - length first) (drop n first ++ later) ≡ drop n (first ++ later)
-passed_along n first later (inl within) =
-    let none : n - length first ≡ 0 = omega arith in
-    rw (none, drop-append-le n first later (omega arith)) refl
-passed_along n first later (inr beyond) =
-    let k = n - length first in
-    let is : n ≡ length first + k = omega arith in
-    rw (drop_all n first beyond) (sym (ap (λ m. drop m (first ++ later)) is ∙ drop-append-add first later k))
-
 -- it doesn't matter whether what is to be passed over is dropped before more bytes come
 pub pushed-settled : (u : Unread) (more : List ℕ) → pushed (settled u) more ≡ pushed u more
-pushed-settled u more =
-    let count : (u.passed - length u.bytes) - length (drop u.passed u.bytes ++ more) ≡ u.passed - length (u.bytes ++ more) =
-    omega (arith, length-append u.bytes more, length-append (drop u.passed u.bytes) more, length-drop u.passed u.bytes) in
-    ap (λ n. unread_of u.greatest n (drop (u.passed - length u.bytes) (drop u.passed u.bytes ++ more))) count
-    ∙ ap (unread_of u.greatest (u.passed - length (u.bytes ++ more))) (passed_along u.passed u.bytes more (cases_lt u.passed (length u.bytes)))
-
--- pieces that come one after another leave what they leave joined
-pub pushed-pushed : (u : Unread) (piece more : List ℕ) → pushed (pushed u piece) more ≡ pushed u (piece ++ more)
-pushed-pushed u piece more =
-    pushed-settled (unread_of u.greatest u.passed (u.bytes ++ piece)) more
-    ∙ ap (λ bytes. settled (unread_of u.greatest u.passed bytes)) (append_assoc u.bytes piece more)
+pushed-settled u more = ap (λ bytes. pushed (settled (unread_of u.greatest u.passed bytes)) more) (sym (append-nil u.bytes)) ∙ pushed_twice u [] more
 
 -- what spells a unit has bytes
 pub spells_bytes : (greatest : ℕ) (unit : ProtocolUnit) (front : List ℕ) → Spells greatest unit front → 0 < length front

@@ -6,7 +6,8 @@ use Rattle.mc_parse.specs.Streams.{is_last, passed_after}
 use Rattle.mc_parse.specs.Feeds.{Unread, pushed, settled}
 use Rattle.mc_session.specs.Turns.{SessionState, TakesTurn, turn_count, closed, fed, opened}
 use Rattle.mc_session.specs.Serving.{with_written, Run, nothing, turn}
-use Rattle.mc_session.proofs.FeedLemmas.{pushed-settled, pushed-pushed, spells_bytes, front_stays}
+use Rattle.mc_parse.proofs.FeedLemmas.{pushed_twice}
+use Rattle.mc_session.proofs.FeedLemmas.{pushed-settled, spells_bytes, front_stays}
 
 -- a session with more bytes of its stream
 abbrev grown : SessionState → List ℕ → SessionState
@@ -46,7 +47,7 @@ moved_written s unit rest text written false false = ap (λ out. record s { take
 
 -- pieces that come one after another are fed as they are joined
 pub fed-fed : (greatest : ℕ) (read more : List ℕ) → fed (fed (opened greatest) read) more ≡ fed (opened greatest) (read ++ more)
-fed-fed greatest read more = ap (λ u. record (opened greatest) { unread = u }) (pushed-pushed (record { greatest = greatest; passed = 0; bytes = [] }) read more)
+fed-fed greatest read more = ap (λ u. record (opened greatest) { unread = u }) (pushed_twice (record { greatest = greatest; passed = 0; bytes = [] }) read more)
 
 -- more bytes and earlier output don't mix
 pub fed-with_written : (s : SessionState) (written more : List ℕ) → fed (with_written written s) more ≡ with_written written (fed s more)
