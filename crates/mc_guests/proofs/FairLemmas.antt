@@ -455,9 +455,9 @@ oldest_yet old new f queue budget w =
     let s = f.guests w.at w.number w.guest w.has_it w.stands in
     elim s.fate [
       | inl same ↦
-          (let first = ap (λ (l : List ℕ). slice_get l 0) queue ∙ w.first in
-          let long = (λ i. waits_long (budget i).ticks (same.same i)) ∙ w.long in
-          let none = (λ i. has_left (missing (same.same i)) (budget i)) ∙ w.none in
+          (let first : slice_get new.queue 0 ≡ Some w.number = ap (λ (l : List ℕ). slice_get l 0) queue ∙ w.first in
+          let long : IsTrue (waits_long new.budget.ticks s.later) = (λ i. waits_long (budget i).ticks (same.same i)) ∙ w.long in
+          let none : IsFalse (finds_room s.later new) = (λ i. has_left (missing (same.same i)) (budget i)) ∙ w.none in
           record { number = w.number; at = s.place; guest = s.later; first = first; has_it = s.has_it; stands = s.stands; long = long; none = none })
       | inr goes ↦
           (let queued = (and_parts (is_queued w.guest) (nat_le 8 (age old.budget.ticks w.guest.pace)) w.long).0 in

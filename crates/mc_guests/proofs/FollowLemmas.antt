@@ -204,9 +204,9 @@ module _ (a b c : BooksState) (f : Follows a b) (g : Follows b c) where
       ]
 
   alone_after : c.budget.promised ≡ b.budget.promised → OneAlone a b → OneAlone a c
-  alone_after same a =
-      let none = ap (λ (x : Budget). x.large) g.budget ∙ a.none in
-      record { number = a.number; at = a.at; guest = a.guest; has_it = a.has_it; stands = a.stands; queued = a.queued; none = none; all = same ∙ a.all }
+  alone_after same w =
+      let none : c.budget.large ≡ 0 = ap (λ (x : Budget). x.large) g.budget ∙ w.none in
+      record { number = w.number; at = w.at; guest = w.guest; has_it = w.has_it; stands = w.stands; queued = w.queued; none = none; all = same ∙ w.all }
 
   within_after : c.budget.promised ≡ b.budget.promised → plus b.budget.held b.budget.promised ≤ b.budget.share → plus c.budget.held c.budget.promised ≤ c.budget.share
   within_after same within =
