@@ -1,22 +1,14 @@
 -- More bytes leave the first unit as it is.
 use Rattle.std.proofs.Common.{◌≡◌, ◌<◌, ◌+◌, ◌-◌, ℕ, Bool, true, IsTrue, List, [], ◌∷◌, ◌++◌, length, drop, sym, ap, ◌∙◌, subst, arith, append_assoc}
-use Rattle.std.proofs.lemmas.List.{append-nil, drop-append-le, length-append, length-drop}
+use Rattle.std.proofs.lemmas.List.{drop-append-le, length-append, length-drop}
 use Rattle.std.specs.Result.{OnOk, OnErr, IfOk}
 use Rattle.std.specs.Prelude.{Result, Ok, Err}
 use Rattle.mc_parse.specs.Units.{ProtocolUnit, Request, Fault, LongLine, Spells}
-use Rattle.mc_parse.specs.Feeds.{Unread, pushed, settled, TakesPiece}
+use Rattle.mc_parse.specs.Feeds.{Unread, pushed, TakesPiece}
 use Rattle.mc_bytes.specs.Sources.{Brings}
-use Rattle.mc_parse.proofs.FeedLemmas.{pushed_twice}
 use Rattle.mc_parse.specs.Peeks.{BeginsWithNone}
 use Rattle.mc_session.specs.Answers.{IsWithinUnit, at_start, inside}
 use Rattle.mc_session.specs.Turns.{SessionState, fed, FedPiece}
-
-abbrev unread_of : ℕ → ℕ → List ℕ → Unread
-unread_of greatest passed bytes = record { greatest = greatest; passed = passed; bytes = bytes }
-
--- it doesn't matter whether what is to be passed over is dropped before more bytes come
-pub pushed-settled : (u : Unread) (more : List ℕ) → pushed (settled u) more ≡ pushed u more
-pushed-settled u more = ap (λ bytes. pushed (settled (unread_of u.greatest u.passed bytes)) more) (sym (append-nil u.bytes)) ∙ pushed_twice u [] more
 
 -- what spells a unit has bytes
 pub spells_bytes : (greatest : ℕ) (unit : ProtocolUnit) (front : List ℕ) → Spells greatest unit front → 0 < length front

@@ -6,8 +6,8 @@ use Rattle.mc_parse.specs.Streams.{is_last, passed_after}
 use Rattle.mc_parse.specs.Feeds.{Unread, pushed, settled}
 use Rattle.mc_session.specs.Turns.{SessionState, TakesTurn, turn_count, closed, fed, opened}
 use Rattle.mc_session.specs.Serving.{with_written, Run, nothing, turn}
-use Rattle.mc_parse.proofs.FeedLemmas.{pushed_twice}
-use Rattle.mc_session.proofs.FeedLemmas.{pushed-settled, spells_bytes, front_stays}
+use Rattle.mc_parse.proofs.FeedLemmas.{pushed_settled, pushed_twice}
+use Rattle.mc_session.proofs.FeedLemmas.{spells_bytes, front_stays}
 
 -- a session with more bytes of its stream
 abbrev grown : SessionState → List ℕ → SessionState
@@ -29,7 +29,7 @@ moved_more s unit rest text more true whole opens = refl
 moved_more s unit rest text more false true opens =
     let left : Unread = record { greatest = s.unread.greatest; passed = passed_after unit; bytes = rest } in
     fed_open (record s { unread = settled left; taken = 0; out = s.out ++ text }) more opens
-    ∙ ap (λ u. record s { unread = u; taken = 0; out = s.out ++ text }) (pushed-settled left more)
+    ∙ ap (λ u. record s { unread = u; taken = 0; out = s.out ++ text }) (pushed_settled left more)
 moved_more s unit rest text more false false opens = fed_open (record s { taken = s.taken + 1; out = s.out ++ text }) more opens
 
 -- earlier output stays in front
