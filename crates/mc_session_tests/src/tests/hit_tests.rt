@@ -1,12 +1,13 @@
 //! Sessions over a store that delivers a hit from where its block lies.
 
-ghost use Rattle.std.specs.Prelude.{◌≡◌, refl, OnOk, OnErr};
+ghost use Rattle.std.specs.Prelude.{◌≡◌, OnOk, OnErr};
 ghost use Rattle.mc_protocol.specs.declared.reply.Reply.{Reply as Told};
 
 use crate::checks::are_bytes_at;
+use crate::delivering::{Delivering, Delivers};
 use crate::tests::session_tests::RUNS;
 use mc_command::PlainStore;
-use mc_protocol::{Answer, Bytes, KeyStep, Reply, StepFault, Steps, Unanswered};
+use mc_protocol::{Answer, Bytes, KeyStep, Reply, StepFault, Steps};
 use mc_session::{Session, Turn, TurnFault};
 use mc_time::Moment;
 use std::alloc::{AllocError, Global};
@@ -33,56 +34,37 @@ enum Telling {
 }
 
 /// A plain store that delivers a hit from where its block lies.
+type Lending = Delivering<Hits>;
+
+/// The items, and how hits are delivered.
 #[derive(Drop)]
-struct Lending {
+struct Hits {
     store: PlainStore,
     telling: Telling,
 }
 
-impl Steps for Lending {
-    ghost took = { λ old step now reply new. old ≡ old };
-
-    ghost spent = { λ old step now. old ≡ old };
-
-    ghost same = { λ old new. old ≡ old };
-
-    ghost holds_itself = { λ _. refl };
-
-    fn step(&mut self, alloc: Global, step: &KeyStep<'_>, now: Moment) -> Result<Reply, StepFault> {
+impl Delivers for Hits {
+    fn take(&mut self, alloc: Global, step: &KeyStep<'_>, now: Moment) -> Result<Reply, StepFault> {
         self.store.step(alloc, step, now)
     }
 
-    fn step_telling<A: Answer>(
-        &mut self,
-        alloc: Global,
-        step: &KeyStep<'_>,
-        now: Moment,
-        answer: &mut A,
-    ) -> Result<(), Unanswered> {
-        match self.store.step(alloc, step, now) {
-            Ok(reply) => tell(&reply, self.telling, answer),
-            Err(StepFault::NumbersSpent) => Err(Unanswered::NumbersSpent),
-            Err(StepFault::NoMemory) => Err(Unanswered::NoMemory),
-        }
+    fn deliver<A: Answer>(&self, reply: &Reply, answer: &mut A) -> Result<(), AllocError> {
+        tell(reply, self.telling, answer)
     }
 }
 
 /// Delivers a reply; a hit from where its block lies, unless hits are refused.
-fn tell<A: Answer>(reply: &Reply, telling: Telling, answer: &mut A) -> Result<(), Unanswered>
+fn tell<A: Answer>(reply: &Reply, telling: Telling, answer: &mut A) -> Result<(), AllocError>
     ensures told { OnOk result (A.told answer.old reply.now answer.new) }
     ensures err { OnErr result (answer.new ≡ answer.old) }
 {
-    let told = match reply {
+    match reply {
         Reply::Hit {
             flags,
             unique,
             block,
         } => tell_hit(*flags, *unique, block.bytes(), telling, answer),
         _ => answer.reply(reply),
-    };
-    match told {
-        Ok(()) => Ok(()),
-        Err(_) => Err(Unanswered::NoMemory),
     }
 }
 
@@ -117,12 +99,17 @@ fn tell_hit<A: Answer>(
     }
 }
 
+/// Returns a store that delivers hits in this way.
+fn store_with(store: PlainStore, telling: Telling) -> Lending {
+    Delivering {
+        by: Hits { store, telling },
+    }
+}
+
 /// Returns an empty store.
 fn new_store(alloc: Global, telling: Telling) -> Result<Lending, AllocError> {
-    Ok(Lending {
-        store: PlainStore::new(alloc, 64, 1_048_576)?,
-        telling,
-    })
+    let store = PlainStore::new(alloc, 64, 1_048_576)?;
+    Ok(store_with(store, telling))
 }
 
 /// Takes a turn, and returns whether none was due. A refused turn closes the session.
@@ -242,11 +229,14 @@ fn hit_is_told(
     telling: Telling,
     found: &Found,
 ) -> Result<(), TurnFault> {
-    let mut store = Lending {
-        store: PlainStore::starting(alloc, 64, 1_048_576, 7)?,
-        telling: Telling::Whole,
-    };
-    hit_is_told_over(rt, alloc, &mut store, telling, found)
+    let store = PlainStore::starting(alloc, 64, 1_048_576, 7)?;
+    hit_is_told_over(
+        rt,
+        alloc,
+        &mut store_with(store, Telling::Whole),
+        telling,
+        found,
+    )
 }
 
 /// The same over an empty store.
@@ -272,10 +262,10 @@ fn hit_is_told_in(
 ) -> Result<(), TurnFault> {
     is_told(rt, alloc, store, found.set, "STORED\r\n")?;
     take_turns(rt, alloc, session, store, "foo\r\n")?;
-    store.telling = telling;
+    store.by.telling = telling;
     let told = take_turns(rt, alloc, session, store, found.get);
     assert!(rt; has_text_of_hit(session, &told, telling, found));
-    store.telling = Telling::Whole;
+    store.by.telling = Telling::Whole;
     is_told(rt, alloc, store, found.get, found.text)?;
     if telling == Telling::Refused {
         return Ok(());

@@ -1,10 +1,11 @@
 //! Outputs that lend parts of memory in place of a copy, and a session with one.
 
-ghost use Rattle.std.specs.Prelude.{◌≡◌, refl, IfOk};
+ghost use Rattle.std.specs.Prelude.{◌≡◌, IfOk};
 
 use crate::checks::{holds, is_none};
+use crate::delivering::{Delivering, Delivers};
 use mc_bytes::{Append, Large, Lent, Lents};
-use mc_protocol::{Answer, Bytes, KeyStep, Reply, StepFault, Steps, Unanswered};
+use mc_protocol::{Answer, Bytes, KeyStep, Reply, StepFault};
 use mc_session::{LentOutput, Outgoing, SessionOf, Turn, TurnFault};
 use mc_time::Moment;
 use std::alloc::{AllocError, Global};
@@ -192,32 +193,25 @@ fn parts_behind_lent_ones_are_copied(rt: HostRuntime) -> Result<(), Fail> {
     Ok(goes(&rt, rt.alloc(), &BEHIND_OTHERS)?)
 }
 
-/// A store that has one block under each key, and delivers it in two parts of shared memory.
+/// One block for all keys, which is delivered in two parts of shared memory.
 #[derive(Drop)]
 struct Sharing {
     front: Lent,
     back: Lent,
 }
 
-impl Sharing {
-    fn new(alloc: Global) -> Result<Sharing, AllocError> {
-        Ok(Sharing {
+/// Returns a store of the parts `abcd` and `efgh`.
+fn shared_store(alloc: Global) -> Result<Delivering<Sharing>, AllocError> {
+    Ok(Delivering {
+        by: Sharing {
             front: shared(alloc, b"abcd")?,
             back: shared(alloc, b"efgh")?,
-        })
-    }
+        },
+    })
 }
 
-impl Steps for Sharing {
-    ghost took = { λ old step now reply new. old ≡ old };
-
-    ghost spent = { λ old step now. old ≡ old };
-
-    ghost same = { λ old new. old ≡ old };
-
-    ghost holds_itself = { λ _. refl };
-
-    fn step(
+impl Delivers for Sharing {
+    fn take(
         &mut self,
         _alloc: Global,
         _step: &KeyStep<'_>,
@@ -226,22 +220,13 @@ impl Steps for Sharing {
         Ok(Reply::Miss)
     }
 
-    fn step_telling<A: Answer>(
-        &mut self,
-        _alloc: Global,
-        _step: &KeyStep<'_>,
-        _now: Moment,
-        answer: &mut A,
-    ) -> Result<(), Unanswered> {
+    fn deliver<A: Answer>(&self, _reply: &Reply, answer: &mut A) -> Result<(), AllocError> {
         let parts = [
             Bytes::of_lent(&self.front),
             Bytes::of(b"".as_slice()),
             Bytes::of_lent(&self.back),
         ];
-        match answer.hit(5, 7, &parts) {
-            Ok(()) => Ok(()),
-            Err(_) => Err(Unanswered::NoMemory),
-        }
+        answer.hit(5, 7, &parts)
     }
 }
 
@@ -286,7 +271,7 @@ fn writes_text(session: &mut SessionOf<LentOutput>, bytes: &[u8]) -> bool {
 fn takes_hit(
     alloc: Global,
     session: &mut SessionOf<LentOutput>,
-    store: &mut Sharing,
+    store: &mut Delivering<Sharing>,
 ) -> Result<bool, TurnFault> {
     session.feed(b"gets k\r\n")?;
     match session.turn(alloc, store, Moment::from_seconds(1000)) {
@@ -318,7 +303,7 @@ fn writes_hit(session: &mut SessionOf<LentOutput>, is_lent: bool) -> bool {
 fn takes_and_writes(
     alloc: Global,
     session: &mut SessionOf<LentOutput>,
-    store: &mut Sharing,
+    store: &mut Delivering<Sharing>,
     is_lent: bool,
 ) -> Result<bool, TurnFault> {
     let is_taken = takes_hit(alloc, session, store)?;
@@ -326,14 +311,18 @@ fn takes_and_writes(
 }
 
 /// The same for a new session.
-fn a_session_writes(alloc: Global, store: &mut Sharing, is_lent: bool) -> Result<bool, TurnFault> {
+fn a_session_writes(
+    alloc: Global,
+    store: &mut Delivering<Sharing>,
+    is_lent: bool,
+) -> Result<bool, TurnFault> {
     let mut session = SessionOf::new(alloc, 100);
     takes_and_writes(alloc, &mut session, store, is_lent)
 }
 
 /// The same for a new store.
 fn a_store_is_read(alloc: Global, is_lent: bool) -> Result<bool, TurnFault> {
-    let mut store = Sharing::new(alloc)?;
+    let mut store = shared_store(alloc)?;
     a_session_writes(alloc, &mut store, is_lent)
 }
 
