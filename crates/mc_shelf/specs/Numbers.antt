@@ -4,9 +4,13 @@ use Rattle.std.specs.FinMap.{get, len, retain_keys}
 use Rattle.mc_protocol.specs.Plain.{Items, Entry}
 use Rattle.mc_shelf.specs.States.{ShelfContent, IsHash}
 
--- the number of a key: its hash modulo 4096
+-- how many numbers there are
+abbrev pub numbers : ℕ
+numbers = 4096
+
+-- the number of a key: its hash modulo their count
 abbrev pub number_of : (hash_of : List ℕ → ℕ) → (key : List ℕ) → ℕ
-number_of hash_of key = hash_of key % 4096
+number_of hash_of key = hash_of key % numbers
 
 -- how many keys of the items have the number
 abbrev pub keys_with : (hash_of : List ℕ → ℕ) → (number : ℕ) → Items → ℕ
@@ -18,13 +22,13 @@ AreHashes shelf hash_of = (key : List ℕ) → IsHash shelf key (hash_of key)
 
 -- a place for each number, and 0 at those of a shelf's keys
 pub record HasPlaces (shelf : ShelfContent) (counts : List ℕ) : Type 0 where
-  pub many : length counts ≡ 4096
+  pub many : length counts ≡ numbers
   pub zero : (key : List ℕ) (item : Entry) (hash : ℕ) → get shelf.items key ≡ Some item
-      → get shelf.hashes key ≡ Some hash → slice_index counts (hash % 4096) ≡ 0
+      → get shelf.hashes key ≡ Some hash → slice_index counts (hash % numbers) ≡ 0
 
 -- the keys of a shelf were counted: the place of each number has so many more as keys have it
 pub record KeysAreCounted (shelf : ShelfContent) (old new : List ℕ) : Type 0 where
-  pub many : length new ≡ 4096
+  pub many : length new ≡ numbers
   pub counted : (hash_of : List ℕ → ℕ) → AreHashes shelf hash_of
-      → (number : ℕ) → number < 4096
+      → (number : ℕ) → number < numbers
       → slice_index new number ≡ slice_index old number + keys_with hash_of number shelf.items

@@ -9,6 +9,7 @@ use Rattle.mc_protocol.specs.declared.reply.Reply.{Reply}
 use Rattle.mc_shelf.specs.States.{ShelfState, DeskState}
 use Rattle.mc_shelf.specs.Parts.{ArePartsOf, shelf_of}
 use Rattle.mc_shelf.specs.Unions.{plain_of}
+use Rattle.mc_shelf.specs.Numbers.{numbers}
 use Rattle.mc_shelf.specs.declared.settings.Settings.{Settings}
 use Rattle.mc_shelf.specs.contracts.settings.Settings as settings
 
@@ -32,17 +33,17 @@ coded_store {K} coded_hasher =
     (λ _. refl)
 
 -- The state's greatest charge and its limit of pages are those of the settings. The number of
--- shelves divides 4096, so that keys of one number are on one shelf.
+-- shelves divides that of numbers, so that keys of one number are on one shelf.
 pub record IsSetUp (settings : Settings) (state : Plain) : Type 0 where
   pub greatest : state.greatest ≡ settings.greatest
   pub limit : state.limit ≡ settings.pages
-  pub divides : 4096 / settings.shelves * settings.shelves ≡ 4096
+  pub divides : numbers / settings.shelves * settings.shelves ≡ numbers
 
 -- shelves and their desk keep the state that they are together, and the settings fit it
 pub record IsStore (hash_of : List ℕ → ℕ) (settings : Settings) (shelves : List ShelfState)
     (desk : DeskState) : Type 0 where
   pub parts : ArePartsOf hash_of (plain_of settings shelves desk) shelves settings.shelves desk
-  pub divides : 4096 / settings.shelves * settings.shelves ≡ 4096
+  pub divides : numbers / settings.shelves * settings.shelves ≡ numbers
 
 -- two stores were set up alike
 abbrev pub AreAlike : {K : Type 0} → (old new : StoreState K) → Type 0

@@ -54,5 +54,5 @@ pub use parts::{flush_parts, refusals_are_plain, steps_change_one_shelf};
 pub use plan::Plan;
 pub use purge::Purging;
 pub use settings::Settings;
-pub use shelf::Shelf;
+pub use shelf::{NUMBERS, Shelf};
 pub use store::{Store, StoreParts};

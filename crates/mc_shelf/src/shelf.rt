@@ -16,7 +16,7 @@ ghost use Rattle.mc_protocol.specs.Commands.{key_of};
 ghost use Rattle.mc_protocol.specs.Plain.{Entry as Item};
 ghost use Rattle.mc_shelf.specs.Counts.{AreReclaimed, CatchesUp, DropsAlone, FitTogether, KeepsTable, MovesFew, counts_of};
 ghost use Rattle.mc_shelf.specs.States.{CanStandAt, IsHash, nothing_held};
-ghost use Rattle.mc_shelf.specs.Numbers.{KeysAreCounted, HasPlaces};
+ghost use Rattle.mc_shelf.specs.Numbers.{KeysAreCounted, HasPlaces, numbers};
 ghost use Rattle.mc_shelf.specs.Plans.{CanFinish, CanLook, CanSettle, CanWrite, GivesBack};
 ghost use Rattle.mc_shelf.specs.Plans.{HasCaughtUp, HasRoom, IsDropped, IsKnown, IsOut, IsPlan};
 ghost use Rattle.mc_shelf.specs.Plans.{IsPut, PlanIsSettled, IsSought, IsSpent, StepTaken};
@@ -39,6 +39,9 @@ use mc_slab::{Need, need_of};
 use mc_time::{Expiry, Moment};
 use std::alloc::{AllocError, Global};
 use std::marker::Model;
+
+/// The number of numbers that keys have.
+pub const NUMBERS: usize = 4096;
 
 /// The greatest charge below the last class. Every item of such a class has one chunk.
 const SMALL: u64 = 493_552;
@@ -129,10 +132,10 @@ impl Shelf {
         self.index.find(hash, key).is_some()
     }
 
-    /// Counts the keys of each number; a key's number is its hash modulo 4096.
+    /// Counts the keys of each number; a key's number is its hash modulo `NUMBERS`.
     ///
-    /// `counts` must have 4096 places. The place of each number that a key has must be 0, and is
-    /// set to how many keys have it; the others are unchanged. It takes no memory. It costs one
+    /// `counts` must have `NUMBERS` places. The place of each number that a key has must be 0, and
+    /// is set to how many keys have it; the others are unchanged. It takes no memory. It costs one
     /// pass over the items, and without items it walks nothing.
     pub fn count_numbers(&self, counts: &mut [u64])
         requires { HasPlaces self.now.content counts.old }
@@ -620,10 +623,10 @@ impl Shelf {
 
 /// Adds one to the count of a hash's number.
 fn count_one(counts: &mut [u64], hash: u64)
-    requires many { length counts.old ≡ 4096 }
-    requires room { slice_index counts.old (hash % 4096) < 2 ^ 64 - 1 }
-    ensures { counts.new ≡ slice_set counts.old (hash % 4096)
-        (slice_index counts.old (hash % 4096) + 1) }
+    requires many { length counts.old ≡ numbers }
+    requires room { slice_index counts.old (hash % numbers) < 2 ^ 64 - 1 }
+    ensures { counts.new ≡ slice_set counts.old (hash % numbers)
+        (slice_index counts.old (hash % numbers) + 1) }
 {
-    counts[(hash % 4096) as usize] += 1;
+    counts[(hash % NUMBERS as u64) as usize] += 1;
 }
