@@ -1,6 +1,6 @@
 -- What a shelf and a desk make of a plan is what the plain machine makes of the step.
 use Rattle.std.proofs.Common.{◌≡◌, ◌≢◌, ℕ, ◌+◌, ◌-◌, ◌<◌, ◌≤◌, ◌^◌, Bool, true, false, ◌&&◌, ◌||◌, List, [], decimal, Option, Some, None}
-use Rattle.std.proofs.Common.{is_some, is_none, ◌*◌, ◌==◌, eqb, eqb-true, if◌then◌else◌, refl, sym, ap, subst, ◌∙◌, arith, le-leb, lt-ltb, not, true≢false}
+use Rattle.std.proofs.Common.{is_some, is_none, ◌*◌, ◌==◌, eqb, eqb-true, if◌then◌else◌, refl, sym, ap, subst, ◌∙◌, arith, le-leb, leb-true, lt-ltb, not, true≢false}
 use Rattle.mc_shelf.proofs.Common.{alive, and_parts, and_right, Answered, Appended, block_need, block_of, Body, CanStandAt, changed, charge, chunks_a_page, chunks_in}
 use Rattle.mc_shelf.proofs.Common.{count-remove, count_of, Counted, DeskState, Draft, empty, Entry, Expiry, get, Given, given, has_room, insert, StandsAt, IsClass}
 use Rattle.mc_shelf.proofs.Common.{IsHash, IsNeed, IsOnKey, IsSlab, item_need, keeps_chunk, key_of, KeyStep, made_ready, need_for, NeedState, NoChunk, of_class}
@@ -11,8 +11,9 @@ use Rattle.mc_protocol.specs.Plain as machine
 use Rattle.mc_shelf.specs.declared.plan.Action.{Action}
 use Rattle.mc_shelf.specs.declared.plan.Action.TheVariants.{Answer, Expire, Discard, Write}
 use Rattle.mc_shelf.specs.declared.write.Write.{Write as Writing}
-use Rattle.mc_shelf.specs.Plans.{GivesBack, GivesChunks, GoesOver, LiesInNeed, gives_way, IsDropped, IsOut, IsPut, IsSpent, StepTaken, IsWriteOf, TakesStepAtKey, back_at}
-use Rattle.mc_shelf.specs.Plans.{block_beside, block_in, counts, dead_chunks, drafted, made_block, has_need, is_gone, next_of, readied, reuses, row_at, stood, way_given}
+use Rattle.mc_shelf.specs.Plans as plans
+use Rattle.mc_shelf.specs.Plans.{GivesBack, GivesChunks, GoesApart, GoesOver, LiesInNeed, gives_way, IsDropped, IsOut, IsPut, IsSpent, StepTaken, IsWriteOf, TakesStepAtKey, back_at}
+use Rattle.mc_shelf.specs.Plans.{block_beside, block_in, counts, dead_chunks, drafted, made_block, has_need, is_gone, next_of, readied, row_at, stood, way_given}
 use Rattle.mc_shelf.proofs.StandLemmas.{base, step_is, at_none, at_dropped, at_put_again, counts_put, given_taken, out-given, out-taken, out-way}
 use Rattle.mc_shelf.proofs.StandLemmas.{out_found, out_some, pages-way, pages_after, pages_are, pages_stay, ready_unused, room_by_free, room_is, taken_is_slab, weight, weight_here}
 use Rattle.mc_shelf.proofs.NeedLemmas.{need_class, needs_same}
@@ -106,12 +107,31 @@ module _ (step : KeyStep) (now : ℕ) (shelf : ShelfContent) (desk : DeskState) 
 
 -- ---- which chunks a write goes to
 
--- a body that counts may go into the item's own chunks
-goes_counted : (body : Body) → counts body ≡ true → GoesOver body
-goes_counted Given e = tt
-goes_counted Appended e = tt
-goes_counted Prepended e = absurd (true≢false (sym e))
-goes_counted (Counted number) e = tt
+-- a write goes into the chunks of the item that is found: they are those that it needs, and the item is counted or dead
+abbrev pub reuses : (cut : Option ℕ) → (now : ℕ) → (key : List ℕ) → Option Entry → NeedState → Body → Bool
+reuses cut now key found need body = has_need key found need && (counts body || is_gone cut now found)
+
+not_reused : (has : Bool) (body : Body) (gone : Bool) (need : NeedState) (slab : SlabState) → has && plans.goes_over body gone need slab ≡ false → has && (counts body || gone) ≡ false
+not_reused false body gone need slab e = refl
+not_reused true (Counted number) gone need slab e = e
+not_reused true Prepended gone need slab e = e
+not_reused true body true need slab e = e
+not_reused true body false need slab e = refl
+
+-- a write that goes into others reuses none
+pub reuses_none : {write : Writing} {step : KeyStep} {shelf : ShelfContent} {need : NeedState} {slab : SlabState} {back : ℕ} → GoesApart write step shelf need slab back
+    → reuses shelf.cut write.moment (key_of step) (get shelf.items (key_of step)) need write.draft.body ≡ false
+reuses_none {write} {step} {shelf} {need} {slab} apart =
+    let found = get shelf.items (key_of step) in
+    not_reused (has_need (key_of step) found need) write.draft.body (is_gone shelf.cut write.moment found) need slab apart.other
+
+-- where a write goes over an item without reusing its chunks, as many others are unused
+unused_over : (body : Body) (gone : Bool) (need : NeedState) (slab : SlabState) → plans.goes_over body gone need slab ≡ true → counts body || gone ≡ false
+    → need.count ≤ slabs.unused slab need.class
+unused_over (Counted number) gone need slab e none = absurd (true≢false none)
+unused_over Prepended gone need slab e none = absurd (true≢false (sym e ∙ none))
+unused_over body true need slab e none = absurd (true≢false none)
+unused_over body false need slab e none = leb-true need.count (slabs.unused slab need.class) e
 
 same_needs : (a b : NeedState) → same_need a b ≡ true → a ≡ b
 same_needs a b e =
@@ -273,20 +293,13 @@ module _ {step : KeyStep} {now : ℕ} {shelf : ShelfContent} {desk : DeskState} 
   counted_is : Reuses true → (item : Entry) → its_stands ≡ Some item → counts draft.body ≡ true
   counted_is e item stood = or_left (counts draft.body) (is_gone shelf.cut now its_found) (stands_not_gone shelf.cut now its_found item stood) (reused_is e).3
 
-  -- or the step's own
-  pub own_is : Reuses true → counts draft.body ≡ false → draft.body ≡ Given
-  own_is e none = by its_stands refl
+  -- a body that goes over the item may: beside a dead one the block is the step's own
+  pub may_go : {slab : SlabState} → plans.goes_over draft.body (is_gone shelf.cut now its_found) need slab ≡ true → GoesOver draft.body
+  may_go {slab} over = by draft.body refl over
     where
-      by : (st : Option Entry) → its_stands ≡ st → draft.body ≡ Given
-      by None is = drafted_is.given is
-      by (Some old) is = absurd (true≢false (sym (counted_is e old is) ∙ none))
-
-  -- either may go there
-  pub goes_over : (Reuses false → GoesOver draft.body) → GoesOver draft.body
-  goes_over over = elim (reuses shelf.cut now its_key its_found need draft.body) as (λ b. Reuses b → GoesOver draft.body) [
-    | true ↦ λ e. elim (counts draft.body) as (λ b. counts draft.body ≡ b → GoesOver draft.body) [ true ↦ goes_counted draft.body | false ↦ λ none. subst GoesOver (sym (own_is e none)) tt ] refl
-    | false ↦ over
-  ] refl
+      by : (body : Body) → draft.body ≡ body → plans.goes_over body (is_gone shelf.cut now its_found) need slab ≡ true → GoesOver body
+      by Prepended is gone = subst GoesOver (sym (drafted_is.given (dead_found shelf step now its_found its_stands gone).1) ∙ is) tt
+      by body is over = tt
 
   -- where the key's item has the chunks of the need, they are those of the block that is made beside it
   pub item_over : (state : ShelfState) → state.content ≡ shelf → has_need its_key its_found need ≡ true → LiesInNeed its_key (block_beside shelf step draft) state
@@ -534,12 +547,14 @@ module _ {step : KeyStep} {now : ℕ} {shelf : ShelfContent} {desk : DeskState} 
           (subst (λ (o : Option Entry). GivesBack its_key o mid desk') (sym there.1) (subst (λ (k : NeedState). GivesChunks k mid desk') (sym there.2) gives))
 
       -- it goes into the chunks of the key's item
-      pub takes_over : {reply : Reply} {desk' : DeskState} → has_need its_key its_found need ≡ true → (Reuses false → need.count ≤ slabs.unused desk.slab need.class)
+      pub takes_over : {reply : Reply} {desk' : DeskState} → has_need its_key its_found need ≡ true → plans.goes_over draft.body (is_gone shelf.cut now its_found) need desk.slab ≡ true
           → reply ≡ write_reply draft.body → desk' ≡ record desk { next_unique = desk.next_unique + 1 } → StepTaken step now own shelf desk reply new desk'
-      takes_over {reply} {desk'} has free told same =
+      takes_over {reply} {desk'} has over told same =
           elim (reuses shelf.cut now its_key its_found need draft.body) as (λ b. Reuses b → StepTaken step now own shelf desk reply new desk') [
             | true ↦ λ e. takes_again e told same
-            | false ↦ λ e. takes_in_place e has (free e) told same
+            | false ↦ λ e.
+                let none = subst (λ (b : Bool). b && (counts draft.body || is_gone shelf.cut now its_found) ≡ false) has e in
+                takes_in_place e has (unused_over draft.body (is_gone shelf.cut now its_found) need desk.slab over none) told same
           ] refl
 
 -- what is put after the key's item was dropped

@@ -1,5 +1,5 @@
 -- What a step asks of a shelf.
-use Rattle.std.specs.Prelude.{◌≡◌, ◌≢◌, ◌⊎◌, ℕ, ◌+◌, ◌-◌, ◌^◌, ◌≤◌, ◌==◌, ◌&&◌, ◌||◌, not, Bool, true, false, List, [], ◌++◌, decimal, length, Option, Some, None, is_some, is_none, IfSome, nat_lt, if◌then◌else◌}
+use Rattle.std.specs.Prelude.{◌≡◌, ◌≢◌, ◌⊎◌, ℕ, ◌+◌, ◌-◌, ◌^◌, ◌≤◌, ◌==◌, ◌&&◌, ◌||◌, not, Bool, true, false, List, [], ◌++◌, decimal, length, Option, Some, None, is_some, is_none, IfSome, nat_le, nat_lt, if◌then◌else◌}
 use Rattle.std.specs.FinMap.{get, insert}
 use Rattle.std.specs.Borrow.{Bor}
 use Rattle.mc_time.specs.declared.expiry.Expiry.{Expiry}
@@ -235,10 +235,6 @@ counts Appended = false
 counts Prepended = false
 counts (Counted number) = true
 
--- a write goes into the chunks of the item that is found: they are those that it needs, and the item is counted or dead
-abbrev pub reuses : (cut : Option ℕ) → (now : ℕ) → (key : List ℕ) → Option Entry → NeedState → Body → Bool
-reuses cut now key found need body = has_need key found need && (counts body || is_gone cut now found)
-
 -- a write that comes next in a step, of a key that is known
 pub record IsWriteOf (write : Writing) (shelf : ShelfContent) (step : KeyStep) : Type 0 where
   pub on_key : IsOnKey step
@@ -263,20 +259,25 @@ block_beside shelf step draft =
 
 -- a body whose block may go into the chunks of the key's item: over the block that stands, or behind it
 abbrev pub GoesOver : Body → Type 0
-GoesOver Given = Unit {0}
-GoesOver Appended = Unit {0}
 GoesOver Prepended = ⊥
-GoesOver (Counted number) = Unit {0}
+GoesOver body = Unit {0}
 
--- a write goes into the chunks of the key's item, which are those that it needs: it reuses them, or as many others are unused
+-- a body's block goes into the chunks of the key's item, which are those that the write needs: it is a number's digits, the item
+-- is dead, or as many other chunks are unused and the block doesn't come before the present one
+abbrev pub goes_over : Body → (gone : Bool) → NeedState → SlabState → Bool
+goes_over (Counted number) gone need slab = true
+goes_over Prepended gone need slab = gone
+goes_over body gone need slab = gone || nat_le need.count (slabs.unused slab need.class)
+
+-- a write goes into the chunks of the key's item, which are those that it needs
 pub record GoesInto (write : Writing) (step : KeyStep) (shelf : ShelfContent) (need : NeedState) (slab : SlabState) : Type 0 where
   pub has : has_need (key_of step) (get shelf.items (key_of step)) need ≡ true
-  pub over : reuses shelf.cut write.moment (key_of step) (get shelf.items (key_of step)) need write.draft.body ≡ false → GoesOver write.draft.body
-  pub unused : reuses shelf.cut write.moment (key_of step) (get shelf.items (key_of step)) need write.draft.body ≡ false → need.count ≤ slabs.unused slab need.class
+  pub over : goes_over write.draft.body (is_gone shelf.cut write.moment (get shelf.items (key_of step))) need slab ≡ true
 
 -- it goes into others, before which a dead item gives back so many of their class
-pub record GoesApart (write : Writing) (step : KeyStep) (shelf : ShelfContent) (need : NeedState) (back : ℕ) : Type 0 where
-  pub other : reuses shelf.cut write.moment (key_of step) (get shelf.items (key_of step)) need write.draft.body ≡ false
+pub record GoesApart (write : Writing) (step : KeyStep) (shelf : ShelfContent) (need : NeedState) (slab : SlabState) (back : ℕ) : Type 0 where
+  pub other : has_need (key_of step) (get shelf.items (key_of step)) need
+      && goes_over write.draft.body (is_gone shelf.cut write.moment (get shelf.items (key_of step))) need slab ≡ false
   pub back_is : back ≡ back_at shelf (key_of step) write.moment need
 
 -- the item of a write whose block is left, beside the item that the shelf has under the step's key

@@ -1,7 +1,7 @@
 //! What the shelves of a store share.
 
 ghost use Rattle.std.specs.Prelude.{◌≡◌, ◌+◌, ◌-◌, ◌^◌, ◌<◌, ◌≤◌, true, false, None, IfOk, IfErr, IfSome, OnOk, OnErr};
-ghost use Rattle.std.specs.Prelude.{ℕ, List};
+ghost use Rattle.std.specs.Prelude.{ℕ, List, nat_le};
 ghost use Rattle.mc_slab.specs.Needs.{IsNeed};
 ghost use Rattle.mc_slab.specs.Chunks.{AreChunksOf};
 ghost use Rattle.mc_slab.specs.Slabs.{IsSlab, WantsPages, given, has_room_with, made_ready, out_of};
@@ -138,7 +138,7 @@ impl Desk {
 
     /// Returns whether the chunks of a need are unused, so that it wants no page.
     pub(crate) fn has_unused(&self, need: Need) -> bool
-        ensures { result ≡ true → need.count ≤ unused self.now.slab need.class }
+        ensures { result ≡ nat_le need.count (unused self.now.slab need.class) }
     {
         u64::from(need.count()) <= self.unused_chunks(need.class())
     }

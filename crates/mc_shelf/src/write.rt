@@ -8,7 +8,6 @@ ghost use Rattle.std.specs.Prelude.{◌≡◌, ◌↔◌, ◌||◌, ℕ, ◌+◌
 ghost use Rattle.std.specs.Prelude.{Option, Some, None, Err, IfOk, IfSome, OnErr, true, false};
 ghost use Rattle.std.specs.FinMap.{get};
 ghost use Rattle.mc_slab.specs.Needs.{need_for, same_need};
-ghost use Rattle.mc_slab.specs.Slabs.{unused};
 ghost use Rattle.mc_slab.specs.Chunks.{need_in};
 ghost use Rattle.mc_protocol.specs.Commands.{key_of};
 ghost use Rattle.mc_protocol.specs.Plain.{block_of, charge, item_need, write_reply};
@@ -74,13 +73,10 @@ impl Write {
     ///
     /// It does if the key's item is dead or a number is counted. It also does if as many others are
     /// unused, and the block is the step's own or comes behind the present one: taking them and
-    /// giving the item's back would leave the slab unchanged.
+    /// giving the item's back would leave the slab unchanged. Otherwise it doesn't.
     fn goes_over(&self, gone: bool, need: Need, desk: &Desk) -> bool
-        ensures left { result ≡ true → plans.counts self.now.draft.body || gone ≡ false →
-            GoesOver self.now.draft.body }
-        ensures unused { result ≡ true → plans.counts self.now.draft.body || gone ≡ false →
-            need.count ≤ unused desk.now.slab need.class }
-        ensures other { result ≡ false → plans.counts self.now.draft.body || gone ≡ false }
+        ensures told { result ≡ plans.goes_over self.now.draft.body gone need desk.now.slab }
+        ensures stands { result ≡ false → gone ≡ false }
     {
         match self.draft.body {
             Body::Given | Body::Appended => gone || desk.has_unused(need),
@@ -400,7 +396,7 @@ impl Shelf {
         ensures over { result ≡ None → GoesInto write.now step.now self.now.content need
             desk.now.slab }
         ensures apart { IfSome result (λ back. GoesApart write.now step.now self.now.content need
-            back) }
+            desk.now.slab back) }
         ensures most { IfSome result (λ back. back ≤ 8) }
     {
         let found = self.entry(write.place, write.hash, step.key());

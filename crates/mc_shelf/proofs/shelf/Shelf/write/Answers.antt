@@ -5,7 +5,7 @@ use Rattle.mc_shelf.specs.declared.write.Write.{Write as Writing}
 use Rattle.mc_shelf.specs.Plans.{CanWriteBlock, GivesBack, GoesInto, IsOut, IsPut, IsWriteOf, StepTaken, Suits, back_at, block_beside, drafted, drawn, left_of, with_item, written}
 use Rattle.mc_shelf.proofs.NeedLemmas.{chunks_size}
 use Rattle.mc_shelf.proofs.ShelfLemmas.{known_sought, put_over}
-use Rattle.mc_shelf.proofs.TakesLemmas.{Writes, charge_beside, drafts, gave_way, goes_over, is_out, is_out_taken, item_over, put_after_drop, room_by}
+use Rattle.mc_shelf.proofs.TakesLemmas.{Writes, charge_beside, drafts, gave_way, is_out, is_out_taken, item_over, may_go, put_after_drop, reuses_none, room_by}
 use Rattle.mc_shelf.proofs.TakesLemmas.{takes_anew, takes_full, takes_over, takes_way, way_is, way_out, writes_so}
 use Rattle.mc_shelf.proofs.shelf.Shelf.write.Goals as goal
 
@@ -25,7 +25,7 @@ over {write} {step} {shelf} {desk = desk} {unique = unique} is need_is is_need i
     let item = drafted write.draft (block_beside shelf step write.draft) unique write.moment in
     takes_over (writes_so desk is need_is) is_need is_slab number drawn
     (subst (λ (s : ShelfContent). IsPut (key_of step) write.hash shelf s item) (sym new_is) (put_over (key_of step) write.hash shelf item is.known.hash))
-    into.has into.unused refl taken
+    into.has into.over refl taken
 
 -- and it can be done
 can_write : {write : Writing} {step : KeyStep} {shelf : ShelfState} {desk : DeskState} {need : NeedState} {slab : SlabState} {unique : ℕ} → IsWriteOf write shelf.content step
@@ -34,7 +34,7 @@ can_write : {write : Writing} {step : KeyStep} {shelf : ShelfState} {desk : Desk
 can_write {write} {step} {shelf} is w into = record {
   short = is.short;
   sought = known_sought _ (key_of step) write.hash write.place is.known;
-  ready = (goes_over w into.over, item_over w shelf refl into.has);
+  ready = (may_go w into.over, item_over w shelf refl into.has);
 }
 
 pub write_block-none-requires : goal.write_block-none-requires
@@ -75,7 +75,7 @@ pub returns-then-not-has_room-clause-took : goal.returns-then-not-has_room-claus
 returns-then-not-has_room-clause-took c =
     let apart = c.in-Some.ensures.apart in
     let w = writes_so c.args.desk.now c.requires.write c.need_for-need.ensures.value in
-    takes_full w c.need_for-need.ensures.is_need c.is_spent.ensures.slab (c.is_spent.ensures.left c.if-is_spent.false) apart.other
+    takes_full w c.need_for-need.ensures.is_need c.is_spent.ensures.slab (c.is_spent.ensures.left c.if-is_spent.false) (reuses_none apart)
     (room_by w apart.back_is c.has_room.ensures.value c.if-not-has_room.true) c.requires.write.known.hash c.drop_dead.ensures.dead c.drop_dead.ensures.alive
 
 pub put-requires-2-clause-chunks : goal.put-requires-2-clause-chunks
@@ -101,7 +101,7 @@ returns-clause-took c =
     let none : c.in-Some.back ≡ 0 = let least = c.if-back-gt0.false in omega (arith, least) in
     takes_anew w c.need_for-need.ensures.is_need c.take.ensures.slab (c.is_spent.ensures.left c.if-is_spent.false)
     (ap (λ (d : DeskState). d.next_unique) c.in_ok-chunks.ensures.taken) c.put-2.ensures.put
-    apart.other (sym apart.back_is ∙ none) (room_by w apart.back_is c.has_room.ensures.value c.if-not-has_room.false)
+    (reuses_none apart) (sym apart.back_is ∙ none) (room_by w apart.back_is c.has_room.ensures.value c.if-not-has_room.false)
     c.put-2.ensures.told (ap drawn c.in_ok-chunks.ensures.taken) c.put-2.ensures.given
 
 -- ---- a dead item gives its chunks back first
@@ -111,7 +111,7 @@ ready-requires-clause-back c =
     let w = writes_so c.args.desk.now c.requires.write c.need_for-need.ensures.value in
     let apart = c.in-Some.ensures.apart in
     subst (λ (n : ℕ). n ≤ out_of c.args.desk.now.slab c.need_for-need.result.class) (sym apart.back_is)
-    (way_out w apart.other (subst (λ (n : ℕ). 0 < n) apart.back_is c.if-back-gt0.true) c.requires.stands)
+    (way_out w (reuses_none apart) (subst (λ (n : ℕ). 0 < n) apart.back_is c.if-back-gt0.true) c.requires.stands)
 
 pub discard-requires-clause-out : goal.discard-requires-clause-out
 discard-requires-clause-out c =
@@ -121,7 +121,7 @@ discard-requires-clause-out c =
 pub take_unused-chunks-requires : goal.take_unused-chunks-requires
 take_unused-chunks-requires c =
     let apart = c.in-Some.ensures.apart in
-    (gave_way (writes_so c.args.desk.now c.requires.write c.need_for-need.ensures.value) apart.other c.is_spent.ensures.slab c.requires.stands apart.back_is c.if-back-gt0.true
+    (gave_way (writes_so c.args.desk.now c.requires.write c.need_for-need.ensures.value) (reuses_none apart) c.is_spent.ensures.slab c.requires.stands apart.back_is c.if-back-gt0.true
     c.in_ok-ready.ensures.ready c.discard.ensures.dropped c.discard.ensures.given).2
 
 pub put-requires-clause-can : goal.put-requires-clause-can
@@ -133,7 +133,7 @@ put-requires-clause-can c =
     let w = writes_so desk c.requires.write need_is in
     let apart = c.in-Some.ensures.apart in
     let number = c.is_spent.ensures.left c.if-is_spent.false in
-    let way = gave_way w apart.other c.is_spent.ensures.slab c.requires.stands apart.back_is c.if-back-gt0.true
+    let way = gave_way w (reuses_none apart) c.is_spent.ensures.slab c.requires.stands apart.back_is c.if-back-gt0.true
     c.in_ok-ready.ensures.ready c.discard.ensures.dropped c.discard.ensures.given in
     let room = c.requires.room (record {
       size = write.charge;
@@ -142,7 +142,7 @@ put-requires-clause-can c =
       number = λ spent. omega (arith, number, spent);
       chunks = subst (λ (n : NeedState). has_room_with desk.slab n (back_at shelf (key_of c.args.step.now) write.moment n) ≡ true) need_is
           (room_by w apart.back_is c.has_room.ensures.value c.if-not-has_room.false);
-    }) (inr (way_is w apart.other (subst (λ (n : ℕ). 0 < n) apart.back_is c.if-back-gt0.true)).5) in
+    }) (inr (way_is w (reuses_none apart) (subst (λ (n : ℕ). 0 < n) apart.back_is c.if-back-gt0.true)).5) in
     record {
       short = c.requires.write.short;
       sought = record { hash = way.0.hash; none = λ _. way.0.item };
@@ -154,7 +154,7 @@ pub put-requires-clause-chunks : goal.put-requires-clause-chunks
 put-requires-clause-chunks c =
     let w = writes_so c.args.desk.now c.requires.write c.need_for-need.ensures.value in
     let apart = c.in-Some.ensures.apart in
-    let way = gave_way w apart.other c.is_spent.ensures.slab c.requires.stands apart.back_is c.if-back-gt0.true
+    let way = gave_way w (reuses_none apart) c.is_spent.ensures.slab c.requires.stands apart.back_is c.if-back-gt0.true
     c.in_ok-ready.ensures.ready c.discard.ensures.dropped c.discard.ensures.given in
     suits w c.discard.new.self.content c.need_for-need.ensures.holds c.take_unused-chunks.ensures.chunks way.3
 
@@ -167,7 +167,7 @@ returns-then-back-gt0-clause-took c =
     let mid = c.discard.new.self.content in
     let w = writes_so desk c.requires.write c.need_for-need.ensures.value in
     let apart = c.in-Some.ensures.apart in
-    let way = gave_way w apart.other c.is_spent.ensures.slab c.requires.stands apart.back_is c.if-back-gt0.true
+    let way = gave_way w (reuses_none apart) c.is_spent.ensures.slab c.requires.stands apart.back_is c.if-back-gt0.true
     c.in_ok-ready.ensures.ready c.discard.ensures.dropped c.discard.ensures.given in
     let took = c.take_unused-chunks.new.self in
     let back = back_at c.args.self.now.content (key_of step) write.moment need in
@@ -177,5 +177,5 @@ returns-then-back-gt0-clause-took c =
     takes_way w c.need_for-need.ensures.is_need c.is_spent.ensures.slab (c.is_spent.ensures.left c.if-is_spent.false) (ap (λ (d : DeskState). d.next_unique) took_is)
     (put_after_drop (key_of step) write.hash c.args.self.now.content mid new _ way.0
     (subst (λ (l : List ℕ). IsPut (key_of step) write.hash mid new (drafted write.draft l took.next_unique write.moment)) way.3 c.put.ensures.put))
-    apart.other (subst (λ (n : ℕ). 0 < n) apart.back_is c.if-back-gt0.true) (room_by w apart.back_is c.has_room.ensures.value c.if-not-has_room.false) c.put.ensures.told
+    (reuses_none apart) (subst (λ (n : ℕ). 0 < n) apart.back_is c.if-back-gt0.true) (room_by w apart.back_is c.has_room.ensures.value c.if-not-has_room.false) c.put.ensures.told
     (subst (λ (o : Option Entry). GivesBack (key_of step) o (drawn took) c.put.new.desk) way.0.item c.put.ensures.given ∙ ap drawn took_is)
