@@ -27,7 +27,6 @@ use Rattle.mc_shelf.specs.declared.plan.Action.{Action}
 use Rattle.mc_shelf.specs.declared.plan.Action.TheVariants.{Answer, Expire, Discard, Write}
 use Rattle.mc_shelf.specs.declared.plan.Plan.{Plan}
 use Rattle.mc_shelf.specs.declared.write.Write.{Write as Writing}
-use Rattle.mc_shelf.specs.declared.begun.Unwritten.{Unwritten}
 use Rattle.mc_shelf.specs.declared.begun.Begun.{Begun}
 use Rattle.mc_shelf.specs.declared.begun.Begun.TheVariants.{Done, Full, Left}
 
@@ -280,11 +279,6 @@ pub record GoesApart (write : Writing) (step : KeyStep) (shelf : ShelfContent) (
       && goes_over write.draft.body (is_gone shelf.cut write.moment (get shelf.items (key_of step))) need slab ≡ false
   pub back_is : back ≡ back_at shelf (key_of step) write.moment need
 
--- the item of a write whose block is left, beside the item that the shelf has under the step's key
-abbrev pub left_item : Writing → Unwritten → KeyStep → ShelfContent → Entry
-left_item write rest step shelf =
-    drafted write.draft (block_beside shelf step write.draft) rest.unique write.moment
-
 -- a shelf after this item came under a key: into chunks that wait for it, and then with a hash, or
 -- else into those of the key's item, whose hash stays
 abbrev pub with_item : Option ChunksState → (key : List ℕ) → (own : ℕ) → Entry → ShelfContent → ShelfContent
@@ -294,11 +288,15 @@ with_item (Some chunks) key own item shelf = record shelf {
   hashes = insert shelf.hashes key own;
 }
 
--- a shelf after what is left of a write
-abbrev pub written : Writing → Option Unwritten → KeyStep → ShelfContent → ShelfContent
+-- what is left of a write: its unique number, and the chunks of its item, or none if it goes into those of the key's item
+abbrev pub Rest : Type 0
+Rest = ℕ × Option ChunksState
+
+-- a shelf after what is left of a write, whose block is made beside the item that the shelf has under the step's key
+abbrev pub written : Writing → Option Rest → KeyStep → ShelfContent → ShelfContent
 written write None step shelf = shelf
 written write (Some rest) step shelf =
-    with_item rest.chunks (key_of step) write.hash (left_item write rest step shelf) shelf
+    with_item rest.1 (key_of step) write.hash (drafted write.draft (block_beside shelf step write.draft) rest.0 write.moment) shelf
 
 -- the write of a plan
 abbrev pub write_of : Plan → (charge : ℕ) → Draft → Writing
@@ -311,13 +309,12 @@ write_of plan charge draft = record {
 }
 
 -- what is left of a step that was begun
-abbrev pub left_of : Begun → Option Unwritten
-left_of Done = None
-left_of Full = None
-left_of (Left rest) = Some rest
+abbrev pub left_of : Begun → Option Rest
+left_of (Left unique chunks) = Some (unique, chunks)
+left_of begun = None
 
 -- a shelf after what is left of a step that comes next so was written
-abbrev pub written_next : Plan → Action → Option Unwritten → KeyStep → ShelfContent → ShelfContent
+abbrev pub written_next : Plan → Action → Option Rest → KeyStep → ShelfContent → ShelfContent
 written_next plan (Answer reply) rest step shelf = shelf
 written_next plan (Expire expiry reply) rest step shelf = shelf
 written_next plan (Discard reply) rest step shelf = shelf
@@ -330,9 +327,8 @@ finished plan begun step shelf = written_next plan plan.next (left_of begun) ste
 
 -- the answer of a write that was begun
 abbrev pub write_told : Body → Begun → Reply
-write_told body Done = write_reply body
 write_told body Full = NoChunk
-write_told body (Left rest) = write_reply body
+write_told body begun = write_reply body
 
 -- the answer of a step that comes next so and was begun
 abbrev pub told_next : Action → Begun → Reply
@@ -379,31 +375,28 @@ pub record IsSought (shelf : ShelfContent) (key : List ℕ) (own : ℕ) (found :
 
 -- what is left of a write can be done: the key is known, and chunks are ready for what it makes beside
 -- the key's item
-pub record CanWriteBlock (write : Writing) (rest : Unwritten) (step : KeyStep) (shelf : ShelfState) : Type 0
+pub record CanWriteBlock (write : Writing) (chunks : Option ChunksState) (step : KeyStep) (shelf : ShelfState) : Type 0
   where
     pub short : length (key_of step) ≤ longest_key
     pub sought : IsSought shelf.content (key_of step) write.hash write.place
-    pub ready : ChunksAreReady rest.chunks write.draft.body (key_of step)
+    pub ready : ChunksAreReady chunks write.draft.body (key_of step)
         (block_beside shelf.content step write.draft) shelf
 
 -- a write is left: what is left can be done, and is no number where it goes into the item's own chunks
-pub record IsLeft (write : Writing) (rest : Unwritten) (step : KeyStep) (shelf : ShelfState) : Type 0
+pub record IsLeft (write : Writing) (chunks : Option ChunksState) (step : KeyStep) (shelf : ShelfState) : Type 0
   where
-    pub can : CanWriteBlock write rest step shelf
-    pub own : rest.chunks ≡ None → counts write.draft.body ≡ false
+    pub can : CanWriteBlock write chunks step shelf
+    pub own : chunks ≡ None → counts write.draft.body ≡ false
 
 -- what is left of a step that comes next so can be done; nothing is asked unless it writes
-abbrev pub CanWriteNext : Plan → Action → Unwritten → KeyStep → ShelfState → Type 0
-CanWriteNext plan (Answer reply) rest step shelf = Unit {0}
-CanWriteNext plan (Expire expiry reply) rest step shelf = Unit {0}
-CanWriteNext plan (Discard reply) rest step shelf = Unit {0}
-CanWriteNext plan (Write charge draft) rest step shelf =
-    IsLeft (write_of plan charge draft) rest step shelf
+abbrev pub CanWriteNext : Plan → Action → Option ChunksState → KeyStep → ShelfState → Type 0
+CanWriteNext plan (Write charge draft) chunks step shelf = IsLeft (write_of plan charge draft) chunks step shelf
+CanWriteNext plan next chunks step shelf = Unit {0}
 
 -- what is left of a step that was begun can be done
 abbrev pub CanFinish : Plan → Begun → KeyStep → ShelfState → Type 0
 CanFinish plan begun step shelf =
-    IfSome (left_of begun) (λ rest. CanWriteNext plan plan.next rest step shelf)
+    IfSome (left_of begun) (λ rest. CanWriteNext plan plan.next rest.1 step shelf)
 
 -- chunks, where they are pages
 abbrev pub pages_in : NeedState → Option NeedState

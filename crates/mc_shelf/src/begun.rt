@@ -15,21 +15,6 @@ use mc_protocol::{Draft, KeyStep, Reply};
 use mc_slab::Chunks;
 use std::mem;
 
-/// The rest of a write: the copying of a block.
-///
-/// It is a large block of a new key, a block of any size that goes over or behind that of the key's
-/// item in its chunks, or one that is joined with it in other chunks.
-#[derive(Drop)]
-pub struct Unwritten {
-    /// The unique number of the write.
-    pub(crate) unique: u64,
-    /// The chunks of the new item, or `None` if it goes into those of the key's item.
-    ///
-    /// If the item is joined with the key's item in other chunks, that item's own chunks are freed,
-    /// since the desk got others in exchange.
-    pub(crate) chunks: Option<Chunks>,
-}
-
 /// How far the desk has brought a planned step.
 ///
 /// If the shelf takes no other step before `finish`, it then holds the result of the step.
@@ -39,8 +24,13 @@ pub enum Begun {
     Done,
     /// There is no room for the item that the step writes. A dead item of its key was dropped.
     Full,
-    /// The item is still to be written, with the step's block.
-    Left(Unwritten),
+    /// The item is still to be written, with this unique number and the step's block.
+    ///
+    /// It goes into these chunks, or if there are none into those of the key's item. The block is a
+    /// large one of a new key, one of any size that goes over or behind that of the key's item in
+    /// its chunks, or one that is joined with it in others. The key's item is then freed with its
+    /// own chunks, since the desk got others in exchange.
+    Left(u64, Option<Chunks>),
 }
 
 impl Begun {
@@ -50,7 +40,7 @@ impl Begun {
     {
         match self {
             Begun::Full => Reply::NoChunk,
-            Begun::Done | Begun::Left(_) => draft.body.reply(),
+            Begun::Done | Begun::Left(..) => draft.body.reply(),
         }
     }
 }
@@ -75,7 +65,7 @@ impl Shelf {
             Action::Discard(reply) => mem::replace(reply, Reply::Miss),
             Action::Write(charge, draft) => {
                 let reply = begun.begun_reply(draft);
-                if let Begun::Left(rest) = begun {
+                if let Begun::Left(unique, chunks) = begun {
                     let write = Write {
                         hash: plan.hash,
                         place: plan.place,
@@ -84,7 +74,7 @@ impl Shelf {
                         draft: *draft,
                     };
                     // the old item's chunks are freed: the desk got others in exchange
-                    let _old = self.write_block(&write, rest, step);
+                    let _old = self.write_block(&write, unique, chunks, step);
                 }
                 reply
             }

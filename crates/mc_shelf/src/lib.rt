@@ -43,7 +43,7 @@ mod soonest;
 mod store;
 mod write;
 
-pub use begun::{Begun, Unwritten};
+pub use begun::Begun;
 pub use counts::ShelfCounts;
 pub use desk::{Desk, WantedPages};
 pub use entry::Entry;

@@ -21,7 +21,7 @@ ghost use Rattle.mc_shelf.specs.Plans.{Suits, block_beside, block_in, drafted, d
 ghost use Rattle.mc_shelf.specs.Plans.{has_no_number, is_gone, item_in, left_of, made_block};
 ghost use Rattle.mc_shelf.specs.Plans.{write_told, written};
 
-use crate::begun::{Begun, Unwritten};
+use crate::begun::Begun;
 use crate::desk::Desk;
 use crate::entry::Entry;
 use crate::exchange::Brought;
@@ -348,7 +348,7 @@ impl Shelf {
             self.old.content desk.old (write_told write.now.draft.body begun)
             (written write.now (left_of begun) step.now self.new.content) desk.new) }
         ensures left { IfOk result (λ begun.
-            IfSome (left_of begun) (λ rest. IsLeft write.now rest step.now self.new)) }
+            IfSome (left_of begun) (λ rest. IsLeft write.now rest.1 step.now self.new)) }
         ensures spent { result ≡ Err StepFault.NumbersSpent ↔ has_no_number desk.old }
         ensures refused { result ≡ Err StepFault.NoMemory
             → NeedsPages (Action.Write write.now.charge write.now.draft) self.old.content
@@ -363,16 +363,12 @@ impl Shelf {
         let need = self.need_for(write.charge);
         let Some(back) = self.fit(write, need, step, desk) else {
             let unique = desk.draw();
-            let rest = Unwritten {
-                unique,
-                chunks: None,
-            };
             if write.counts() {
                 // nothing to give back: the item keeps its own chunks
-                let _none = self.write_block(write, rest, step);
+                let _none = self.write_block(write, unique, None, step);
                 return Ok(Begun::Done);
             }
-            return Ok(Begun::Left(rest));
+            return Ok(Begun::Left(unique, None));
         };
         if !desk.has_room(need, back) {
             self.drop_dead(write, step, desk);
@@ -437,34 +433,24 @@ impl Shelf {
         ensures given { GivesBack (key_of step.now) (get self.old.content.items (key_of step.now))
             (drawn desk.old) desk.new }
         ensures left { IfSome (left_of result) (λ rest.
-            IsLeft write.now rest step.now self.new) }
+            IsLeft write.now rest.1 step.now self.new) }
         ensures table { KeepsTable 0 (counts_of self.old) (counts_of self.new) }
     {
         let unique = desk.draw();
         if write.leaves_block(step) {
             let key = step.key();
             let Some(place) = self.index.find_again(write.place, write.hash, key) else {
-                return Begun::Left(Unwritten {
-                    unique,
-                    chunks: Some(chunks),
-                });
+                return Begun::Left(unique, Some(chunks));
             };
             let entry = write.head_of(chunks, unique, key, step.block().len());
             let old = self.index.replace(place, entry);
             desk.give(old.into_chunks());
-            return Begun::Left(Unwritten {
-                unique,
-                chunks: None,
-            });
+            return Begun::Left(unique, None);
         }
-        let rest = Unwritten {
-            unique,
-            chunks: Some(chunks),
-        };
         if self.exchanges(write, step.key(), exchange, desk) {
-            return Begun::Left(rest);
+            return Begun::Left(unique, Some(chunks));
         }
-        if let Some(old) = self.write_block(write, rest, step) {
+        if let Some(old) = self.write_block(write, unique, Some(chunks), step) {
             desk.give(old.into_chunks());
         }
         Begun::Done
@@ -476,17 +462,17 @@ impl Shelf {
     pub(crate) fn write_block(
         &mut self,
         write: &Write,
-        rest: Unwritten,
+        unique: u64,
+        chunks: Option<Chunks>,
         step: &KeyStep<'_>,
     ) -> Option<Entry>
-        requires { CanWriteBlock write.now rest step.now self.old }
+        requires { CanWriteBlock write.now chunks step.now self.old }
         ensures content { self.new.content
-            ≡ written write.now (Some rest.entry) step.now self.old.content }
-        ensures before { StoodBefore rest.entry.chunks (key_of step.now)
+            ≡ written write.now (Some (unique, chunks.entry)) step.now self.old.content }
+        ensures before { StoodBefore chunks.entry (key_of step.now)
             (get self.old.content.items (key_of step.now)) result }
         ensures table { KeepsTable 0 (counts_of self.old) (counts_of self.new) }
     {
-        let Unwritten { unique, chunks } = rest;
         let key = step.key();
         let place = self.index.find_again(write.place, write.hash, key);
         let Some(chunks) = chunks else {

@@ -22,7 +22,7 @@ struct HashedStep<'a> {
 /// Returns whether something of a step is left.
 fn is_left(begun: &Begun) -> bool {
     match begun {
-        Begun::Left(_) => true,
+        Begun::Left(..) => true,
         Begun::Done | Begun::Full => false,
     }
 }

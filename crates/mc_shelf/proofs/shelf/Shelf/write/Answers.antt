@@ -28,9 +28,9 @@ over {write} {step} {shelf} {desk = desk} {unique = unique} is need_is is_need i
     into.has into.over refl taken
 
 -- and it can be done
-can_write : {write : Writing} {step : KeyStep} {shelf : ShelfState} {desk : DeskState} {need : NeedState} {slab : SlabState} {unique : ℕ} → IsWriteOf write shelf.content step
+can_write : {write : Writing} {step : KeyStep} {shelf : ShelfState} {desk : DeskState} {need : NeedState} {slab : SlabState} → IsWriteOf write shelf.content step
     → Writes step write.moment shelf.content desk write.charge write.draft need → GoesInto write step shelf.content need slab
-    → CanWriteBlock write (record { unique = unique; chunks = None }) step shelf
+    → CanWriteBlock write None step shelf
 can_write {write} {step} {shelf} is w into = record {
   short = is.short;
   sought = known_sought _ (key_of step) write.hash write.place is.known;

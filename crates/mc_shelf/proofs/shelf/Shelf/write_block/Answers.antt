@@ -11,7 +11,7 @@ returns-in-Some-place-2-clause-content c =
     let step = c.args.step.now in
     let old = c.args.self.now.content in
     let key = key_of step in
-    let item = drafted write.draft (block_beside old step write.draft) c.args.rest.unique write.moment in
+    let item = drafted write.draft (block_beside old step write.draft) c.args.unique write.moment in
     let here = c.in-Some-place-2.ensures in
     let beside : block_in (item_in c.found_entry-old.result) ≡ block_in (get old.items key) =
     ap block_in ((c.found_entry-old.ensures c.key-key.result.now c.find_again-place.ensures).item
@@ -22,7 +22,7 @@ returns-in-Some-place-2-clause-content c =
       hash = write.hash;
       key = key;
       item = drafted write.draft (made_block write.draft.body (block_of step) l)
-          c.args.rest.unique write.moment;
+          c.args.unique write.moment;
     }) beside in
     let stood : get old.hashes key ≡ Some here.entry.hash =
     sym (ap (λ (s : ShelfState). get s.content.hashes key) c.self.view_is) ∙ ap (λ (k : List ℕ). get (hashes_of inside.index) k) (sym c.key-key.ensures) ∙ here.hash in
