@@ -1,17 +1,15 @@
 -- What shelves that were laid aside hold of the chunks that are out of a slab.
-use Rattle.std.proofs.Common.{◌≡◌, ℕ, ◌+◌, ◌-◌, ◌*◌, ◌<◌, ◌≤◌, ◌⊎◌, inl, inr, ⊎_elim, true≢false, eqb}
-use Rattle.std.proofs.Common.{eqb-true, zero, suc, leb, le-leb, List, [], ◌∷◌, ◌++◌, length, length-set, replicate, get_or, set}
-use Rattle.std.proofs.Common.{Option, Some, slice_get, Ok, Err, Result, refl, sym, ap, subst, ◌∙◌, arith}
-use Rattle.mc_shelf.proofs.Common.{chunks_a_page, chunks_in, ChunksState, cond_both, count-empty, count-remove, count_of, empty, Entry, EntryState, full_fault}
-use Rattle.mc_shelf.proofs.Common.{get, get_or-replicate, given, has_room_with, IsClass, IsFull, IsNeed, IsSlab, item_need, Items}
-use Rattle.mc_shelf.proofs.Common.{made_ready, need_in, NeedState, of_class, out_of, pages_of, pages_wanted, Readies, same_Some, ShelfState}
-use Rattle.mc_shelf.proofs.Common.{SlabState, Takes, TellsFull, unused, WantsPages}
+use Rattle.mc_shelf.proofs.Common.{[], ⊎_elim, ◌*◌, ◌++◌, ◌+◌, ◌-◌, ◌<◌, ◌∙◌, ◌∷◌, ◌≡◌, ◌≤◌, ◌⊎◌, all_out, ap, AreCollected, AreOff, arith, chunks_a_page, chunks_in, ChunksState, cond_both}
+use Rattle.mc_shelf.proofs.Common.{count-empty, count-remove, count_in, count_of, empty, Entry, EntryState, eqb, eqb-true, Err, full_fault, get, get_or, get_or-replicate, given}
+use Rattle.mc_shelf.proofs.Common.{has_room_with, inl, inr, IsClass, IsFull, IsNeed, IsSlab, item_need, Items, le-leb, leb, length, length-set, LieAside, List, made_ready, need_in}
+use Rattle.mc_shelf.proofs.Common.{NeedState, of_class, Ok, Option, out_of, pages_of, pages_wanted, Readies, refl, replicate, Result, same_Some, seen, set, ShelfState, SlabState, Some}
+use Rattle.mc_shelf.proofs.Common.{subst, suc, Suffices, sym, TakeFault, Takes, TellsFull, true≢false, unused, WantsPages, zero, ℕ}
+use Rattle.std.proofs.Common.{slice_get}
 use Rattle.std.proofs.lemmas.List.Sums.{sum_by-set}
-use Rattle.mc_slab.specs.Slabs as slabs
-use Rattle.mc_slab.specs.declared.slab.TakeFault.{TakeFault}
 use Rattle.mc_slab.specs.declared.slab.TakeFault.TheVariants.{Full, NoMemory}
-use Rattle.mc_shelf.specs.Asides.{AreCollected, AreOff, GivesOwn, IsOff, LieAside, Suffices, all_out, count_in, seen}
+use Rattle.mc_shelf.specs.Asides.{GivesOwn, IsOff}
 use Rattle.mc_shelf.proofs.StandLemmas.{out-given, out-taken, weight}
+use Rattle.mc_slab.specs.Slabs as slabs
 
 -- ---- shelves one after another
 
@@ -107,11 +105,7 @@ fewer_own {slab} {new} {class} fits own =
 -- ---- collecting
 
 pub collected_both : {a b c : SlabState} {x y z : List ShelfState} → AreCollected a b x y → AreCollected b c y z → AreCollected a c x z
-collected_both one two = record {
-  lie = λ out lie. two.lie out (one.lie out lie);
-  limit = two.limit ∙ one.limit;
-  pages = two.pages ∙ one.pages;
-}
+collected_both one two = record { lie = λ out lie. two.lie out (one.lie out lie); limit = two.limit ∙ one.limit; pages = two.pages ∙ one.pages }
 
 pub collected_one : {slab new : SlabState} {shelves after : List ShelfState} {chunks : ChunksState} → AreOff shelves after chunks → new ≡ given slab chunks.class chunks.count → IsSlab new
     → AreCollected slab new shelves after

@@ -1,17 +1,14 @@
 -- How few entries of an old table a step moves.
-use Rattle.std.proofs.Common.{◌≡◌, ℕ, ◌+◌, ◌*◌, ◌-◌, ◌≤◌, ◌^◌, ◌⊎◌, inl, inr, Bool, true, false, true≢false, not, ◌&&◌, ◌||◌}
-use Rattle.std.proofs.Common.{List, [], ◌∷◌, zero, suc, Result, Ok, Err, length, length-append, refl, sym, ap}
-use Rattle.std.proofs.Common.{subst, ◌∙◌, arith, ⊎_elim}
+use Rattle.mc_shelf.proofs.Common.{[], ⊎_elim, ◌&&◌, ◌*◌, ◌+◌, ◌-◌, ◌^◌, ◌||◌, ◌∙◌, ◌∷◌, ◌≡◌, ◌≤◌, ◌⊎◌, and_parts, ap, arith, Bool, CaughtUp, count, counts_in, DropsAlone, entries_of, Entry}
+use Rattle.mc_shelf.proofs.Common.{EntryMap, EntryState, Err, false, filled, hash_in, IndexState, inl, inr, is_due, ItemIsChanged, items_in, items_of, KeepsTable, key_in, lags, left, len}
+use Rattle.mc_shelf.proofs.Common.{length, length-append, List, ltb-false, ltb-true, MovesFew, not, Ok, refl, Result, ShelfCounts, StandsAs, subst, suc, sym, true, true≢false, zero, ℕ}
 use Rattle.std.specs.Prelude.{min, nat_lt, OnOk, OnErr}
-use Rattle.mc_shelf.proofs.Common.{and_parts, count, entries_of, Entry, EntryMap, EntryState, filled, hash_in, IndexState, is_due, ItemIsChanged, items_in}
-use Rattle.mc_shelf.proofs.Common.{items_of, key_in, lags, left, len, ltb-false, ltb-true, StandsAs}
 use Rattle.std.proofs.lemmas.Grind.{pow_more}
 use Rattle.std.proofs.lemmas.List.Sorted.{length_permutation}
-use Rattle.mc_grow.specs.Indexes as grow
 use Rattle.mc_grow.specs.Adding.{AreAdded, none_added, one_added, AreMoved, IsAdded, Side}
 use Rattle.mc_grow.proofs.CellLemmas.{count_parts}
-use Rattle.mc_shelf.specs.declared.counts.ShelfCounts.{ShelfCounts}
-use Rattle.mc_shelf.specs.Counts.{Begins, BeginsToMove, CatchesUp, CaughtUp, DropsAlone, GoesOn, GrowthIsDue, IsLoaded, KeepsTable, MovesFew, counts_in}
+use Rattle.mc_shelf.specs.Counts.{Begins, BeginsToMove, CatchesUp, GoesOn, GrowthIsDue, IsLoaded}
+use Rattle.mc_grow.specs.Indexes as grow
 
 -- ---- an index after a change
 
@@ -61,12 +58,7 @@ module _ (old new : IndexState EntryState) (once : len (items_of old) ≡ count 
       let load = and_parts old.growing (nat_lt (3 * 2 ^ old.k) (4 * (count old + 1))) late in
       record {
         items = ap (λ (m : EntryMap). len (items_in m)) same;
-        goes = record {
-          homes = ap (λ k. 2 ^ k) are.same_k;
-          none_begins = λ _. load.0;
-          less = omega (arith, rest);
-          few = omega (arith, rest, is);
-        };
+        goes = record { homes = ap (λ k. 2 ^ k) are.same_k; none_begins = λ _. load.0; less = omega (arith, rest); few = omega (arith, rest, is) };
         ends = λ _ over. (
           let none : left new ≤ 0 = ltb-false 0 (left new) (sym are.growing ∙ over) in omega (arith, none, rest, is),
           loaded load.1,

@@ -1,10 +1,7 @@
 -- The soonest expiry and write of items, as one comes, changes or goes.
-use Rattle.std.proofs.Common.{◌≡◌, ℕ, List, [], ◌∷◌, Option, Some, None, is_eq, sym, ap, subst, ◌∙◌, refl, arith}
-use Rattle.mc_shelf.proofs.Common.{cells, cond_both, count, empty, Entry, EntryState, filled, from_entries, get, get-empty, get-insert, get-remove, hash_in}
-use Rattle.mc_shelf.proofs.Common.{hashes_in, hashes_of, IndexState, insert, ItemIsChanged, Items, items_in, items_of, key_in, nat_list_cmp_total, none-some}
-use Rattle.mc_shelf.proofs.Common.{remove, rows, same_Some}
-use Rattle.mc_shelf.specs.Deaths.{DiesNoSooner, DieNoSooner}
-use Rattle.mc_shelf.specs.declared.soonest.Soonest.{Soonest}
+use Rattle.mc_shelf.proofs.Common.{[], ◌∙◌, ◌∷◌, ◌≡◌, ap, arith, cells, cond_both, count, DieNoSooner, DiesNoSooner, empty, Entry, EntryState, filled, from_entries, get, get-empty}
+use Rattle.mc_shelf.proofs.Common.{get-insert, get-remove, hash_in, hashes_in, hashes_of, IndexState, insert, is_eq, ItemIsChanged, Items, items_in, items_of, key_in, List}
+use Rattle.mc_shelf.proofs.Common.{nat_list_cmp_total, None, none-some, Option, refl, remove, rows, same_Some, Some, Soonest, subst, sym, ℕ}
 use Rattle.mc_shelf.proofs.KeyLemmas.{order}
 use Rattle.mc_shelf.proofs.KeyMapLemmas.{hashes-empty, items-empty}
 

@@ -1,21 +1,18 @@
 -- Which plans need the desk: those of a step that drops an item, writes one, finds no chunk, or finds the numbers spent.
-use Rattle.std.proofs.Common.{◌≡◌, ◌≢◌, ◌↔◌, ◌⊎◌, Result, Err, IfErr, ℕ, ◌+◌, ◌-◌, ◌≤◌, ◌^◌, Bool, true, false, true≢false, ◌&&◌, List, Option, Some, None, is_some, is_none, eqb}
-use Rattle.std.proofs.Common.{ltb, le-ltb, inl, inr, if◌then◌else◌, refl, sym, ap, subst, ◌∙◌, arith}
-use Rattle.mc_shelf.proofs.Common.{Answered, block_need, CanStandAt, charge, cond_both, Deletes, DeskState, Draft, Entry, Expiry, full_fault, get, has_room_with}
-use Rattle.mc_shelf.proofs.Common.{hit_of, StandsAt, IsOnKey, keeps_chunk, key_of, KeyStep, NeedState, NoChunk, none-some, out_of, Outcome, pages_of, Plain, plain}
-use Rattle.mc_shelf.proofs.Common.{Reads, refusal_reply, Refuses, Reply, Row, ShelfContent, SlabState, Spent, TellsFull, TooLarge, Touches, WantsPages}
-use Rattle.mc_shelf.proofs.Common.{with_chunk, write_reply, Writes, written}
-use Rattle.mc_slab.specs.declared.slab.TakeFault.{TakeFault}
+use Rattle.mc_shelf.proofs.Common.{◌&&◌, ◌+◌, ◌-◌, ◌^◌, ◌↔◌, ◌∙◌, ◌≡◌, ◌≢◌, ◌≤◌, ◌⊎◌, Action, Answer, Answered, answered, ap, arith, block_need, Bool, CanStandAt, charge, cond_both, Deletes}
+use Rattle.mc_shelf.proofs.Common.{DeskState, Discard, Draft, Entry, eqb, Err, Expire, Expiry, false, full_fault, get, has_room_with, hit_of, if◌then◌else◌, inl, inr, is_gone, is_none}
+use Rattle.mc_shelf.proofs.Common.{is_some, IsOnKey, keeps_chunk, key_of, KeyStep, le-ltb, List, ltb, NeedState, next_by, next_of, NoChunk, None, none-some, Option, out_of, Outcome}
+use Rattle.mc_shelf.proofs.Common.{pages_of, Plain, plain, Reads, refl, refusal_reply, Refuses, Reply, Result, Row, row_at, ShelfContent, SlabState, Some, Spent, StandsAt, stood, subst, sym}
+use Rattle.mc_shelf.proofs.Common.{TakeFault, TellsFull, TooLarge, Touches, true, true≢false, wants_desk, WantsDesk, WantsPages, with_chunk, Write, write_reply, Writes, written, ℕ}
+use Rattle.std.proofs.Common.{IfErr}
 use Rattle.mc_slab.specs.declared.slab.TakeFault.TheVariants.{NoMemory}
 use Rattle.mc_protocol.specs.declared.row.Refusal.{Refusal}
-use Rattle.mc_protocol.specs.declared.row.Refusal.TheVariants as refusal
 use Rattle.mc_protocol.specs.Plain.{has_room as plain_has_room}
-use Rattle.mc_shelf.specs.declared.plan.Action.{Action}
-use Rattle.mc_shelf.specs.declared.plan.Action.TheVariants.{Answer, Expire, Discard, Write}
-use Rattle.mc_shelf.specs.Plans.{NeedsDesk, WantsDesk, answered, charge_of, is_gone, next_by, next_of, row_at, stood, wants_desk}
+use Rattle.mc_shelf.specs.Plans.{NeedsDesk, charge_of}
 use Rattle.mc_shelf.proofs.KeyLemmas.{get_gone, get_put}
 use Rattle.mc_shelf.proofs.StandLemmas.{base, step_is}
 use Rattle.mc_shelf.proofs.PlanLemmas.{Does, block_at, found_in, next_does}
+use Rattle.mc_protocol.specs.declared.row.Refusal.TheVariants as refusal
 
 -- ---- no step without the desk is told that no chunk is left
 

@@ -1,6 +1,5 @@
 -- What an item's need says of its size.
-use Rattle.std.proofs.Common.{◌≡◌, ℕ, ◌≤◌, sym, subst, ◌∙◌}
-use Rattle.mc_slab.specs.Needs.{NeedState, need_for, size_in}
+use Rattle.mc_shelf.proofs.Common.{◌∙◌, ◌≡◌, ◌≤◌, need_for, NeedState, size_in, subst, sym, ℕ}
 use Rattle.mc_shelf.proofs.NeedLemmas.{need_fits}
 
 -- a charge fits the chunks of an item whose own charge needs the same

@@ -1,9 +1,8 @@
 -- What an exchange of chunks for those of an item leaves.
-use Rattle.std.proofs.Common.{◌≡◌, ◌≤◌, Bool, List, ℕ, Option, true, ap, subst, sym, ◌∙◌}
-use Rattle.mc_shelf.proofs.Common.{AreChunks, ChunksState, DeskState, Entry, get, IsClass, IsNeed, IsSlab, need_in, NeedState, ShelfContent}
-use Rattle.mc_slab.specs.Slabs as slabs
-use Rattle.mc_shelf.specs.Plans.{GivesBack, IsOut, has_need}
+use Rattle.mc_shelf.proofs.Common.{◌∙◌, ◌≡◌, ◌≤◌, ap, AreChunks, Bool, ChunksState, DeskState, Entry, get, GivesBack, has_need, IsClass, IsNeed, IsOut, IsSlab, List, need_in, NeedState}
+use Rattle.mc_shelf.proofs.Common.{Option, ShelfContent, subst, sym, true, ℕ}
 use Rattle.mc_shelf.proofs.TakesLemmas.{need_of_found}
+use Rattle.mc_slab.specs.Slabs as slabs
 
 -- chunks of the need of a key's item go back in exchange for the item's own
 pub gives_alike : (key : List ℕ) (shelf : ShelfContent) (desk : DeskState) (chunks : ChunksState) {need : NeedState} {found : Option Entry} {has : Bool} → IsOut key shelf desk → AreChunks chunks

@@ -1,21 +1,18 @@
 -- What a purge of one shelf, and a flush of all, make of the state that they are parts of.
-use Rattle.std.proofs.Common.{◌≡◌, ◌≢◌, ℕ, ◌+◌, ◌<◌, ◌≤◌, Bool, true, false, cond, not, ◌||◌, eqb, eqb-true, eq-eqb, ne_eqb, ltb, lt-ltb, le-ltb, true≢false}
-use Rattle.std.proofs.Common.{suc, List, [], ◌∷◌, ◌++◌, length, length-set, take, drop, Option, Some, None, is_some, slice_get, slice_set, refl, sym, ap, subst, ◌∙◌, arith, ◌⊎◌, inl, inr}
-use Rattle.std.proofs.Common.{⊎_elim}
-use Rattle.mc_shelf.proofs.Common.{alive, cases_order, count-empty, count-parted, count_of, DeskState, Entry, flushed, get, get-empty, is_dead, IsClass, Items}
-use Rattle.mc_shelf.proofs.Common.{living, moment_named, or_from, or_left, or_right, out_of, Plain, retain_keys, ShelfContent, ShelfState, slice_get_within}
-use Rattle.mc_shelf.proofs.Common.{take-append_seam}
+use Rattle.mc_shelf.proofs.Common.{[], ⊎_elim, ◌++◌, ◌+◌, ◌<◌, ◌||◌, ◌∙◌, ◌∷◌, ◌≡◌, ◌≢◌, ◌≤◌, ◌⊎◌, alive, ap, ArePartsOf, arith, Bool, cases_order, cond, count-empty, count-parted, count_in}
+use Rattle.mc_shelf.proofs.Common.{count_of, DeskState, drop, Entry, eq-eqb, eqb, eqb-true, false, flushed, get, get-empty, GivesFor, GoesTo, inl, inr, is_dead, is_some, IsClass, IsDeskOf}
+use Rattle.mc_shelf.proofs.Common.{IsPurged, IsShelfOf, Items, le-ltb, length, length-set, List, living, lt-ltb, ltb, moment_named, ne_eqb, None, NoneIsDead, not, Option, or_from, or_left}
+use Rattle.mc_shelf.proofs.Common.{or_right, out_of, Plain, refl, retain_keys, shelf_of, ShelfContent, ShelfState, slice_get_within, slice_set, Some, subst, suc, sym, take, take-append_seam}
+use Rattle.mc_shelf.proofs.Common.{true, true≢false, ℕ}
+use Rattle.std.proofs.Common.{slice_get}
 use Rattle.std.proofs.Math.Bool.{or-false}
-use Rattle.std.specs.FinMap as maps
 use Rattle.mc_protocol.specs.Purge.{purged}
-use Rattle.mc_shelf.specs.Sweeps.{AreOut, GivesFor, IsPurged}
-use Rattle.mc_shelf.specs.Deaths.{NoneIsDead}
-use Rattle.mc_shelf.specs.Parts.{shelf_of, IsShelfOf, IsDeskOf, ArePartsOf, GoesTo}
-use Rattle.mc_shelf.specs.Asides.{count_in}
+use Rattle.mc_shelf.specs.Sweeps.{AreOut}
 use Rattle.mc_shelf.specs.Unions.{IsFlushed, left_of_flush}
 use Rattle.mc_shelf.proofs.KeyLemmas.{order, same_maps, get_kept}
 use Rattle.mc_shelf.proofs.PartLemmas.{parted, own_items, shelf_kept, put_cases}
 use Rattle.mc_shelf.proofs.SweepLemmas.{get_living}
+use Rattle.std.specs.FinMap as maps
 
 -- where none of its items is dead, purging a shelf's part changes nothing
 pub nothing_purged : {hash_of : List ℕ → ℕ} {count at : ℕ} {state : Plain} {shelf : ShelfContent} (now : ℕ) → IsShelfOf hash_of count state at shelf

@@ -1,10 +1,7 @@
 -- A read of a key that has no dead item is the plain machine's.
-use Rattle.std.proofs.Common.{◌≡◌, ℕ, true, false, Option, Some, None, is_some, is_none, refl, sym, ap, subst, ◌∙◌, true≢false}
-use Rattle.mc_shelf.proofs.Common.{alive, cond_both, Entry, Expiry, get, hit_of, is_dead, IsOnKey, key_of, KeyStep, Place, row_of, ShelfContent}
+use Rattle.mc_shelf.proofs.Common.{◌∙◌, ◌≡◌, Action, alive, Answer, ap, cond_both, Entry, Expire, Expiry, false, get, hit_of, is_dead, is_gone, is_none, is_some, IsKnown, IsOnKey, IsPut}
+use Rattle.mc_shelf.proofs.Common.{key_of, KeyStep, next_by, next_of, None, Option, Place, PlanIsSettled, refl, row_of, ShelfContent, Some, stood, subst, sym, true, true≢false, ℕ}
 use Rattle.mc_protocol.specs.declared.step.KeyStep.TheVariants.{Read, ReadTouch}
-use Rattle.mc_shelf.specs.declared.plan.Action.{Action}
-use Rattle.mc_shelf.specs.declared.plan.Action.TheVariants.{Answer, Expire}
-use Rattle.mc_shelf.specs.Plans.{IsKnown, IsPut, PlanIsSettled, is_gone, next_by, next_of, stood}
 use Rattle.mc_shelf.specs.Hits.{is_read, read_expiry}
 use Rattle.mc_shelf.proofs.ShelfLemmas.{others_same}
 use Rattle.mc_shelf.proofs.TakesLemmas.{takes_answer, takes_expire}

@@ -1,15 +1,12 @@
 -- What a search in an index and a change of its entries say of the items and the hashes under its keys.
-use Rattle.std.proofs.Common.{◌≡◌, ℕ, zero, suc, ◌+◌, ◌^◌, ◌≤◌, true, false, cond, List, [], ◌∷◌, ◌++◌, replicate, get_or, Option, Some, None, sym, refl, ap, subst, ◌∙◌, arith, inl, inr}
-use Rattle.mc_shelf.proofs.Common.{cases_lt, cells, cond_both, empty, entries_of, Entry, entry_at, EntryState, find, from_entries, get, get-from_entries}
-use Rattle.mc_shelf.proofs.Common.{hash_in, hashes_in, hashes_of, IndexState, insert, ItemIsChanged, IsFoundIn, IsHashOf, IsKeyAt, EntriesAreKeyed, IsKeyFound, IsNew}
-use Rattle.mc_shelf.proofs.Common.{IsPlaceOf, IsUpdated, items_in, items_of, KeepsLower, key_in, KeyComes, KeyGoes, left, nat_list_cmp_total, none-some, Place}
-use Rattle.mc_shelf.proofs.Common.{remove, rows, same_Some, StandsIn}
+use Rattle.mc_shelf.proofs.Common.{[], ◌++◌, ◌+◌, ◌^◌, ◌∙◌, ◌∷◌, ◌≡◌, ◌≤◌, ap, arith, cases_lt, cells, cond, cond_both, DieNoSooner, DiesNoSooner, empty, entries_of, EntriesAreKeyed, Entry}
+use Rattle.mc_shelf.proofs.Common.{entry_at, EntryState, false, find, from_entries, get, get-from_entries, get_or, hash_in, hashes_in, hashes_of, IndexState, inl, inr, insert, IsFoundIn}
+use Rattle.mc_shelf.proofs.Common.{IsHashOf, IsKeyAt, IsKeyFound, IsNew, IsPlaceOf, IsUpdated, ItemIsChanged, items_in, items_of, KeepsLower, key_in, KeyComes, KeyGoes, left, List}
+use Rattle.mc_shelf.proofs.Common.{nat_list_cmp_total, None, none-some, Option, Place, refl, remove, replicate, rows, same_Some, Some, Soonest, StandsIn, subst, suc, sym, true, zero, ℕ}
 use Rattle.mc_shelf.proofs.KeyLemmas.{order, get_gone}
 use Rattle.mc_shelf.proofs.LabelLemmas.{own, same, same_itself}
 use Rattle.mc_shelf.proofs.KeyMapLemmas.{hash_absent, hash_there, hashes-insert, hashes-remove, hashes-replace, found_hash, item_there, items-insert, items-remove, keyed-insert}
 use Rattle.mc_shelf.proofs.KeyMapLemmas.{keyed-remove, labelled-content, not_found}
-use Rattle.mc_shelf.specs.Deaths.{DiesNoSooner, DieNoSooner}
-use Rattle.mc_shelf.specs.declared.soonest.Soonest.{Soonest}
 use Rattle.mc_shelf.proofs.DeathLemmas.{sooner_changed}
 
 -- ---- buckets

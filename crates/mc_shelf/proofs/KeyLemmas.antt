@@ -1,8 +1,9 @@
 -- Finite maps under keys: what an edit leaves under its key and under the others.
-use Rattle.std.proofs.Common.{◌≡◌, ◌≢◌, ℕ, Bool, sym, false, cond, List, Some, None, Ordering, Less, Equal, Greater, nat_cmp, is_eq, refl, ap, ◌∙◌}
-use Rattle.std.specs.Cmp.{tied_itself}
-use Rattle.std.specs.Cmp.Lexicographic.{slice_cmp, nat_list_cmp_total}
-use Rattle.std.specs.FinMap.{FinMap, IsAntisymmetric, nat_cmp-IsAntisymmetric, slice_cmp-IsAntisymmetric, get, insert, remove, get-insert, get-remove, same_map, retain_keys, get-retain_keys}
+use Rattle.mc_shelf.proofs.Common.{◌∙◌, ◌≡◌, ◌≢◌, ap, Bool, cond, Equal, false, FinMap, get, get-insert, get-remove, Greater, insert, is_eq, Less, List, nat_list_cmp_total, None, Ordering}
+use Rattle.mc_shelf.proofs.Common.{refl, remove, retain_keys, Some, sym, tied_itself, ℕ}
+use Rattle.std.proofs.Common.{nat_cmp}
+use Rattle.std.specs.Cmp.Lexicographic.{slice_cmp}
+use Rattle.std.specs.FinMap.{IsAntisymmetric, nat_cmp-IsAntisymmetric, slice_cmp-IsAntisymmetric, same_map, get-retain_keys}
 
 -- the order of keys
 abbrev pub order : List ℕ → List ℕ → Ordering

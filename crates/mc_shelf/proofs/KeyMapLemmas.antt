@@ -1,9 +1,8 @@
 -- Entries under their hashes and keys in one finite map: what it says of the items and the hashes under the keys alone, and what a
 -- change of one entry makes of these.
-use Rattle.std.proofs.Common.{◌≡◌, ℕ, false, cond, List, [], ◌∷◌, drop, get_or, Option, Some, None, sym, refl, ap, ◌∙◌}
-use Rattle.mc_shelf.proofs.Common.{cond_both, content, empty, Entry, EntryMap, EntryState, false_from_ne_true, find, get, get-empty, get-from_entries}
-use Rattle.mc_shelf.proofs.Common.{get-insert, get-remove, hashes_in, insert, IsHashOf, EntriesAreKeyed, items_in, nat_list_cmp_total, none-some, remove, rows}
-use Rattle.mc_shelf.proofs.Common.{same_Some, StandsIn, true≢false}
+use Rattle.mc_shelf.proofs.Common.{[], ◌∙◌, ◌∷◌, ◌≡◌, ap, cond, cond_both, content, drop, empty, EntriesAreKeyed, Entry, EntryMap, EntryState, false, false_from_ne_true, find, get}
+use Rattle.mc_shelf.proofs.Common.{get-empty, get-from_entries, get-insert, get-remove, get_or, hashes_in, insert, IsHashOf, items_in, List, nat_list_cmp_total, None, none-some, Option}
+use Rattle.mc_shelf.proofs.Common.{refl, remove, rows, same_Some, Some, StandsIn, sym, true≢false, ℕ}
 use Rattle.mc_shelf.proofs.KeyLemmas.{order, same_maps}
 use Rattle.mc_shelf.proofs.LabelLemmas.{same, same_list, same_itself, none_by, own, own_key, same_label, Held, parts_in, held, part_there, no_part, no_entry, part_same}
 

@@ -1,10 +1,10 @@
 -- Entries under their labels, a hash and a key in one list, in one finite map: what stands of one part of them under the keys alone.
-use Rattle.std.proofs.Common.{◌≡◌, ℕ, Bool, true, false, cond, ◌&&◌, T, List, [], ◌∷◌, map, drop, Option, Some, None, Ordering, Less, Equal, Greater, is_eq, is_lt, sym, refl, ap, ◌∙◌}
-use Rattle.mc_shelf.proofs.Common.{cond_both, entries, entries_in, entries_sorted, EntryMap, EntryState, find, FinMap, from_entries, get, get-entries}
-use Rattle.mc_shelf.proofs.Common.{get-from_entries, is_sorted, EntriesAreKeyed, nat_list_cmp_total, none-some, same_Some, StandsIn}
-use Rattle.std.specs.Ordering.{eq_by_cmp}
-use Rattle.std.specs.Cmp.{tied_itself}
+use Rattle.mc_shelf.proofs.Common.{[], ◌∙◌, ◌∷◌, ◌≡◌, ap, Bool, cond, cond_both, drop, entries, entries_in, entries_sorted, EntriesAreKeyed, EntryMap, EntryState, eq_by_cmp, Equal, false}
+use Rattle.mc_shelf.proofs.Common.{find, FinMap, from_entries, get, get-entries, get-from_entries, Greater, is_eq, is_sorted, Less, List, map, nat_list_cmp_total, None, none-some, Option}
+use Rattle.mc_shelf.proofs.Common.{Ordering, refl, same_Some, Some, StandsIn, sym, tied_itself, true, ℕ}
+use Rattle.std.proofs.Common.{T, is_lt}
 use Rattle.std.specs.FinMap.Entries.{below_all}
+use Rattle.mc_protocol.proofs.CountLemmas.{first, second}
 use Rattle.mc_protocol.proofs.ItemLemmas.{is_equal}
 use Rattle.mc_shelf.proofs.KeyLemmas.{order, same_key}
 
@@ -43,14 +43,6 @@ module _ (m : EntryMap) (keyed : EntriesAreKeyed m) where
   same_entry a b ea eb keys = same_Some a b (sym ea ∙ ap (get m) (same_label a b ea eb keys) ∙ eb)
 
 -- ---- lists of entries in the order of their labels
-
-first : (a b : Bool) → T (a && b) → T a
-first true b p = tt
-first false b p = p
-
-second : (a b : Bool) → T (a && b) → T b
-second true b p = p
-second false b p = absurd p
 
 less : (o : Ordering) → T (is_lt o) → o ≡ Less
 less Less p = refl

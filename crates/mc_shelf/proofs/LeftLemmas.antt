@@ -1,12 +1,10 @@
 -- How many entries each shelf of a store has left to move, after a change of one shelf or of all.
-use Rattle.std.proofs.Common.{◌≡◌, ◌≢◌, ℕ, ◌<◌, ◌≤◌, inl, inr, List, length, Some, slice_get, slice_index, slice_set, take, drop, ◌++◌, sym, ap, subst, ◌∙◌, arith, ⊎_elim}
-use Rattle.mc_shelf.proofs.Common.{cases_eq, get_or-set_other, get_or-set_same, get_or_from_slice_get, IsOnKey, KeyStep, length-map, map-set, option_map, ShelfState, slice_get-map}
-use Rattle.mc_shelf.proofs.Common.{slice_get_within, take-append_seam}
+use Rattle.mc_shelf.proofs.Common.{⊎_elim, ◌++◌, ◌<◌, ◌∙◌, ◌≡◌, ◌≢◌, ◌≤◌, ap, arith, cases_eq, drop, FewMoveAt, get_or-set_other, get_or-set_same, get_or_from_slice_get, inl, inr, IsOnKey}
+use Rattle.mc_shelf.proofs.Common.{KeyStep, lefts, length, length-map, List, map-set, MovesFew, NoneRises, option_map, ShelfCounts, ShelfState, slice_get-map, slice_get_within, slice_index}
+use Rattle.mc_shelf.proofs.Common.{slice_set, Some, subst, sym, take, take-append_seam, ℕ}
+use Rattle.std.proofs.Common.{slice_get}
 use Rattle.mc_protocol.specs.declared.step.KeyStep.TheVariants.{Flush}
-use Rattle.mc_shelf.specs.Counts.{MovesFew}
-use Rattle.mc_shelf.specs.declared.counts.ShelfCounts.{ShelfCounts}
-use Rattle.mc_shelf.specs.Stores.{FallsAt, FewMove, FewMoveAt, FewMoveSomewhere, NoneRises, OthersKeep, StepMoves}
-use Rattle.mc_shelf.specs.Unions.{lefts}
+use Rattle.mc_shelf.specs.Stores.{FallsAt, FewMove, FewMoveSomewhere, OthersKeep, StepMoves}
 
 -- of a step on a key, by the counts of its shelf
 pub few_left : (old new : ShelfCounts) → MovesFew 9 old new → FewMove old.left new.left

@@ -1,7 +1,6 @@
 -- How many items an index has.
-use Rattle.std.proofs.Common.{◌≡◌, ℕ, zero, suc, ◌+◌, ◌-◌, ◌≤◌, cond, List, [], ◌∷◌, Some, is_some, sym, refl, ap, ◌∙◌, arith}
-use Rattle.mc_shelf.proofs.Common.{empty_of_len, entries, Entry, EntryMap, EntryState, find, get, get-entries, EntriesAreKeyed, Items, items_in, len, len-empty}
-use Rattle.mc_shelf.proofs.Common.{len-entries, len-remove, nat_list_cmp_total, none-some, remove, StandsIn}
+use Rattle.mc_shelf.proofs.Common.{[], ◌+◌, ◌-◌, ◌∙◌, ◌∷◌, ◌≡◌, ◌≤◌, ap, arith, cond, empty_of_len, entries, EntriesAreKeyed, Entry, EntryMap, EntryState, find, get, get-entries, is_some}
+use Rattle.mc_shelf.proofs.Common.{Items, items_in, len, len-empty, len-entries, len-remove, List, nat_list_cmp_total, none-some, refl, remove, Some, StandsIn, suc, sym, zero, ℕ}
 use Rattle.mc_shelf.proofs.KeyLemmas.{order}
 use Rattle.mc_shelf.proofs.LabelLemmas.{same_itself}
 use Rattle.mc_shelf.proofs.KeyMapLemmas.{item_there, keyed-remove, items-remove, items-empty}

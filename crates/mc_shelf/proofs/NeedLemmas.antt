@@ -1,11 +1,10 @@
 -- What a charge needs.
-use Rattle.std.proofs.Common.{◌≡◌, ℕ, ◌+◌, ◌-◌, ◌*◌, ◌/◌, ◌<◌, ◌≤◌, true, false, true≢false, ◌&&◌, not, eqb, eqb-true, eq-eqb, ltb, List, Option, Some, None, length, get_or, inl}
-use Rattle.std.proofs.Common.{inr, leb, sym, ap, subst, ◌∙◌, arith, refl}
-use Rattle.mc_shelf.proofs.Common.{AreChunksOf, cases_lt, ChunksState, class_holding, cond_both, Entry, IsClass, item_need, le-leb, leb-false, leb-true}
-use Rattle.mc_shelf.proofs.Common.{length-chunk_sizes, need_for, NeedState, of_class, position_or_len, same_need, size_in, size_of, size_of-last}
+use Rattle.mc_shelf.proofs.Common.{◌&&◌, ◌*◌, ◌+◌, ◌-◌, ◌/◌, ◌<◌, ◌∙◌, ◌≡◌, ◌≤◌, ap, AreChunksOf, arith, cases_lt, ChunksState, class_holding, cond_both, dead_chunks, Entry, eq-eqb, eqb}
+use Rattle.mc_shelf.proofs.Common.{eqb-true, false, get_or, gives_way, has_need, inl, inr, is_gone, IsClass, item_need, le-leb, leb, leb-false, leb-true, length, length-chunk_sizes, List}
+use Rattle.mc_shelf.proofs.Common.{ltb, need_for, NeedState, None, not, of_class, Option, position_or_len, refl, same_need, size_in, size_of, size_of-last, Some, subst, sym, true}
+use Rattle.mc_shelf.proofs.Common.{true≢false, ℕ}
 use Rattle.std.proofs.lemmas.List.Sums.{fails_before_first, passes_at_first}
 use Rattle.mc_slab.specs.Classes.{chunk_sizes}
-use Rattle.mc_shelf.specs.Plans.{dead_chunks, gives_way, has_need, is_gone}
 
 pub by_charge : (P : NeedState → Type 0) (charge : ℕ) → (charge ≤ 1048576 → P (record { class = class_holding charge; count = 1 }))
     → (1048576 < charge → P (record { class = 40; count = (charge + 1048575) / 1048576 })) → P (need_for charge)

@@ -1,12 +1,11 @@
 -- How many keys have a number, counted over the places of an index.
-use Rattle.std.proofs.Common.{◌≡◌, ℕ, zero, suc, ◌+◌, ◌-◌, ◌%◌, ◌^◌, ◌<◌, ◌≤◌, Bool, true, false, cond, eqb, List, [], ◌∷◌}
-use Rattle.std.proofs.Common.{length, drop, get_or, set, Option, Some, None, is_some, is_eq, refl, sym, ap, subst, ◌∙◌, arith, inl, inr}
-use Rattle.mc_shelf.proofs.Common.{cases_eq, cells, cond_both, content, count, drop-nil, empty, entries_of, Entry, entry_at, EntryState, eq-eqb, filled, get}
-use Rattle.mc_shelf.proofs.Common.{get-empty, get-from_entries, get-insert, get_or-set_other, get_or-set_same, hash_in, IndexState, insert, IsFirstFrom}
-use Rattle.mc_shelf.proofs.Common.{IsHashOf, EntriesAreKeyed, IsNext, Items, items_in, key_in, len, len-empty, len-insert, length-set, nat_list_cmp_total, ne_eqb}
-use Rattle.mc_shelf.proofs.Common.{none-some, Place, retain_keys, rows, ShelfContent}
+use Rattle.mc_shelf.proofs.Common.{[], ◌%◌, ◌+◌, ◌-◌, ◌<◌, ◌^◌, ◌∙◌, ◌∷◌, ◌≡◌, ◌≤◌, ap, arith, Bool, cases_eq, cells, cond, cond_both, content, count, drop, drop-nil, empty, entries_of}
+use Rattle.mc_shelf.proofs.Common.{EntriesAreKeyed, Entry, entry_at, EntryState, eq-eqb, eqb, false, filled, get, get-empty, get-from_entries, get-insert, get_or, get_or-set_other}
+use Rattle.mc_shelf.proofs.Common.{get_or-set_same, hash_in, HasPlaces, IndexState, inl, inr, insert, is_eq, is_some, IsFirstFrom, IsHashOf, IsNext, Items, items_in, key_in, KeysAreCounted}
+use Rattle.mc_shelf.proofs.Common.{len, len-empty, len-insert, length, length-set, List, nat_list_cmp_total, ne_eqb, None, none-some, Option, Place, refl, retain_keys, rows, set}
+use Rattle.mc_shelf.proofs.Common.{ShelfContent, Some, subst, suc, sym, true, zero, ℕ}
 use Rattle.std.proofs.lemmas.Nat.{mod_below}
-use Rattle.mc_shelf.specs.Numbers.{KeysAreCounted, HasPlaces, keys_with, number_of}
+use Rattle.mc_shelf.specs.Numbers.{keys_with, number_of}
 use Rattle.mc_shelf.proofs.KeyLemmas.{order, get_kept, same_maps}
 use Rattle.mc_shelf.proofs.LabelLemmas.{same_list}
 use Rattle.mc_shelf.proofs.KeyMapLemmas.{hash_held, items-empty, items-insert, labelled-content, not_found}

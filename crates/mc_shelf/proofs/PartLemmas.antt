@@ -1,16 +1,14 @@
 -- Parts of a state: what they are together, and what a change of one of them makes of the state.
-use Rattle.std.proofs.Common.{◌≡◌, ◌≢◌, ℕ, zero, suc, ◌+◌, ◌-◌, ◌<◌, Bool, true, false, cond, not, eqb, eqb-true, true≢false, List, [], ◌∷◌, ◌++◌, length, length-set, map}
-use Rattle.std.proofs.Common.{Option, Some, None, slice_get, slice_set, refl, sym, ap, subst, ◌∙◌, arith, ◌⊎◌, inl, inr, ⊎_elim}
-use Rattle.mc_shelf.proofs.Common.{Answered, cases_Bool, cond_both, count-parted, count_of, DeskState, entries, Entry, eqb-false, find, get, get-entries}
-use Rattle.mc_shelf.proofs.Common.{get-from_entries, StandsAt, IsHash, IsOnKey, Items, key_of, KeyStep, nat_list_cmp_total, option_or, other_keys, Plain, plain}
-use Rattle.mc_shelf.proofs.Common.{range_with_len, Reply, retain_keys, same_Some, ShelfContent, ShelfState}
+use Rattle.mc_shelf.proofs.Common.{[], ⊎_elim, ◌++◌, ◌+◌, ◌-◌, ◌<◌, ◌∙◌, ◌∷◌, ◌≡◌, ◌≢◌, ◌⊎◌, Answered, ap, ArePartsOf, arith, Bool, cases_Bool, cond, cond_both, count-parted, count_of}
+use Rattle.mc_shelf.proofs.Common.{DeskState, entries, Entry, eq_by_cmp, eqb, eqb-false, eqb-true, false, find, get, get-entries, get-from_entries, GoesByStep, GoesTo, inl, inr, IsDeskOf}
+use Rattle.mc_shelf.proofs.Common.{IsHash, IsOnKey, IsShelfOf, Items, key_of, KeyStep, length, length-set, List, map, nat_list_cmp_total, None, not, Option, option_or, other_keys, Plain}
+use Rattle.mc_shelf.proofs.Common.{plain, plain_of, PlanIsSettled, range_with_len, refl, Reply, retain_keys, same_Some, Settings, shelf_of, ShelfContent, ShelfState, slice_set, Some}
+use Rattle.mc_shelf.proofs.Common.{StandsAt, StepTaken, subst, suc, sym, true, true≢false, zero, ℕ}
+use Rattle.std.proofs.Common.{slice_get}
 use Rattle.std.proofs.lemmas.List.FromFn.{get_or-map-range_with_len}
-use Rattle.std.specs.Ordering.{eq_by_cmp}
 use Rattle.mc_protocol.proofs.PageLemmas.{limit_stays}
-use Rattle.mc_shelf.specs.Plans.{StepTaken, PlanIsSettled}
-use Rattle.mc_shelf.specs.Parts.{shelf_of, IsShelfOf, IsDeskOf, ArePartsOf, GoesTo, GoesByStep, GoesWithoutDesk}
-use Rattle.mc_shelf.specs.Unions.{all_entries, all_items, cut_of, plain_of}
-use Rattle.mc_shelf.specs.declared.settings.Settings.{Settings}
+use Rattle.mc_shelf.specs.Parts.{GoesWithoutDesk}
+use Rattle.mc_shelf.specs.Unions.{all_entries, all_items, cut_of}
 use Rattle.mc_shelf.proofs.KeyLemmas.{order, same_maps, get_kept}
 use Rattle.mc_shelf.proofs.LabelLemmas.{same, same_itself, same_list}
 
@@ -179,12 +177,7 @@ module _ {hash_of : List ℕ → ℕ} {count at : ℕ} {state : Plain} {shelf : 
         greatest = sym same_greatest;
         limit = limit_stays state new step now reply answered;
         own = own;
-        account = record {
-          next_unique = sym stands.next_unique;
-          limit = sym stands.limit;
-          pages = sym stands.pages;
-          out = stands.out;
-        };
+        account = record { next_unique = sym stands.next_unique; limit = sym stands.limit; pages = sym stands.pages; out = stands.out };
         others = λ k still other part. record {
           greatest = part.greatest ∙ same_greatest;
           cut = part.cut ∙ sym fits.cut ∙ sym taken.others.cut ∙ sym stands.cut;

@@ -1,9 +1,8 @@
 -- A block in parts, and which of them are blank.
-use Rattle.std.proofs.Common.{◌≡◌, ℕ, zero, suc, ◌+◌, ◌-◌, ◌<◌, ◌≤◌, ◌&&◌, Bool, true, false, List, [], ◌∷◌, length, take, drop, Some, None, slice_get, if◌then◌else◌, refl}
-use Rattle.std.proofs.Common.{sym, ap, subst, ◌∙◌, arith}
-use Rattle.mc_shelf.proofs.Common.{charge, concat, drop-nil, drop_more, Entry, get_or_from_slice_get, item_need, list_all, need_for, number_of}
-use Rattle.mc_shelf.proofs.Common.{parts_of, pieces, same_Some, size_of, size_of-last, slice_get_within}
-use Rattle.std.proofs.Common.{min}
+use Rattle.mc_shelf.proofs.Common.{[], ◌&&◌, ◌+◌, ◌-◌, ◌<◌, ◌∙◌, ◌∷◌, ◌≡◌, ◌≤◌, ap, arith, Bool, charge, concat, drop, drop-nil, drop_more, Entry, false, get_or_from_slice_get}
+use Rattle.mc_shelf.proofs.Common.{if◌then◌else◌, item_need, length, List, list_all, need_for, None, number_of, parts_of, pieces, refl, same_Some, size_of, size_of-last, slice_get_within}
+use Rattle.mc_shelf.proofs.Common.{Some, subst, suc, sym, take, true, zero, ℕ}
+use Rattle.std.proofs.Common.{slice_get, min}
 use Rattle.std.proofs.lemmas.List.{length-take}
 use Rattle.std.proofs.lemmas.List.Folds.{list_all-append}
 use Rattle.mc_item.specs.Items.{front_of, start_of}

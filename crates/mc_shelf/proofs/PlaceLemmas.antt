@@ -1,6 +1,5 @@
 -- What the place of a key says of the entry there.
-use Rattle.std.proofs.Common.{◌≡◌, ℕ, List, Some, sym, ap, ◌∙◌}
-use Rattle.mc_shelf.proofs.Common.{Entry, entry_at, EntryState, get, IndexState, IsKeyAt, items_of, Place, same_Some}
+use Rattle.mc_shelf.proofs.Common.{◌∙◌, ◌≡◌, ap, Entry, entry_at, EntryState, get, IndexState, IsKeyAt, items_of, List, Place, same_Some, Some, sym, ℕ}
 
 module _ (index : IndexState EntryState) (key : List ℕ) (place : Place) (here : IsKeyAt index key place) where
   pub key_there : (e : EntryState) → entry_at index place ≡ Some e → e.key ≡ key

@@ -1,14 +1,12 @@
 -- What the plan of a step says of the plain machine at the key.
-use Rattle.std.proofs.Common.{◌≡◌, ℕ, ◌≤◌, true, false, ◌&&◌, List, append-nil, Option, Some, None, is_some, is_none, ltb, if◌then◌else◌, refl, sym, ap, subst, ◌∙◌}
-use Rattle.std.proofs.Common.{ltb-true, ltb-false, true≢false}
-use Rattle.mc_shelf.proofs.Common.{alive, Answered, Appended, block_of, Body, changed, charge, cond_both, Deleted, Deletes, DeskState}
-use Rattle.mc_shelf.proofs.Common.{Draft, Entry, expiring, Expiry, get, Given, hit_of, insert, is_dead, StandsAt, IsOnKey, keeps_chunk, key_of, KeyStep}
-use Rattle.mc_shelf.proofs.Common.{Outcome, Plain, Prepended, Reads, refusal_reply, Refuses, remove, Reply, Row, row_of, ShelfContent}
-use Rattle.mc_shelf.proofs.Common.{TooLarge, Touched, Touches, write_reply, Writes, written_block, wrote}
+use Rattle.mc_shelf.proofs.Common.{◌&&◌, ◌∙◌, ◌≡◌, ◌≤◌, Action, alive, Answer, Answered, answered, ap, Appended, block_in, block_of, Body, changed, charge, cond_both, Deleted, Deletes}
+use Rattle.mc_shelf.proofs.Common.{DeskState, Discard, Draft, Entry, Expire, expiring, Expiry, false, get, Given, hit_of, if◌then◌else◌, insert, is_dead, is_gone, is_none, is_some, IsOnKey}
+use Rattle.mc_shelf.proofs.Common.{keeps_chunk, key_of, KeyStep, List, ltb, ltb-false, ltb-true, made_block, next_by, next_of, None, Option, Outcome, Plain, Prepended, Reads, refl}
+use Rattle.mc_shelf.proofs.Common.{refusal_reply, Refuses, remove, Reply, Row, row_at, row_of, ShelfContent, Some, StandsAt, stood, subst, sym, TooLarge, Touched, Touches, true, true≢false}
+use Rattle.mc_shelf.proofs.Common.{Write, write_reply, Writes, written_block, wrote, ℕ}
+use Rattle.std.proofs.Common.{append-nil}
 use Rattle.mc_protocol.specs.Plain.{Absent, Lacks, Stores, absent_row, if_absent, if_present}
-use Rattle.mc_shelf.specs.declared.plan.Action.{Action}
-use Rattle.mc_shelf.specs.declared.plan.Action.TheVariants.{Answer, Expire, Discard, Write}
-use Rattle.mc_shelf.specs.Plans.{answered, block_in, charge_of, is_gone, made_block, next_by, next_of, row_at, stood}
+use Rattle.mc_shelf.specs.Plans.{charge_of}
 use Rattle.mc_shelf.proofs.StandLemmas.{base, wrote_too_large}
 
 -- ---- the item that a row speaks of
@@ -74,11 +72,8 @@ pub record IsDrafted (shelf : ShelfContent) (step : KeyStep) (now size : ℕ) (d
   pub given : stood shelf step now ≡ None → draft.body ≡ Given
 
 module _ (shelf : ShelfContent) (step : KeyStep) (now : ℕ) where
-  abbrev key : List ℕ
-  key = key_of step
-
   abbrev found : Option Entry
-  found = get shelf.items key
+  found = get shelf.items (key_of step)
 
   abbrev stands : Option Entry
   stands = stood shelf step now
@@ -86,8 +81,8 @@ module _ (shelf : ShelfContent) (step : KeyStep) (now : ℕ) where
   -- what the next step says of an outcome of the plain machine
   abbrev pub Does : Plain → Outcome → Action → Type 0
   Does s outcome (Answer reply) = (outcome ≡ Answered reply (found_in shelf step now s)) × (is_gone shelf.cut now found ≡ false)
-  Does s outcome (Expire expiry reply) = (item : Entry) × (stands ≡ Some item) × (outcome ≡ Answered reply (record s { items = insert s.items key (record item { expiry = expiry }) }))
-  Does s outcome (Discard reply) = (old : Entry) × (found ≡ Some old) × (outcome ≡ Answered reply (record s { items = remove s.items key }))
+  Does s outcome (Expire expiry reply) = (item : Entry) × (stands ≡ Some item) × (outcome ≡ Answered reply (record s { items = insert s.items (key_of step) (record item { expiry = expiry }) }))
+  Does s outcome (Discard reply) = (old : Entry) × (found ≡ Some old) × (outcome ≡ Answered reply (record s { items = remove s.items (key_of step) }))
   Does s outcome (Write size draft) = (outcome ≡ wrote_at shelf step now draft s) × IsDrafted shelf step now size draft
 
   -- a dead item was found, and none stands
@@ -98,13 +93,13 @@ module _ (shelf : ShelfContent) (step : KeyStep) (now : ℕ) where
   answered_does : (s : Plain) (outcome : Outcome) (reply : Reply) → outcome ≡ Answered reply (found_in shelf step now s) → Does s outcome (answered (is_gone shelf.cut now found) reply)
   answered_does s outcome reply is =
       elim (is_gone shelf.cut now found) as (λ b. is_gone shelf.cut now found ≡ b → Does s outcome (answered b reply)) [
-        | true ↦ λ dead. let there = dead_found found stands dead in (there.0.0, there.0.1, is ∙ ap (λ (o : Option Entry). Answered reply (record s { items = base o key s.items })) there.1)
+        | true ↦ λ dead. let there = dead_found found stands dead in (there.0.0, there.0.1, is ∙ ap (λ (o : Option Entry). Answered reply (record s { items = base o (key_of step) s.items })) there.1)
         | false ↦ λ dead. (is, dead)
       ] refl
 
   expires_does : (s : Plain) (expiry : Expiry) (reply : Reply) → ((item : Entry) × (stands ≡ Some item))
-      → Does s (Answered reply (expiring stands key expiry (found_in shelf step now s))) (Expire expiry reply)
-  expires_does s expiry reply there = (there.0, there.1, ap (λ (o : Option Entry). Answered reply (expiring o key expiry (record s { items = base o key s.items }))) there.1)
+      → Does s (Answered reply (expiring stands (key_of step) expiry (found_in shelf step now s))) (Expire expiry reply)
+  expires_does s expiry reply there = (there.0, there.1, ap (λ (o : Option Entry). Answered reply (expiring o (key_of step) expiry (record s { items = base o (key_of step) s.items }))) there.1)
 
   writes_does : (s : Plain) → s.greatest ≡ shelf.greatest → (draft : Draft) → (stands ≡ None → draft.body ≡ Given)
       → Does s (wrote_at shelf step now draft s) (next_by (is_gone shelf.cut now found) shelf.greatest step stands (Writes draft))
@@ -112,8 +107,8 @@ module _ (shelf : ShelfContent) (step : KeyStep) (now : ℕ) where
       let size = charge_of step stands draft in
       cond_both (ltb shelf.greatest size) (answered (is_gone shelf.cut now found) TooLarge) (Write size draft) (λ next. Does s (wrote_at shelf step now draft s) next)
       (λ large. answered_does s (wrote_at shelf step now draft s) TooLarge
-      (wrote_too_large (write_reply draft.body) key draft.flags draft.expiry (block_at shelf step now draft) (found_in shelf step now s) now
-      (keeps_chunk draft.body key stands) (rw same (ltb-true shelf.greatest size large))))
+      (wrote_too_large (write_reply draft.body) (key_of step) draft.flags draft.expiry (block_at shelf step now draft) (found_in shelf step now s) now
+      (keeps_chunk draft.body (key_of step) stands) (rw same (ltb-true shelf.greatest size large))))
       (λ fits. (refl, record { size_is = refl; fits = ltb-false shelf.greatest size fits; given = given }))
 
   pub row_does : (s : Plain) → s.greatest ≡ shelf.greatest → (row : Row) → SpeaksOf stands row
@@ -123,11 +118,11 @@ module _ (shelf : ShelfContent) (step : KeyStep) (now : ℕ) where
   row_does s same (Reads (Some expiry)) speaks = expires_does s expiry (hit_of stands) speaks
   row_does s same (Touches expiry) speaks = expires_does s expiry Touched speaks
   row_does s same Deletes speaks =
-      (speaks.0, alive_found shelf.cut now found speaks.0 speaks.1, ap (λ (o : Option Entry). Answered Deleted (record s { items = remove (base o key s.items) key })) speaks.1)
+      (speaks.0, alive_found shelf.cut now found speaks.0 speaks.1, ap (λ (o : Option Entry). Answered Deleted (record s { items = remove (base o (key_of step) s.items) (key_of step) })) speaks.1)
   row_does s same (Writes draft) speaks = writes_does s same draft speaks
 
   -- what the plain machine does, by what comes next
-  pub next_does : (desk : DeskState) (s : Plain) → IsOnKey step → StandsAt key shelf desk s → (outcome : Outcome)
+  pub next_does : (desk : DeskState) (s : Plain) → IsOnKey step → StandsAt (key_of step) shelf desk s → (outcome : Outcome)
       → outcome ≡ changed (row_at shelf step now) step stands (found_in shelf step now s) now
       → (next : Action) → next ≡ next_of shelf step now → Does s outcome next
   next_does desk s on at outcome outcome_is next next_is =

@@ -1,5 +1,6 @@
 -- What follows of the numbers that a store may be set up by.
-use Rattle.std.proofs.Common.{◌≡◌, ℕ, ◌*◌, ◌/◌, ◌<◌, ◌≤◌, Bool, true, false, ◌||◌, ◌==◌, IsTrue, eqb-true, sym, refl, subst, arith}
+use Rattle.mc_shelf.proofs.Common.{◌*◌, ◌/◌, ◌<◌, ◌==◌, ◌||◌, ◌≡◌, ◌≤◌, arith, Bool, eqb-true, false, refl, subst, sym, true, ℕ}
+use Rattle.std.proofs.Common.{IsTrue}
 use Rattle.mc_shelf.specs.Ranges.{IsShelfCount}
 
 -- What holds of each number of shelves holds of this one. It isn't public: it fits each goal, so each search would try it.

@@ -1,16 +1,14 @@
 -- Where a step may be refused: its answer is one that memory is asked for.
-use Rattle.std.proofs.Common.{◌≡◌, ◌≢◌, ℕ, ◌-◌, ◌≤◌, ◌^◌, Bool, true, false, true≢false, List, Result, Ok, Err, IfOk, refl, sym, subst, ◌∙◌}
-use Rattle.mc_shelf.proofs.Common.{Answered, block_need, Body, CanStandAt, charge, CopiesBlock, DeskState, Draft, Given, has_room, StandsAt, IsOnKey, IsSlab}
-use Rattle.mc_shelf.proofs.Common.{keeps_chunk, key_of, KeyStep, MayFail, need_for, Plain, plain, Reply, ShelfContent, Spent, StepFault, write_reply, wrote}
-use Rattle.mc_slab.specs.Slabs as slabs
-use Rattle.mc_shelf.specs.declared.plan.Action.{Action}
-use Rattle.mc_shelf.specs.declared.plan.Action.TheVariants.{Write}
-use Rattle.mc_protocol.specs.declared.step.StepFault.TheVariants.{NoMemory, NumbersSpent}
-use Rattle.mc_shelf.specs.Plans.{CanWrite, IsSpent, StepTaken, MayWantMemory, NeedsPages, back_at, next_of, stood, writes}
+use Rattle.mc_shelf.proofs.Common.{◌-◌, ◌^◌, ◌∙◌, ◌≡◌, ◌≢◌, ◌≤◌, Action, Answered, back_at, block_need, Body, Bool, CanStandAt, CanWrite, charge, CopiesBlock, DeskState, Draft, Err, false}
+use Rattle.mc_shelf.proofs.Common.{Given, has_room, IfOk, IsOnKey, IsSlab, IsSpent, keeps_chunk, key_of, KeyStep, List, MayFail, need_for, NeedsPages, next_of, NumbersSpent, Ok, Plain}
+use Rattle.mc_shelf.proofs.Common.{plain, refl, Reply, Result, ShelfContent, Spent, StandsAt, StepFault, StepTaken, stood, subst, sym, true, true≢false, Write, write_reply, wrote, ℕ}
+use Rattle.mc_protocol.specs.declared.step.StepFault.TheVariants.{NoMemory}
+use Rattle.mc_shelf.specs.Plans.{MayWantMemory, writes}
 use Rattle.mc_shelf.proofs.StandLemmas.{wrote_kept, wrote_taken}
 use Rattle.mc_shelf.proofs.PlanLemmas.{block_at, found_in}
 use Rattle.mc_shelf.proofs.NeedLemmas.{need_class}
 use Rattle.mc_shelf.proofs.TakesLemmas.{drafts, fits_plain, room_found, wrote_is}
+use Rattle.mc_slab.specs.Slabs as slabs
 
 reply_copies : (body : Body) → CopiesBlock (write_reply body)
 reply_copies Given = tt

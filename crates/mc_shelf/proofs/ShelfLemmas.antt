@@ -1,8 +1,7 @@
 -- What an edit of its index makes of a shelf's content.
-use Rattle.std.proofs.Common.{◌≡◌, ℕ, List, Option, Some, None, is_some, true≢false, refl, sym, ap, subst, ◌∙◌}
-use Rattle.mc_shelf.proofs.Common.{ChunksState, Entry, EntryState, get, Hashes, hashes_of, IndexState, insert, ItemIsChanged, IsHash, items_of, KeyGoes, none-some}
-use Rattle.mc_shelf.proofs.Common.{Place, remove, same_Some, ShelfContent}
-use Rattle.mc_shelf.specs.Plans.{IsDropped, IsKnown, IsPut, IsSought, OtherKeysStay, with_item}
+use Rattle.mc_shelf.proofs.Common.{◌∙◌, ◌≡◌, ap, ChunksState, Entry, EntryState, get, Hashes, hashes_of, IndexState, insert, is_some, IsDropped, IsHash, IsKnown, IsPut, ItemIsChanged}
+use Rattle.mc_shelf.proofs.Common.{items_of, KeyGoes, List, None, none-some, Option, Place, refl, remove, same_Some, ShelfContent, Some, subst, sym, true≢false, with_item, ℕ}
+use Rattle.mc_shelf.specs.Plans.{IsSought, OtherKeysStay}
 use Rattle.mc_shelf.proofs.KeyLemmas.{get_gone, get_gone_other, get_put, get_put_other, put_same}
 
 -- the content of a shelf over an index

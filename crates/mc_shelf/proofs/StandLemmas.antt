@@ -1,16 +1,15 @@
 -- What a change of the key's item makes of a plain state that stands for a shelf and a desk.
-use Rattle.std.proofs.Common.{◌≡◌, ◌≢◌, ℕ, ◌+◌, ◌-◌, ◌*◌, ◌<◌, ◌≤◌, ◌^◌, Bool, true, false, leb, List, length, get_or, set, sum, Option, Some, None, eqb, if◌then◌else◌, refl, sym}
-use Rattle.std.proofs.Common.{ap, ◌∙◌, arith, get_or-set_same, get_or-set_other, lt-ltb, le-ltb, le-leb, eq-eqb, ne_eqb, eqb-true, subst, set-set, length-set}
+use Rattle.mc_shelf.proofs.Common.{◌*◌, ◌+◌, ◌-◌, ◌<◌, ◌^◌, ◌∙◌, ◌≡◌, ◌≢◌, ◌≤◌, alive, Answered, ap, arith, block_need, Bool, changed, charge, chunks_a_page, chunks_a_page-least, chunks_in}
+use Rattle.mc_shelf.proofs.Common.{cond_both, count-insert, count-remove, count_of, DeskState, Entry, eq-eqb, eqb, eqb-false, eqb-true, Expiry, false, get, get_or, get_or-set_other}
+use Rattle.mc_shelf.proofs.Common.{get_or-set_same, given, has_room, if◌then◌else◌, insert, IsClass, IsDropped, IsOnKey, IsPut, IsSlab, item_need, Items, key_of, KeyStep, le-leb, le-ltb}
+use Rattle.mc_shelf.proofs.Common.{leb, length, length-set, List, lt-ltb, made_ready, ne_eqb, NeedState, NoChunk, None, of_class, on_key, Option, out_of, Plain, plain, refl, remove, Reply}
+use Rattle.mc_shelf.proofs.Common.{row_at, row_of, set, ShelfContent, SlabState, Some, Spent, StandsAt, stood, subst, sym, taken, TooLarge, true, with_chunk, without_dead, written, wrote, ℕ}
+use Rattle.std.proofs.Common.{sum, set-set}
 use lib.Seq.{set-get_or}
-use Rattle.mc_shelf.proofs.Common.{alive, Answered, block_need, changed, charge, chunks_a_page, chunks_a_page-least, chunks_in, cond_both, count-insert}
-use Rattle.mc_shelf.proofs.Common.{count-remove, count_of, DeskState, Entry, eqb-false, Expiry, get, given, has_room, insert, StandsAt, IsClass, IsOnKey, IsSlab}
-use Rattle.mc_shelf.proofs.Common.{item_need, Items, key_of, KeyStep, made_ready, NeedState, NoChunk, of_class, on_key, out_of, Plain, plain, remove, Reply}
-use Rattle.mc_shelf.proofs.Common.{row_of, ShelfContent, SlabState, Spent, taken, TooLarge, with_chunk, without_dead, written, wrote}
-use Rattle.mc_slab.specs.Slabs as slabs
 use Rattle.std.proofs.Math.Nat.{le-mul_of_pos_right}
-use Rattle.mc_protocol.specs.Plain as machine
-use Rattle.mc_shelf.specs.Plans.{IsDropped, IsPut, row_at, stood}
 use Rattle.mc_shelf.proofs.KeyLemmas.{get_gone, get_put}
+use Rattle.mc_slab.specs.Slabs as slabs
+use Rattle.mc_protocol.specs.Plain as machine
 
 -- so many at the class, and else 0
 abbrev pub weight : (class count other : ℕ) → ℕ

@@ -1,15 +1,11 @@
 -- A store: what a change of one of its shelves, or of all, makes of the state that its parts keep.
-use Rattle.std.proofs.Common.{◌≡◌, ℕ, zero, suc, ◌-◌, ◌^◌, ◌<◌, Bool, true, false, cond, eqb, ltb, List, length, map, replicate, Option, Some, slice_get, slice_index}
-use Rattle.std.proofs.Common.{slice_index_or, slice_set, refl, sym, ap, subst, ◌∙◌, arith, Result, Ok, Err, IfOk, OnErr}
-use Rattle.mc_shelf.proofs.Common.{alive, Answered, block_of, changed, charge, cond-false, cond-true, count-empty, DeskState, Entry, get, get-empty}
-use Rattle.mc_shelf.proofs.Common.{get_or-replicate, get_or_from_slice_get, has_room, StandsAt, IsOnKey, keeps_chunk, key_of, KeyStep, length-map, length-replicate}
-use Rattle.mc_shelf.proofs.Common.{map-set, need_for, nothing_held, on_key, option_map, out_of, Outcome, Plain, plain, Reply, Row, row_of, same_Some}
-use Rattle.mc_shelf.proofs.Common.{ShelfContent, ShelfState, slice_get-map, slice_get_read, Spent, starting, StepFault, untouched, without_dead, Writes}
-use Rattle.mc_shelf.proofs.Common.{written_block}
-use Rattle.mc_shelf.specs.Plans.{StepTaken, IsSpent}
-use Rattle.mc_shelf.specs.Parts.{shelf_of, IsShelfOf, IsDeskOf, ArePartsOf, GoesTo, GoesByStep}
-use Rattle.mc_shelf.specs.Unions.{lefts, plain_of}
-use Rattle.mc_shelf.specs.declared.settings.Settings.{Settings}
+use Rattle.mc_shelf.proofs.Common.{◌-◌, ◌<◌, ◌^◌, ◌∙◌, ◌≡◌, alive, Answered, ap, ArePartsOf, arith, block_of, Bool, changed, charge, cond, cond-false, cond-true, count-empty, DeskState}
+use Rattle.mc_shelf.proofs.Common.{Entry, eqb, Err, false, get, get-empty, get_or-replicate, get_or_from_slice_get, GoesByStep, GoesTo, has_room, IfOk, IsDeskOf, IsOnKey, IsShelfOf, IsSpent}
+use Rattle.mc_shelf.proofs.Common.{keeps_chunk, key_of, KeyStep, lefts, length, length-map, length-replicate, List, ltb, map, map-set, need_for, nothing_held, Ok, on_key, Option, option_map}
+use Rattle.mc_shelf.proofs.Common.{out_of, Outcome, Plain, plain, plain_of, refl, replicate, Reply, Result, Row, row_of, same_Some, Settings, shelf_of, ShelfContent, ShelfState}
+use Rattle.mc_shelf.proofs.Common.{slice_get-map, slice_get_read, slice_index, slice_set, Some, Spent, StandsAt, starting, StepFault, StepTaken, subst, suc, sym, true, untouched}
+use Rattle.mc_shelf.proofs.Common.{without_dead, Writes, written_block, zero, ℕ}
+use Rattle.std.proofs.Common.{slice_get, slice_index_or, OnErr}
 use Rattle.mc_shelf.proofs.KeyLemmas.{order}
 use Rattle.mc_shelf.proofs.StandLemmas.{base_is}
 use Rattle.mc_shelf.proofs.PartLemmas.{are_kept, goes_by_step, parts_go, plain_is}

@@ -1,16 +1,11 @@
 -- What a sweep over an index drops of a shelf, and gives back to a desk.
-use Rattle.std.proofs.Common.{◌≡◌, ◌≢◌, ℕ, ◌+◌, ◌<◌, ◌≤◌, true, false, cond, List, [], ◌∷◌, ◌++◌, get_or, Option, Some, None, is_some, is_none, refl, sym, ap, subst, ◌∙◌, arith}
-use Rattle.std.proofs.Common.{if◌then◌else◌, inl, inr}
-use Rattle.mc_shelf.proofs.Common.{alive, cases_lt, cells, chunks_in, ChunksState, cond_both, count-remove, count_of, DeskState, empty, entries_of}
-use Rattle.mc_shelf.proofs.Common.{Entry, entry_at, EntryState, get, get-empty, get-remove, given, Hashes, hashes_of, IndexState, is_dead, IsClass, IsFirstFrom}
-use Rattle.mc_shelf.proofs.Common.{EntriesAreKeyed, IsNeed, IsNext, IsSlab, item_need, Items, items_of, KeepsLower, KeyGoes, living, nat_list_cmp_total, need_in}
-use Rattle.mc_shelf.proofs.Common.{NeedState, none-some, of_class, option_copied, out_of, Place, remove, same_Some, ShelfContent, ShelfState}
+use Rattle.mc_shelf.proofs.Common.{[], ◌++◌, ◌+◌, ◌<◌, ◌∙◌, ◌∷◌, ◌≡◌, ◌≢◌, ◌≤◌, alive, ap, arith, cases_lt, cells, chunks_in, ChunksState, cond, cond_both, count-remove, count_among}
+use Rattle.mc_shelf.proofs.Common.{count_of, counts_in, counts_of, DeskState, DieNoSooner, DiesNoSooner, DropsAlone, empty, entries_of, EntriesAreKeyed, Entry, entry_at, EntryState, false}
+use Rattle.mc_shelf.proofs.Common.{get, get-empty, get-remove, get_or, given, GivesFor, Hashes, hashes_of, if◌then◌else◌, IndexState, inl, inr, is_dead, is_gone, is_none, is_some, IsClass}
+use Rattle.mc_shelf.proofs.Common.{IsFirstFrom, IsNeed, IsNext, IsPurged, IsSlab, item_in, item_need, Items, items_of, KeepsLower, KeepsTable, KeyGoes, List, living, nat_list_cmp_total}
+use Rattle.mc_shelf.proofs.Common.{need_in, NeedState, None, none-some, NoneIsDead, of_class, Option, option_copied, out_of, Place, refl, remove, same_Some, ShelfContent, ShelfState, Some}
+use Rattle.mc_shelf.proofs.Common.{Soonest, subst, sym, true, ℕ}
 use Rattle.std.specs.Borrow.{Bor}
-use Rattle.mc_shelf.specs.Counts.{DropsAlone, KeepsTable, counts_in, counts_of}
-use Rattle.mc_shelf.specs.Plans.{is_gone, item_in}
-use Rattle.mc_shelf.specs.Sweeps.{GivesFor, IsPurged, count_among}
-use Rattle.mc_shelf.specs.Deaths.{DieNoSooner, DiesNoSooner, NoneIsDead}
-use Rattle.mc_shelf.specs.declared.soonest.Soonest.{Soonest}
 use Rattle.mc_shelf.proofs.KeyLemmas.{order, same_maps, get_kept, get_gone, get_gone_other}
 use Rattle.mc_shelf.proofs.LabelLemmas.{same, same_list}
 use Rattle.mc_shelf.proofs.KeyMapLemmas.{hash_absent, item_held}

@@ -1,26 +1,23 @@
 -- What a shelf and a desk make of a plan is what the plain machine makes of the step.
-use Rattle.std.proofs.Common.{◌≡◌, ◌≢◌, ℕ, ◌+◌, ◌-◌, ◌<◌, ◌≤◌, ◌^◌, Bool, true, false, ◌&&◌, ◌||◌, List, [], decimal, Option, Some, None}
-use Rattle.std.proofs.Common.{is_some, is_none, ◌*◌, ◌==◌, eqb, eqb-true, if◌then◌else◌, refl, sym, ap, subst, ◌∙◌, arith, le-leb, leb-true, lt-ltb, not, true≢false}
-use Rattle.mc_shelf.proofs.Common.{alive, and_parts, and_right, Answered, Appended, block_need, block_of, Body, CanStandAt, changed, charge, chunks_a_page, chunks_in}
-use Rattle.mc_shelf.proofs.Common.{count-remove, count_of, Counted, DeskState, Draft, empty, Entry, Expiry, get, Given, given, has_room, insert, StandsAt, IsClass}
-use Rattle.mc_shelf.proofs.Common.{IsHash, IsNeed, IsOnKey, IsSlab, item_need, keeps_chunk, key_of, KeyStep, made_ready, need_for, NeedState, NoChunk, of_class}
-use Rattle.mc_shelf.proofs.Common.{or_right, out_of, Plain, plain, Prepended, remove, Reply, same_need, same_Some, ShelfContent, ShelfState, SlabState, taken, with_chunk, write_reply}
-use Rattle.mc_shelf.proofs.Common.{written, written_block, wrote}
-use Rattle.mc_slab.specs.Slabs as slabs
-use Rattle.mc_protocol.specs.Plain as machine
-use Rattle.mc_shelf.specs.declared.plan.Action.{Action}
-use Rattle.mc_shelf.specs.declared.plan.Action.TheVariants.{Answer, Expire, Discard, Write}
+use Rattle.mc_shelf.proofs.Common.{[], ◌&&◌, ◌*◌, ◌+◌, ◌-◌, ◌<◌, ◌==◌, ◌^◌, ◌||◌, ◌∙◌, ◌≡◌, ◌≢◌, ◌≤◌, Action, alive, and_parts, and_right, Answer, Answered, ap, Appended, arith, back_at}
+use Rattle.mc_shelf.proofs.Common.{block_beside, block_in, block_need, block_of, Body, Bool, CanStandAt, changed, charge, chunks_a_page, chunks_in, count-remove, count_of, Counted, counts}
+use Rattle.mc_shelf.proofs.Common.{dead_chunks, DeskState, Discard, Draft, drafted, empty, Entry, eqb, eqb-true, Expire, Expiry, false, get, Given, given, gives_way, GivesBack, GoesOver}
+use Rattle.mc_shelf.proofs.Common.{has_need, has_room, if◌then◌else◌, insert, is_gone, is_none, is_some, IsClass, IsDropped, IsHash, IsNeed, IsOnKey, IsOut, IsPut, IsSlab, IsSpent}
+use Rattle.mc_shelf.proofs.Common.{IsWriteOf, item_need, keeps_chunk, key_of, KeyStep, le-leb, leb-true, List, lt-ltb, made_block, made_ready, need_for, NeedState, next_of, NoChunk, None}
+use Rattle.mc_shelf.proofs.Common.{not, of_class, Option, or_right, out_of, Plain, plain, Prepended, refl, remove, Reply, row_at, same_need, same_Some, ShelfContent, ShelfState, SlabState}
+use Rattle.mc_shelf.proofs.Common.{Some, StandsAt, StepTaken, stood, subst, sym, taken, true, true≢false, with_chunk, Write, write_reply, written, written_block, wrote, ℕ}
+use Rattle.std.proofs.Common.{decimal}
 use Rattle.mc_shelf.specs.declared.write.Write.{Write as Writing}
-use Rattle.mc_shelf.specs.Plans as plans
-use Rattle.mc_shelf.specs.Plans.{GivesBack, GivesChunks, GoesApart, GoesOver, LiesInNeed, gives_way, IsDropped, IsOut, IsPut, IsSpent, StepTaken, IsWriteOf, TakesStepAtKey, back_at}
-use Rattle.mc_shelf.specs.Plans.{block_beside, block_in, counts, dead_chunks, drafted, made_block, has_need, is_gone, next_of, readied, row_at, stood, way_given}
-use Rattle.mc_shelf.proofs.StandLemmas.{base, step_is, at_none, at_dropped, at_put_again, counts_put, given_taken, out-given, out-taken, out-way}
-use Rattle.mc_shelf.proofs.StandLemmas.{out_found, out_some, pages-way, pages_after, pages_are, pages_stay, ready_unused, room_by_free, room_is, taken_is_slab, weight, weight_here}
+use Rattle.mc_shelf.specs.Plans.{GivesChunks, GoesApart, LiesInNeed, TakesStepAtKey, readied, way_given}
+use Rattle.mc_shelf.proofs.StandLemmas.{base, step_is, at_none, at_dropped, at_put_again, counts_put, given_taken, out-given, out-taken, out-way, out_found, out_some, pages-way, pages_after}
+use Rattle.mc_shelf.proofs.StandLemmas.{pages_are, pages_stay, ready_unused, room_by_free, room_is, taken_is_slab, weight, weight_here, wrote_full, wrote_kept, wrote_spent, wrote_taken}
 use Rattle.mc_shelf.proofs.NeedLemmas.{need_class, needs_same}
 use Rattle.mc_shelf.proofs.ShelfLemmas.{others_same}
-use Rattle.mc_shelf.proofs.StandLemmas.{wrote_full, wrote_kept, wrote_spent, wrote_taken}
 use Rattle.mc_shelf.proofs.KeyLemmas.{get_put}
 use Rattle.mc_shelf.proofs.PlanLemmas.{Does, IsDrafted, alive_found, block_at, dead_found, found_in, made_beside, next_does, row_does, row_speaks, wrote_at}
+use Rattle.mc_slab.specs.Slabs as slabs
+use Rattle.mc_protocol.specs.Plain as machine
+use Rattle.mc_shelf.specs.Plans as plans
 
 -- what a plan says without a plain state
 module _ (shelf : ShelfContent) (step : KeyStep) (now : ℕ) where
@@ -54,6 +51,12 @@ is_out_taken key shelf desk need can is is_class n item found is_item =
 
 -- ---- a step that writes nothing
 
+-- an expiry that is set under a key is set under each name of it
+pub puts_at : (own : ℕ) (old new : ShelfContent) (expiry : Expiry) {key other : List ℕ} → key ≡ other
+    → ((item : Entry) → get old.items key ≡ Some item → IsPut key own old new (record item { expiry = expiry }))
+    → (item : Entry) → get old.items other ≡ Some item → IsPut other own old new (record item { expiry = expiry })
+puts_at own old new expiry = subst (λ (k : List ℕ). (item : Entry) → get old.items k ≡ Some item → IsPut k own old new (record item { expiry = expiry }))
+
 module _ (step : KeyStep) (now : ℕ) (shelf : ShelfContent) (desk : DeskState) (on : IsOnKey step) where
   abbrev key : List ℕ
   key = key_of step
@@ -61,17 +64,14 @@ module _ (step : KeyStep) (now : ℕ) (shelf : ShelfContent) (desk : DeskState) 
   abbrev found : Option Entry
   found = get shelf.items key
 
-  abbrev stands : Option Entry
-  stands = stood shelf step now
-
   does_at : (next : Action) → next ≡ next_of shelf step now → (s : Plain) → StandsAt key shelf desk s → Does shelf step now s (plain s step now) next
   does_at next is s at = next_does shelf step now desk s on at (plain s step now) (step_is step now shelf desk s on at) next is
 
   -- where no dead item is found, the step finds the state as it is
   at_under : (s : Plain) → StandsAt key shelf desk s → is_gone shelf.cut now found ≡ false → StandsAt key shelf desk (found_in shelf step now s)
-  at_under s at alive = by found stands refl refl alive
+  at_under s at alive = by found (stood shelf step now) refl refl alive
     where
-      by : (f st : Option Entry) → found ≡ f → stands ≡ st → is_some f && is_none st ≡ false → StandsAt key shelf desk (record s { items = base st key s.items })
+      by : (f st : Option Entry) → found ≡ f → stood shelf step now ≡ st → is_some f && is_none st ≡ false → StandsAt key shelf desk (record s { items = base st key s.items })
       by f (Some item) is stood none = at
       by None None is stood none = at_none key shelf desk s at is
       by (Some dead) None is stood none = absurd (true≢false none)
@@ -294,8 +294,8 @@ module _ {step : KeyStep} {now : ℕ} {shelf : ShelfContent} {desk : DeskState} 
   counted_is e item stood = or_left (counts draft.body) (is_gone shelf.cut now its_found) (stands_not_gone shelf.cut now its_found item stood) (reused_is e).3
 
   -- a body that goes over the item may: beside a dead one the block is the step's own
-  pub may_go : {slab : SlabState} → plans.goes_over draft.body (is_gone shelf.cut now its_found) need slab ≡ true → GoesOver draft.body
-  may_go {slab} over = by draft.body refl over
+  pub may_go : (slab : SlabState) → plans.goes_over draft.body (is_gone shelf.cut now its_found) need slab ≡ true → GoesOver draft.body
+  may_go slab over = by draft.body refl over
     where
       by : (body : Body) → draft.body ≡ body → plans.goes_over body (is_gone shelf.cut now its_found) need slab ≡ true → GoesOver body
       by Prepended is gone = subst GoesOver (sym (drafted_is.given (dead_found shelf step now its_found its_stands gone).1) ∙ is) tt

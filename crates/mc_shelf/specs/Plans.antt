@@ -97,10 +97,8 @@ wants_desk (Write size draft) = true
 
 -- it writes
 abbrev pub writes : Action → Bool
-writes (Answer reply) = false
-writes (Expire expiry reply) = false
-writes (Discard reply) = false
 writes (Write size draft) = true
+writes next = false
 
 -- what is known of a key: its hash, if the shelf has the key, and by a place that it has
 pub record IsKnown (shelf : ShelfContent) (key : List ℕ) (own : ℕ) (found : Option Place) : Type 0 where
@@ -141,11 +139,8 @@ back_at shelf key now need = dead_chunks shelf.cut now key (get shelf.items key)
 
 -- a key's item gives way to what comes next
 abbrev pub gives_way_to : Action → ShelfContent → (key : List ℕ) → (now : ℕ) → Bool
-gives_way_to (Answer reply) shelf key now = false
-gives_way_to (Expire expiry reply) shelf key now = false
-gives_way_to (Discard reply) shelf key now = false
-gives_way_to (Write size draft) shelf key now =
-    gives_way shelf.cut now key (get shelf.items key) (need_for size)
+gives_way_to (Write size draft) shelf key now = gives_way shelf.cut now key (get shelf.items key) (need_for size)
+gives_way_to next shelf key now = false
 
 -- what comes next puts in an entry, if it writes: the key has no item, or one that gives way
 abbrev pub PutsEntry : Action → ShelfContent → (key : List ℕ) → (now : ℕ) → Type 0
@@ -229,10 +224,8 @@ LookTakesMemory step now shelf =
 
 -- the block is a number's digits
 abbrev pub counts : Body → Bool
-counts Given = false
-counts Appended = false
-counts Prepended = false
 counts (Counted number) = true
+counts body = false
 
 -- a write that comes next in a step, of a key that is known
 pub record IsWriteOf (write : Writing) (shelf : ShelfContent) (step : KeyStep) : Type 0 where
@@ -243,13 +236,8 @@ pub record IsWriteOf (write : Writing) (shelf : ShelfContent) (step : KeyStep) :
 
 -- the item of a draft with this block
 abbrev pub drafted : Draft → (block : List ℕ) → (unique updated : ℕ) → Entry
-drafted draft block unique updated = record {
-  flags = draft.flags;
-  expiry = draft.expiry;
-  block = block;
-  unique = unique;
-  updated = updated;
-}
+drafted draft block unique updated =
+    record { flags = draft.flags; expiry = draft.expiry; block = block; unique = unique; updated = updated }
 
 -- the block that a draft makes beside the item that a shelf has under the step's key, dead or not
 abbrev pub block_beside : ShelfContent → KeyStep → Draft → List ℕ
@@ -283,10 +271,8 @@ pub record GoesApart (write : Writing) (step : KeyStep) (shelf : ShelfContent) (
 -- else into those of the key's item, whose hash stays
 abbrev pub with_item : Option ChunksState → (key : List ℕ) → (own : ℕ) → Entry → ShelfContent → ShelfContent
 with_item None key own item shelf = record shelf { items = insert shelf.items key item }
-with_item (Some chunks) key own item shelf = record shelf {
-  items = insert shelf.items key item;
-  hashes = insert shelf.hashes key own;
-}
+with_item (Some chunks) key own item shelf =
+    record shelf { items = insert shelf.items key item; hashes = insert shelf.hashes key own }
 
 -- what is left of a write: its unique number, and the chunks of its item, or none if it goes into those of the key's item
 abbrev pub Rest : Type 0
@@ -300,13 +286,8 @@ written write (Some rest) step shelf =
 
 -- the write of a plan
 abbrev pub write_of : Plan → (charge : ℕ) → Draft → Writing
-write_of plan charge draft = record {
-  hash = plan.hash;
-  place = plan.place;
-  moment = plan.moment;
-  charge = charge;
-  draft = draft;
-}
+write_of plan charge draft =
+    record { hash = plan.hash; place = plan.place; moment = plan.moment; charge = charge; draft = draft }
 
 -- what is left of a step that was begun
 abbrev pub left_of : Begun → Option Rest
@@ -315,11 +296,8 @@ left_of begun = None
 
 -- a shelf after what is left of a step that comes next so was written
 abbrev pub written_next : Plan → Action → Option Rest → KeyStep → ShelfContent → ShelfContent
-written_next plan (Answer reply) rest step shelf = shelf
-written_next plan (Expire expiry reply) rest step shelf = shelf
-written_next plan (Discard reply) rest step shelf = shelf
-written_next plan (Write charge draft) rest step shelf =
-    written (write_of plan charge draft) rest step shelf
+written_next plan (Write charge draft) rest step shelf = written (write_of plan charge draft) rest step shelf
+written_next plan next rest step shelf = shelf
 
 -- a shelf after what is left of a step that was begun
 abbrev pub finished : Plan → Begun → KeyStep → ShelfContent → ShelfContent
@@ -405,20 +383,15 @@ pages_in own = if own.class == 40 then Some own else None
 -- the chunks of an item, where they are pages, that a body's block is joined to in others: one that
 -- comes behind stays in the item's own, where the whole needs the same
 abbrev pub left_behind : Body → (own need : NeedState) → Option NeedState
-left_behind Given own need = None
 left_behind Appended own need = if same_need own need then None else pages_in own
 left_behind Prepended own need = pages_in own
-left_behind (Counted number) own need = None
+left_behind body own need = None
 
 -- the chunks for which others may be brought in exchange: pages of the key's item, out of which a
 -- join copies
 abbrev pub exchange_for : Action → (key : List ℕ) → Option Entry → Option NeedState
-exchange_for (Answer reply) key found = None
-exchange_for (Expire expiry reply) key found = None
-exchange_for (Discard reply) key found = None
-exchange_for (Write size draft) key None = None
-exchange_for (Write size draft) key (Some item) =
-    left_behind draft.body (item_need key item) (need_for size)
+exchange_for (Write size draft) key (Some item) = left_behind draft.body (item_need key item) (need_for size)
+exchange_for next key found = None
 
 -- what need chunks serve, where there are some
 abbrev pub need_brought : Option ChunksState → Option NeedState
@@ -462,10 +435,8 @@ readied need back desk = record desk { slab = made_ready desk.slab need back }
 
 -- a desk after so many chunks of a need's class came back, the need's were taken, and a number was drawn
 abbrev pub way_given : NeedState → (back : ℕ) → DeskState → DeskState
-way_given need back desk = record {
-  slab = taken (slabs.given desk.slab need.class back) need;
-  next_unique = desk.next_unique + 1;
-}
+way_given need back desk =
+    record { slab = taken (slabs.given desk.slab need.class back) need; next_unique = desk.next_unique + 1 }
 
 -- the numbers that writes draw are spent
 abbrev pub has_no_number : DeskState → Type 0

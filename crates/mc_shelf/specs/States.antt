@@ -126,15 +126,7 @@ coded_shelf =
     code_by (ShelfContent × (ℕ × (ℕ × (Bool × (ℕ × (ℕ × ℕ))))))
     (coded× coded_content (coded× coded_ℕ (coded× coded_ℕ (coded× coded_bool (coded× coded_ℕ (coded× coded_ℕ coded_ℕ))))))
     (λ s. (s.content, (s.room, (s.homes, (s.growing, (s.left, (s.strays, s.reclaimed)))))))
-    (λ p. record {
-      content = p.0;
-      room = p.1.0;
-      homes = p.1.1.0;
-      growing = p.1.1.1.0;
-      left = p.1.1.1.1.0;
-      strays = p.1.1.1.1.1.0;
-      reclaimed = p.1.1.1.1.1.1;
-    })
+    (λ p. record { content = p.0; room = p.1.0; homes = p.1.1.0; growing = p.1.1.1.0; left = p.1.1.1.1.0; strays = p.1.1.1.1.1.0; reclaimed = p.1.1.1.1.1.1 })
     (λ _. refl)
 
 -- a shelf that holds nothing

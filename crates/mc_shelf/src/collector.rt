@@ -17,9 +17,6 @@ use mc_slab::{Account, Chunks, Class, Need, Pages, Slab, TakeFault};
 use std::alloc::{AllocError, Global};
 use std::marker::Model;
 
-/// The number of items that a write collects from the shelves aside.
-const FEW: u32 = 1;
-
 /// A slab, and shelves that were laid aside whole.
 ///
 /// The chunks of their items are free at once. One item is collected with each write; a class with
@@ -84,13 +81,6 @@ impl Collector {
         self.slab.pages_left()
     }
 
-    /// Takes the chunks of a need, as a slab does.
-    pub(crate) fn take_all(&mut self, alloc: Global, need: Need) -> Result<Chunks, TakeFault>
-        ensures { Takes need self.old result self.new }
-    {
-        self.take_all_with(alloc, need, None)
-    }
-
     /// Takes the chunks of a need, as a slab does with `pages`.
     ///
     /// If its class has too few unused chunks, its chunks aside are collected first, until there
@@ -147,11 +137,11 @@ impl Collector {
         self.out[place_of(need.class())] -= need.count();
     }
 
-    /// Collects a few items of the shelves aside, if there are any.
+    /// Collects an item of the shelves aside, if there is one.
     pub(crate) fn collect(&mut self)
         ensures { self.new ≡ self.old }
     {
-        collect_few(&mut self.slab, &mut self.aside);
+        let _ = collect_one(&mut self.slab, &mut self.aside);
     }
 
     /// Lays shelves aside. Their items have all the chunks that are out, so none is out afterwards.
@@ -221,18 +211,6 @@ fn collect_one(slab: &mut Slab, aside: &mut Aside) -> bool
             true
         }
         None => false,
-    }
-}
-
-/// Collects a few items.
-fn collect_few(slab: &mut Slab, aside: &mut Aside)
-    requires { (out : List ℕ) × LieAside slab.old out aside.old.shelves.items }
-    ensures { AreCollected slab.old slab.new aside.old.shelves.items aside.new.shelves.items }
-{
-    for _ in 0..FEW {
-        if !collect_one(slab, aside) {
-            return;
-        }
     }
 }
 

@@ -143,16 +143,6 @@ impl Desk {
         u64::from(need.count()) <= self.unused_chunks(need.class())
     }
 
-    /// Returns how many pages a need wants once `back` chunks were given back: 0 to 8.
-    fn pages_wanted(&self, need: Need, back: u64) -> u32
-        requires { back ≤ 8 }
-        ensures value { result ≡ pages_wanted self.now.slab need back }
-        ensures most { result ≤ 8 }
-    {
-        let at_hand = self.unused_chunks(need.class()) + back;
-        u64::from(need.count()).saturating_sub(at_hand) as u32
-    }
-
     /// Returns the pages that a need wants once `back` chunks of its class were given back.
     ///
     /// It is `None` if it wants none, or if there is no room for it.
@@ -166,7 +156,8 @@ impl Desk {
         ensures range { IfSome result (λ wanted. (1 ≤ wanted.pages) × (wanted.pages ≤ 8)) }
         ensures none { result ≡ None → WantsPages self.now.slab need back → ⊥ }
     {
-        let pages = self.pages_wanted(need, back);
+        let at_hand = self.unused_chunks(need.class()) + back;
+        let pages = u64::from(need.count()).saturating_sub(at_hand) as u32;
         if pages == 0 || !self.has_room(need, back) {
             return None;
         }
@@ -239,7 +230,7 @@ impl Desk {
         ensures taken { self.new ≡ record self.old { slab = taken self.old.slab need } }
         ensures slab { IsSlab self.old.slab }
     {
-        match self.slab.take_all(alloc, need) {
+        match self.slab.take_all_with(alloc, need, None) {
             Ok(chunks) => chunks,
             // It wants no page, so nothing is refused.
             Err(_) => unreachable!(),

@@ -1,6 +1,4 @@
-use Rattle.std.proofs.Common.{◌<◌, List, rules, set, vec_len, refl, subst}
-use Rattle.mc_shelf.proofs.Common.{ShelfState, slice_get_read}
-use Rattle.mc_shelf.specs.Asides.{AreOff}
+use Rattle.mc_shelf.proofs.Common.{◌<◌, AreOff, List, refl, rules, set, ShelfState, slice_get_read, subst, vec_len}
 use Rattle.mc_shelf.proofs.AsideLemmas.{off_at}
 use Rattle.mc_shelf.proofs.aside.chunks_of.Goals as goal
 

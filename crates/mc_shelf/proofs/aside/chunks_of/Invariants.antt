@@ -1,4 +1,4 @@
-use Rattle.std.proofs.Common.{◌≡◌, ◌-◌, vec_len}
+use Rattle.mc_shelf.proofs.Common.{◌-◌, ◌≡◌, vec_len}
 use Rattle.mc_shelf.proofs.aside.chunks_of.Given as goal
 
 abbrev pub invariant-loop-shelf : goal.invariant-loop-shelf

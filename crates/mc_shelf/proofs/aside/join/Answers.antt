@@ -1,5 +1,4 @@
-use Rattle.std.proofs.Common.{arith, ap, ◌∙◌}
-use Rattle.mc_shelf.specs.Asides.{count_in}
+use Rattle.mc_shelf.proofs.Common.{◌∙◌, ap, arith, count_in}
 use Rattle.mc_shelf.proofs.AsideLemmas.{count_in-last, none_last}
 use Rattle.mc_shelf.proofs.aside.join.Goals as goal
 

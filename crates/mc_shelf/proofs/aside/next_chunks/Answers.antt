@@ -1,4 +1,4 @@
-use Rattle.std.proofs.Common.{refl, sym, ◌∙◌}
+use Rattle.mc_shelf.proofs.Common.{◌∙◌, refl, sym}
 use Rattle.mc_shelf.proofs.AsideLemmas.{none_last, off_last}
 use Rattle.mc_shelf.proofs.aside.next_chunks.Goals as goal
 

@@ -1,5 +1,4 @@
-use Rattle.std.proofs.Common.{◌≡◌, ℕ, vec_len}
-use Rattle.mc_shelf.specs.Asides.{count_in}
+use Rattle.mc_shelf.proofs.Common.{◌≡◌, count_in, vec_len, ℕ}
 use Rattle.mc_shelf.proofs.aside.next_chunks.Given as goal
 
 abbrev pub invariant-loop-shelf : goal.invariant-loop-shelf

@@ -1,4 +1,4 @@
-use Rattle.mc_shelf.specs.Asides.{AreCollected, all_out}
+use Rattle.mc_shelf.proofs.Common.{all_out, AreCollected}
 use Rattle.mc_shelf.proofs.collector.collect_for.Given as goal
 
 abbrev pub invariant-loop-need : goal.invariant-loop-need

@@ -1,6 +1,4 @@
-use Rattle.std.proofs.Common.{◌<◌, subst}
-use Rattle.mc_slab.specs.Slabs.{SlabState}
-use Rattle.mc_shelf.specs.Asides.{all_out}
+use Rattle.mc_shelf.proofs.Common.{◌<◌, all_out, SlabState, subst}
 use Rattle.mc_shelf.proofs.AsideLemmas.{collected_both, fewer_own}
 use Rattle.mc_shelf.proofs.collector.collect_next.Goals as goal
 

@@ -1,6 +1,4 @@
-use Rattle.std.proofs.Common.{◌≡◌, map, replicate}
-use Rattle.mc_shelf.specs.States.{nothing_held}
-use Rattle.mc_shelf.specs.Unions.{lefts}
+use Rattle.mc_shelf.proofs.Common.{◌≡◌, lefts, map, nothing_held, replicate}
 use Rattle.mc_shelf.proofs.parts.empty_shelves.Given as goal
 
 abbrev pub invariant-loop : goal.invariant-loop

@@ -1,4 +1,4 @@
-use Rattle.std.proofs.Common.{arith}
+use Rattle.mc_shelf.proofs.Common.{arith}
 use Rattle.std.proofs.lemmas.Option.{slice_get-get_or}
 use Rattle.mc_shelf.proofs.FlushLemmas.{flushed_none, flushed_more, flushed_all, out_before}
 use Rattle.mc_shelf.proofs.LeftLemmas.{rises_none, rises_never}

@@ -1,8 +1,4 @@
-use Rattle.std.proofs.Common.{ℕ, List}
-use Rattle.mc_protocol.specs.Plain.{Plain}
-use Rattle.mc_shelf.specs.Parts.{ArePartsOf}
-use Rattle.mc_shelf.specs.Stores.{NoneRises}
-use Rattle.mc_shelf.specs.Unions.{lefts}
+use Rattle.mc_shelf.proofs.Common.{ArePartsOf, lefts, List, NoneRises, Plain, ℕ}
 use Rattle.mc_shelf.proofs.FlushLemmas.{AreFlushedTo}
 use Rattle.mc_shelf.proofs.parts.flush_parts.Given as goal
 

@@ -1,6 +1,4 @@
-use Rattle.std.proofs.Common.{sym, refl}
-use Rattle.mc_protocol.specs.Commands.{key_of}
-use Rattle.mc_shelf.specs.Plans.{next_of}
+use Rattle.mc_shelf.proofs.Common.{key_of, next_of, refl, sym}
 use Rattle.mc_shelf.proofs.TakesLemmas.{is_spent}
 use Rattle.mc_shelf.proofs.RefusalLemmas.{can_wants, needs_can, writes_some}
 use Rattle.mc_shelf.proofs.parts.refusals_are_plain.Goals as goal

@@ -1,6 +1,4 @@
-use Rattle.std.proofs.Common.{◌≡◌, ℕ, ◌-◌, ◌≤◌, get_or, set, sym, ap, subst, ◌∙◌}
-use Rattle.mc_shelf.proofs.Common.{NeedState, out_of, SlabState}
-use Rattle.mc_shelf.specs.Asides.{LieAside}
+use Rattle.mc_shelf.proofs.Common.{◌-◌, ◌∙◌, ◌≡◌, ◌≤◌, ap, get_or, LieAside, NeedState, out_of, set, SlabState, subst, sym, ℕ}
 use Rattle.mc_shelf.proofs.AsideLemmas.{gave, seen_is_slab}
 use Rattle.mc_shelf.proofs.collector.Collector.give_all.Goals as goal
 

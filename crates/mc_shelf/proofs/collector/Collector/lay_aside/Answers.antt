@@ -1,6 +1,4 @@
-use Rattle.std.proofs.Common.{◌≡◌, ℕ, sym, ap, subst, ◌∙◌}
-use Rattle.mc_shelf.proofs.Common.{IsClass, out_of, SlabState}
-use Rattle.mc_shelf.specs.Asides.{count_in}
+use Rattle.mc_shelf.proofs.Common.{◌∙◌, ◌≡◌, ap, count_in, IsClass, out_of, SlabState, subst, sym, ℕ}
 use Rattle.mc_shelf.proofs.AsideLemmas.{laid, seen_is_slab}
 use Rattle.mc_shelf.proofs.collector.Collector.lay_aside.Goals as goal
 

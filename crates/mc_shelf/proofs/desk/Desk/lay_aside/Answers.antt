@@ -1,5 +1,4 @@
-use Rattle.std.proofs.Common.{ap, ◌∙◌}
-use Rattle.mc_shelf.proofs.Common.{DeskState, out_of}
+use Rattle.mc_shelf.proofs.Common.{◌∙◌, ap, DeskState, out_of}
 use Rattle.mc_shelf.proofs.FlushLemmas.{counted_all}
 use Rattle.mc_shelf.proofs.desk.Desk.lay_aside.Goals as goal
 

@@ -1,8 +1,8 @@
-use Rattle.std.proofs.Common.{◌≡◌, OnErr, true, sym, ap, subst}
-use Rattle.mc_shelf.proofs.Common.{DeskState, has_room_with, out_of, pages_of, SlabState, WantsPages}
+use Rattle.mc_shelf.proofs.Common.{◌≡◌, ap, DeskState, has_room_with, out_of, pages_of, SlabState, subst, sym, true, WantsPages}
+use Rattle.std.proofs.Common.{OnErr}
 use Rattle.mc_shelf.proofs.DeskLemmas.{fault_wants}
-use Rattle.mc_shelf.proofs.desk.Desk.take.Goals as goal
 use Rattle.mc_shelf.proofs.desk.Desk.take.Goals.{in-Ok, in-Err}
+use Rattle.mc_shelf.proofs.desk.Desk.take.Goals as goal
 
 pub returns-clause-pages : goal.returns-clause-pages
 returns-clause-pages c = elim c.match-take_all_with.branch [

@@ -1,6 +1,4 @@
-use Rattle.std.proofs.Common.{◌≡◌, ◌-◌, [], ◌∷◌, ap, arith, ◌∙◌}
-use Rattle.mc_shelf.proofs.Common.{chunks_in, DeskState, need_in, out_of}
-use Rattle.mc_shelf.specs.Sweeps.{count_among}
+use Rattle.mc_shelf.proofs.Common.{[], ◌-◌, ◌∙◌, ◌∷◌, ◌≡◌, ap, arith, chunks_in, count_among, DeskState, need_in, out_of}
 use Rattle.mc_shelf.proofs.StandLemmas.{out-given, weight_here}
 use Rattle.mc_shelf.proofs.SweepLemmas.{among_join}
 use Rattle.mc_shelf.proofs.desk.Desk.take_back.Goals as goal

@@ -1,6 +1,4 @@
-use Rattle.std.proofs.Common.{◌≡◌, ℕ, ◌+◌, vec_len}
-use Rattle.mc_shelf.proofs.Common.{IsClass, out_of}
-use Rattle.mc_shelf.specs.Sweeps.{count_among}
+use Rattle.mc_shelf.proofs.Common.{◌+◌, ◌≡◌, count_among, IsClass, out_of, vec_len, ℕ}
 use Rattle.mc_shelf.proofs.desk.Desk.take_back.Given as goal
 
 abbrev pub invariant-loop-one : goal.invariant-loop-one

@@ -1,5 +1,4 @@
-use Rattle.std.proofs.Common.{sym, ◌∙◌, arith}
-use Rattle.mc_shelf.specs.States.{parts_of}
+use Rattle.mc_shelf.proofs.Common.{◌∙◌, arith, parts_of, sym}
 use Rattle.mc_shelf.proofs.PartsLemmas.{blank_off, blank_past, parts_count}
 use Rattle.mc_shelf.proofs.entry.Entry.ends_blank.Goals as goal
 

@@ -1,5 +1,4 @@
-use Rattle.std.proofs.Common.{◌≡◌, drop}
-use Rattle.mc_shelf.specs.States.{parts_of}
+use Rattle.mc_shelf.proofs.Common.{◌≡◌, drop, parts_of}
 use Rattle.mc_shelf.proofs.PartsLemmas.{are_blank}
 use Rattle.mc_shelf.proofs.entry.Entry.ends_blank.Given as goal
 

@@ -1,8 +1,7 @@
-use Rattle.std.proofs.Common.{◌≡◌, ◌≤◌, ◌++◌, length-append, arith, sym, subst}
-use Rattle.mc_shelf.proofs.Common.{charge, charge_of, EntryState, size_in}
+use Rattle.mc_shelf.proofs.Common.{◌++◌, ◌≡◌, ◌≤◌, arith, charge, charge_of, EntryState, length-append, size_in, subst, sym}
 use Rattle.mc_item.specs.Items.{item_need}
-use Rattle.mc_protocol.specs.Plain as plain
 use Rattle.mc_shelf.proofs.EntryLemmas.{same_need_fits}
+use Rattle.mc_protocol.specs.Plain as plain
 use Rattle.mc_shelf.proofs.entry.Entry.extend.Goals as goal
 
 pub extend-requires : goal.extend-requires

@@ -1,8 +1,8 @@
-use Rattle.std.proofs.Common.{Bool, None, if◌then◌else◌, sym, ap, ◌∙◌}
+use Rattle.mc_shelf.proofs.Common.{◌∙◌, ap, Bool, if◌then◌else◌, None, sym}
 use Rattle.mc_protocol.specs.Plain.{number_of}
 use Rattle.mc_shelf.proofs.PartsLemmas.{number_by}
-use Rattle.mc_shelf.proofs.entry.EntryStanding.number.Goals as goal
 use Rattle.mc_shelf.proofs.entry.EntryStanding.number.Goals.{then-parts-eq1-via-then-parts-eq1, then-parts-eq1-via-else-parts-eq1+then-ends_blank}
+use Rattle.mc_shelf.proofs.entry.EntryStanding.number.Goals as goal
 
 pub returns-then-parts-eq1 : goal.returns-then-parts-eq1
 returns-then-parts-eq1 c = elim c.then-parts-eq1.branch [

@@ -1,7 +1,6 @@
-use Rattle.std.proofs.Common.{◌≡◌, Some, subst}
+use Rattle.mc_shelf.proofs.Common.{◌≡◌, parts_of, Some, subst}
 use Rattle.std.specs.Prelude.{IfSome, slice_get}
 use Rattle.mc_shelf.specs.Lent.{HitState}
-use Rattle.mc_shelf.specs.States.{parts_of}
 use Rattle.mc_shelf.proofs.hit.Hit.lend.Goals as goal
 
 pub returns : goal.returns

@@ -1,5 +1,4 @@
-use Rattle.std.proofs.Common.{arith, subst}
-use Rattle.mc_grow.specs.Indexes.{IsNext}
+use Rattle.mc_shelf.proofs.Common.{arith, IsNext, subst}
 use Rattle.mc_shelf.proofs.SweepLemmas.{cleared}
 use Rattle.mc_shelf.proofs.index.EntryIndex.any_from.Goals as goal
 

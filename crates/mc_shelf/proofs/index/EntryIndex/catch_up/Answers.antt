@@ -1,6 +1,4 @@
-use Rattle.std.proofs.Common.{◌≡◌, ap, sym, subst, ◌∙◌}
-use Rattle.mc_shelf.proofs.Common.{count, entries_of, EntryMap, EntryState, IndexState, items_in, items_of, len}
-use Rattle.mc_shelf.specs.Counts.{CaughtUp, counts_in}
+use Rattle.mc_shelf.proofs.Common.{◌∙◌, ◌≡◌, ap, CaughtUp, count, counts_in, entries_of, EntryMap, EntryState, IndexState, items_in, items_of, len, subst, sym}
 use Rattle.mc_shelf.proofs.LenLemmas.{len_items}
 use Rattle.mc_shelf.proofs.CountLemmas.{caught_none, caught_up}
 use Rattle.mc_shelf.proofs.index.EntryIndex.catch_up.Goals as goal

@@ -1,5 +1,4 @@
-use Rattle.std.proofs.Common.{subst}
-use Rattle.mc_shelf.proofs.Common.{entries_of, hash_in, IsFoundIn, EntriesAreKeyed, key_in}
+use Rattle.mc_shelf.proofs.Common.{entries_of, EntriesAreKeyed, hash_in, IsFoundIn, key_in, subst}
 use Rattle.mc_shelf.proofs.IndexLemmas.{key_found}
 use Rattle.mc_shelf.proofs.index.EntryIndex.find.Goals as goal
 

@@ -1,5 +1,4 @@
-use Rattle.std.proofs.Common.{◌≡◌, None, subst, sym}
-use Rattle.mc_shelf.proofs.Common.{EntryState, get, IndexState, items_of, KeyComes}
+use Rattle.mc_shelf.proofs.Common.{◌≡◌, EntryState, get, IndexState, items_of, KeyComes, None, subst, sym}
 use Rattle.mc_shelf.proofs.KeyMapLemmas.{no_item_entry}
 use Rattle.mc_shelf.proofs.IndexLemmas.{came, came_keyed, key_at}
 use Rattle.mc_shelf.proofs.DeathLemmas.{sooner_insert}

@@ -1,5 +1,5 @@
-use Rattle.std.proofs.Common.{◌≡◌, rules, nat_eq, true}
-use Rattle.mc_grow.specs.Indexes.{count}
+use Rattle.mc_shelf.proofs.Common.{◌≡◌, count, rules, true}
+use Rattle.std.proofs.Common.{nat_eq}
 use Rattle.mc_shelf.proofs.DeathLemmas.{no_hashes, no_items}
 use Rattle.mc_shelf.proofs.index.EntryIndex.is_empty.Goals as goal
 

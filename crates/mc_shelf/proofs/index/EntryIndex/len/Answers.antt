@@ -1,5 +1,4 @@
-use Rattle.std.proofs.Common.{◌≡◌, sym, subst}
-use Rattle.mc_shelf.proofs.Common.{entries_of, EntryState, IndexState, items_of, len}
+use Rattle.mc_shelf.proofs.Common.{◌≡◌, entries_of, EntryState, IndexState, items_of, len, subst, sym}
 use Rattle.mc_shelf.proofs.LenLemmas.{len_items}
 use Rattle.mc_shelf.proofs.index.EntryIndex.len.Goals as goal
 

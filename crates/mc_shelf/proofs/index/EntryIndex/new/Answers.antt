@@ -1,5 +1,4 @@
-use Rattle.std.proofs.Common.{ap, ◌∙◌, subst, sym}
-use Rattle.mc_shelf.specs.KeyMaps.{EntriesAreKeyed, hashes_in, items_in}
+use Rattle.mc_shelf.proofs.Common.{◌∙◌, ap, EntriesAreKeyed, hashes_in, items_in, subst, sym}
 use Rattle.mc_shelf.proofs.KeyMapLemmas.{hashes-empty, items-empty, keyed-empty}
 use Rattle.mc_shelf.proofs.IndexLemmas.{new_empty}
 use Rattle.mc_shelf.proofs.DeathLemmas.{sooner_none}

@@ -1,5 +1,4 @@
-use Rattle.std.proofs.Common.{◌≡◌, Some, subst}
-use Rattle.mc_shelf.proofs.Common.{EntryState, get, IndexState, items_of, KeyGoes}
+use Rattle.mc_shelf.proofs.Common.{◌≡◌, EntryState, get, IndexState, items_of, KeyGoes, Some, subst}
 use Rattle.mc_shelf.proofs.IndexLemmas.{gone, gone_item, gone_keyed}
 use Rattle.mc_shelf.proofs.DeathLemmas.{sooner_remove}
 use Rattle.mc_shelf.proofs.index.EntryIndex.remove.Goals as goal

@@ -1,5 +1,4 @@
-use Rattle.std.proofs.Common.{◌≡◌, Some, refl, sym, subst, rules}
-use Rattle.mc_shelf.proofs.Common.{entry_at, EntryState, IndexState, IsKeyAt}
+use Rattle.mc_shelf.proofs.Common.{◌≡◌, entry_at, EntryState, IndexState, IsKeyAt, refl, rules, Some, subst, sym}
 use Rattle.mc_shelf.proofs.DeathLemmas.{sooner_changed}
 use Rattle.mc_shelf.proofs.IndexLemmas.{updated}
 use Rattle.mc_shelf.proofs.index.EntryIndex.set_expiry.Goals as goal

@@ -1,6 +1,4 @@
-use Rattle.std.proofs.Common.{◌≡◌, List, ℕ, refl, rules, subst}
-use Rattle.mc_shelf.proofs.Common.{Entry}
-use Rattle.mc_shelf.specs.Plans.{drafted, made_block}
+use Rattle.mc_shelf.proofs.Common.{◌≡◌, drafted, Entry, List, made_block, refl, rules, subst, ℕ}
 use Rattle.mc_shelf.proofs.IndexLemmas.{rewritten}
 use Rattle.mc_shelf.proofs.index.EntryIndex.write_over.Goals as goal
 

@@ -1,5 +1,4 @@
-use Rattle.std.proofs.Common.{◌≡◌, ◌↔◌, Bool, true, false, rules, subst}
-use Rattle.mc_shelf.specs.Plans.{WantsDesk, wants_desk}
+use Rattle.mc_shelf.proofs.Common.{◌↔◌, ◌≡◌, Bool, false, rules, subst, true, wants_desk, WantsDesk}
 use Rattle.mc_shelf.proofs.DeskLemmas.{wanted_exactly}
 use Rattle.mc_shelf.proofs.plan.Plan.needs_desk.Goals as goal
 

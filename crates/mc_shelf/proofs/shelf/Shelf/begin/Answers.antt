@@ -1,12 +1,9 @@
-use Rattle.std.proofs.Common.{◌≡◌, List, ℕ, Some, None, sym, ap, subst, ◌∙◌}
-use Rattle.mc_shelf.proofs.Common.{DeskState, Entry, get, key_of, KeyStep, ShelfContent}
-use Rattle.mc_shelf.specs.Plans.{IsPut}
+use Rattle.mc_shelf.proofs.Common.{◌∙◌, ◌≡◌, Action, ap, DeskState, Entry, get, IsPut, key_of, KeyStep, List, None, ShelfContent, Some, StepTaken, subst, sym, ℕ}
 use Rattle.mc_shelf.proofs.ShelfLemmas.{others_same}
-use Rattle.mc_shelf.proofs.TakesLemmas.{discarded_is, expired_is, is_out, takes_answer, takes_discard, takes_expire}
-use Rattle.mc_shelf.specs.declared.plan.Action.{Action}
+use Rattle.mc_shelf.proofs.TakesLemmas.{discarded_is, expired_is, is_out, puts_at, takes_answer, takes_discard, takes_expire}
 use Rattle.mc_shelf.specs.declared.plan.Plan.{Plan}
 use Rattle.mc_shelf.specs.declared.begun.Begun.TheVariants.{Done}
-use Rattle.mc_shelf.specs.Plans.{StepTaken, told_next, written_next}
+use Rattle.mc_shelf.specs.Plans.{told_next, written_next}
 use Rattle.mc_shelf.proofs.shelf.Shelf.begin.Goals as goal
 
 -- of what comes next, that is what was taken
@@ -33,9 +30,7 @@ returns-in-Expire-clause-took c =
     let new = c.expire.new.self.content in
     let step = c.args.step.now in
     let next = sym c.in-Expire.is ∙ c.requires.plan.next in
-    let key = c.key.ensures in
-    let puts = λ (item : Entry) (found : get old.items (key_of step) ≡ Some item). subst (λ (k : List ℕ). IsPut k c.args.plan.now.hash old new (record item { expiry = c.in-Expire.expiry })) key
-    (c.expire.ensures.put item (ap (λ (k : List ℕ). get old.items k) key ∙ found)) in
+    let puts = puts_at c.args.plan.now.hash old new c.in-Expire.expiry c.key.ensures c.expire.ensures.put in
     let there = expired_is old step c.args.plan.now.moment c.in-Expire.expiry c.in-Expire.field-1 next in
     let put = puts there.0 there.1 in
     taken_as c.args.plan.now c.args.plan.now.next _ c.in-Expire.is step old c.args.desk.now new c.args.desk.now (record {
@@ -47,14 +42,13 @@ returns-in-Expire-clause-took c =
 
 pub returns-in-Discard-clause-took : goal.returns-in-Discard-clause-took
 returns-in-Discard-clause-took c =
+    let next = sym c.in-Discard.is ∙ c.requires.plan.next in
     let old = c.args.self.now.content in
     let new = c.discard.new.self.content in
-    let step = c.args.step.now in
-    let next = sym c.in-Discard.is ∙ c.requires.plan.next in
-    let there = discarded_is old step c.args.plan.now.moment c.in-Discard.field-0 next in
+    let there = discarded_is old c.args.step.now c.args.plan.now.moment c.in-Discard.field-0 next in
     let dropped = c.discard.ensures.dropped there.0 there.1 in
-    taken_as c.args.plan.now c.args.plan.now.next _ c.in-Discard.is step old c.args.desk.now new c.discard.new.desk (record {
-      takes = takes_discard step c.args.plan.now.moment old c.args.desk.now c.requires.plan.on_key c.in-Discard.field-0
+    taken_as c.args.plan.now c.args.plan.now.next _ c.in-Discard.is c.args.step.now old c.args.desk.now new c.discard.new.desk (record {
+      takes = takes_discard c.args.step.now c.args.plan.now.moment old c.args.desk.now c.requires.plan.on_key c.in-Discard.field-0
           c.args.plan.now.hash new c.discard.new.desk c.discard.ensures.dropped c.discard.ensures.given next;
       others = dropped.others;
       hash = dropped.hash;

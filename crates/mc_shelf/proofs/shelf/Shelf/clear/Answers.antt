@@ -1,9 +1,7 @@
-use Rattle.std.proofs.Common.{ap, ◌∙◌}
-use Rattle.mc_shelf.proofs.Common.{items_of}
+use Rattle.mc_shelf.proofs.Common.{◌∙◌, ap, counts_in, counts_of, items_of}
 use Rattle.mc_shelf.proofs.DeathLemmas.{sooner_none}
 use Rattle.mc_shelf.proofs.ShelfLemmas.{content_of}
 use Rattle.mc_shelf.proofs.SweepLemmas.{IsNone, below_removed, cleared, entry_gives, entry_out}
-use Rattle.mc_shelf.specs.Counts.{counts_in, counts_of}
 use Rattle.mc_shelf.proofs.CountLemmas.{drops_one}
 use Rattle.mc_shelf.proofs.LenLemmas.{one_less}
 use Rattle.mc_shelf.proofs.shelf.Shelf.clear.Goals as goal

@@ -1,7 +1,4 @@
-use Rattle.std.proofs.Common.{◌≡◌, ◌≤◌}
-use Rattle.mc_shelf.proofs.Common.{count_from, items_of}
-use Rattle.mc_shelf.specs.Sweeps.{GivesFor}
-use Rattle.mc_shelf.specs.Counts.{DropsAlone, counts_in, counts_of}
+use Rattle.mc_shelf.proofs.Common.{◌≡◌, ◌≤◌, count_from, counts_in, counts_of, DropsAlone, GivesFor, items_of}
 use Rattle.mc_shelf.proofs.SweepLemmas.{Below, IsNone}
 use Rattle.mc_shelf.proofs.shelf.Shelf.clear.Given as goal
 

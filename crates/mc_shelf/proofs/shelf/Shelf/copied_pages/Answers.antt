@@ -1,4 +1,4 @@
-use Rattle.std.proofs.Common.{sym, ◌∙◌}
+use Rattle.mc_shelf.proofs.Common.{◌∙◌, sym}
 use Rattle.mc_shelf.proofs.TakesLemmas.{drafts}
 use Rattle.mc_shelf.proofs.shelf.Shelf.copied_pages.Goals as goal
 

@@ -1,6 +1,4 @@
-use Rattle.std.proofs.Common.{◌%◌, ◌-◌, ◌^◌, ◌<◌, slice_index, sym, ap, subst, ◌∙◌}
-use Rattle.mc_shelf.specs.States.{ShelfState}
-use Rattle.mc_shelf.specs.Numbers.{KeysAreCounted, HasPlaces}
+use Rattle.mc_shelf.proofs.Common.{◌%◌, ◌-◌, ◌<◌, ◌^◌, ◌∙◌, ap, HasPlaces, KeysAreCounted, ShelfState, slice_index, subst, sym}
 use Rattle.mc_shelf.proofs.NumberLemmas.{all_counted, counts_fit, counts_next, counts_zero, none_counted, raised}
 use Rattle.mc_shelf.proofs.shelf.Shelf.count_numbers.Goals as goal
 

@@ -1,4 +1,4 @@
-use Rattle.mc_grow.specs.Indexes.{count_from}
+use Rattle.mc_shelf.proofs.Common.{count_from}
 use Rattle.mc_shelf.proofs.NumberLemmas.{Counting}
 use Rattle.mc_shelf.proofs.shelf.Shelf.count_numbers.Given as goal
 

@@ -1,5 +1,4 @@
-use Rattle.std.proofs.Common.{ap, ◌∙◌}
-use Rattle.mc_shelf.proofs.Common.{key_of, ShelfState}
+use Rattle.mc_shelf.proofs.Common.{◌∙◌, ap, key_of, ShelfState}
 use Rattle.mc_shelf.proofs.PlaceLemmas.{key_there}
 use Rattle.mc_shelf.proofs.ShelfLemmas.{removed_dropped}
 use Rattle.mc_shelf.proofs.shelf.Shelf.discard.Goals as goal

@@ -1,5 +1,4 @@
-use Rattle.std.proofs.Common.{ap, sym, subst, ◌∙◌}
-use Rattle.mc_shelf.proofs.Common.{Entry, Items, len, len-empty, ShelfState}
+use Rattle.mc_shelf.proofs.Common.{◌∙◌, ap, Entry, Items, len, len-empty, ShelfState, subst, sym}
 use Rattle.mc_shelf.specs.Counts.{AreReclaimed}
 use Rattle.mc_shelf.proofs.CountLemmas.{counted_before}
 use Rattle.mc_shelf.proofs.KeyLemmas.{order}

@@ -1,5 +1,4 @@
-use Rattle.std.proofs.Common.{arith, subst, sym}
-use Rattle.mc_shelf.specs.Parts.{IsShelfOf}
+use Rattle.mc_shelf.proofs.Common.{arith, IsShelfOf, subst, sym}
 use Rattle.mc_shelf.specs.Sweeps.{BeginsPurge}
 use Rattle.mc_shelf.specs.declared.purge.Purging.{Purging}
 use Rattle.mc_shelf.proofs.FlushLemmas.{goes_purged, part_out}

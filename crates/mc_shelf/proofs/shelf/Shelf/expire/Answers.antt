@@ -1,8 +1,6 @@
-use Rattle.std.proofs.Common.{ap, subst, ◌∙◌}
-use Rattle.mc_shelf.proofs.Common.{Entry, get, ItemIsChanged, ShelfState}
+use Rattle.mc_shelf.proofs.Common.{◌∙◌, ap, counts_in, counts_of, Entry, get, ItemIsChanged, KeepsTable, ShelfState, subst}
 use Rattle.mc_shelf.proofs.PlaceLemmas.{there_item}
 use Rattle.mc_shelf.proofs.ShelfLemmas.{changed_put}
-use Rattle.mc_shelf.specs.Counts.{KeepsTable, counts_in, counts_of}
 use Rattle.mc_shelf.proofs.CountLemmas.{changed_kept}
 use Rattle.mc_shelf.proofs.shelf.Shelf.expire.Goals as goal
 

@@ -1,8 +1,7 @@
-use Rattle.std.proofs.Common.{inl, inr, ap, ◌∙◌}
-use Rattle.mc_shelf.specs.States.{ShelfState}
+use Rattle.mc_shelf.proofs.Common.{◌∙◌, ap, inl, inr, ShelfState}
 use Rattle.mc_shelf.proofs.FlushLemmas.{is_flushed}
-use Rattle.mc_shelf.proofs.shelf.Shelf.flush.Goals as goal
 use Rattle.mc_shelf.proofs.shelf.Shelf.flush.Goals.{then-delay-eq0, else-delay-eq0}
+use Rattle.mc_shelf.proofs.shelf.Shelf.flush.Goals as goal
 
 pub returns-clause-shelf : goal.returns-clause-shelf
 returns-clause-shelf c =

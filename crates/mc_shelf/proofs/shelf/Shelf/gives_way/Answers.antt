@@ -1,6 +1,4 @@
-use Rattle.std.proofs.Common.{sym, ap, ◌∙◌}
-use Rattle.std.specs.FinMap.{get}
-use Rattle.mc_shelf.specs.declared.plan.Action.{Action}
+use Rattle.mc_shelf.proofs.Common.{◌∙◌, Action, ap, get, sym}
 use Rattle.mc_shelf.specs.Plans.{gives_way_to}
 use Rattle.mc_shelf.proofs.NeedLemmas.{small_stays}
 use Rattle.mc_shelf.proofs.TakesLemmas.{drafts}

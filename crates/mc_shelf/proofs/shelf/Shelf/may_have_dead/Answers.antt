@@ -1,6 +1,4 @@
-use Rattle.std.proofs.Common.{subst}
-use Rattle.mc_shelf.specs.States.{ShelfState}
-use Rattle.mc_shelf.specs.Deaths.{NoneIsDead}
+use Rattle.mc_shelf.proofs.Common.{NoneIsDead, ShelfState, subst}
 use Rattle.mc_shelf.proofs.FlushLemmas.{nothing_purged}
 use Rattle.mc_shelf.proofs.shelf.Shelf.may_have_dead.Goals as goal
 

@@ -1,6 +1,4 @@
-use Rattle.std.proofs.Common.{◌≡◌, ℕ, sym, ap, subst, arith, ◌∙◌}
-use Rattle.mc_shelf.proofs.Common.{IfSome_then, NeedState, pages_wanted, WantsPages}
-use Rattle.mc_shelf.specs.Plans.{back_at}
+use Rattle.mc_shelf.proofs.Common.{◌∙◌, ◌≡◌, ap, arith, back_at, IfSome_then, NeedState, pages_wanted, subst, sym, WantsPages, ℕ}
 use Rattle.mc_shelf.proofs.TakesLemmas.{drafts}
 use Rattle.mc_shelf.proofs.shelf.Shelf.page_wanted.Goals as goal
 

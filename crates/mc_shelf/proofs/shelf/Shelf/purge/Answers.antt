@@ -1,6 +1,4 @@
-use Rattle.std.proofs.Common.{sym, subst, ◌∙◌}
-use Rattle.mc_shelf.proofs.Common.{EntryState, IndexState, ShelfState}
-use Rattle.mc_shelf.specs.Sweeps.{IsPurged}
+use Rattle.mc_shelf.proofs.Common.{◌∙◌, EntryState, IndexState, IsPurged, ShelfState, subst, sym}
 use Rattle.mc_shelf.proofs.ShelfLemmas.{content_of}
 use Rattle.mc_shelf.proofs.SweepLemmas.{entry_gives, entry_out, purged, swept_all, swept_gone, swept_none, swept_on}
 use Rattle.mc_shelf.proofs.shelf.Shelf.purge.Goals as goal

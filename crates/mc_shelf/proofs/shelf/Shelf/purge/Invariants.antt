@@ -1,6 +1,4 @@
-use Rattle.std.proofs.Common.{◌≡◌}
-use Rattle.mc_shelf.proofs.Common.{count_from, items_of}
-use Rattle.mc_shelf.specs.Sweeps.{GivesFor}
+use Rattle.mc_shelf.proofs.Common.{◌≡◌, count_from, GivesFor, items_of}
 use Rattle.mc_shelf.proofs.SweepLemmas.{IsSwept}
 use Rattle.mc_shelf.proofs.shelf.Shelf.purge.Given as goal
 

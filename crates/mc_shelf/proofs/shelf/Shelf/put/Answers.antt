@@ -1,8 +1,6 @@
-use Rattle.std.proofs.Common.{◌≡◌, List, ℕ, Some, None, length, arith, refl, ap, sym, subst, ◌∙◌}
-use Rattle.mc_shelf.proofs.Common.{block_need, block_of, Body, charge, ChunksState, Draft, Entry, EntryState, get, ItemIsChanged, items_of, key_of, KeyStep}
-use Rattle.mc_shelf.proofs.Common.{Given, need_for, none-some, ShelfContent, ShelfState}
+use Rattle.mc_shelf.proofs.Common.{◌∙◌, ◌≡◌, ap, arith, block_beside, block_need, block_of, Body, charge, ChunksState, counts, Draft, drafted, Entry, EntryState, get, Given, GoesOver, IsPut}
+use Rattle.mc_shelf.proofs.Common.{ItemIsChanged, items_of, key_of, KeyStep, length, List, need_for, None, none-some, refl, ShelfContent, ShelfState, Some, subst, sym, with_item, ℕ}
 use Rattle.mc_shelf.specs.declared.write.Write.{Write as Writing}
-use Rattle.mc_shelf.specs.Plans.{GoesOver, IsPut, block_beside, counts, drafted, with_item}
 use Rattle.mc_shelf.proofs.ShelfLemmas.{changed_put, content_of, put_again, put_new}
 use Rattle.mc_shelf.proofs.shelf.Shelf.put.Goals as goal
 

@@ -1,20 +1,15 @@
-use Rattle.std.proofs.Common.{rules, ◌≡◌, List, ℕ, None, true, false, is_some, Some, sym, ap, subst, ◌∙◌}
-use Rattle.mc_shelf.proofs.Common.{Entry, get, key_of}
-use Rattle.mc_shelf.specs.Plans.{IsPut}
+use Rattle.mc_shelf.proofs.Common.{◌∙◌, ◌≡◌, ap, Entry, false, get, is_some, IsPut, key_of, List, None, rules, Some, subst, sym, true, ℕ}
 use Rattle.mc_shelf.proofs.HitLemmas.{settled_expiring, settled_miss, settled_plain}
+use Rattle.mc_shelf.proofs.TakesLemmas.{puts_at}
 use Rattle.mc_shelf.proofs.shelf.Shelf.settle_read.Goals as goal
 
 pub returns-in-Some : goal.returns-in-Some
 returns-in-Some c =
     let old = c.args.self.now.content in
     let new = c.expire.new.self.content in
-    let step = c.args.step.now in
-    let key = c.key.ensures in
     let found : is_some c.args.place ≡ true = search rules in
-    settled_expiring step c.args.now c.args.hash old c.args.place c.requires.read c.requires.known c.requires.alive
-    c.in-Some.expiry new (sym c.read_expiry.ensures ∙ c.in-Some.is) found
-    (λ (item : Entry) (there : get old.items (key_of step) ≡ Some item). subst (λ (k : List ℕ). IsPut k c.args.hash old new (record item { expiry = c.in-Some.expiry })) key
-    (c.expire.ensures.put item (ap (λ (k : List ℕ). get old.items k) key ∙ there)))
+    settled_expiring c.args.step.now c.args.now c.args.hash old c.args.place c.requires.read c.requires.known c.requires.alive
+    c.in-Some.expiry new (sym c.read_expiry.ensures ∙ c.in-Some.is) found (puts_at c.args.hash old new c.in-Some.expiry c.key.ensures c.expire.ensures.put)
 
 pub returns-in_default : goal.returns-in_default
 returns-in_default c =

@@ -1,7 +1,5 @@
-use Rattle.std.proofs.Common.{◌≡◌, ℕ, List, Err, Result, rules, sym, subst, ◌∙◌}
-use Rattle.mc_shelf.proofs.Common.{key_of, Reply, ShelfContent, StepFault}
-use Rattle.mc_protocol.specs.declared.step.StepFault.TheVariants.{NoMemory, NumbersSpent}
-use Rattle.mc_shelf.specs.Plans.{CanWrite, IsSpent, StepTaken, NeedsPages}
+use Rattle.mc_shelf.proofs.Common.{◌∙◌, ◌≡◌, CanWrite, Err, IsSpent, key_of, List, NeedsPages, NumbersSpent, Reply, Result, rules, ShelfContent, StepFault, StepTaken, subst, sym, ℕ}
+use Rattle.mc_protocol.specs.declared.step.StepFault.TheVariants.{NoMemory}
 use Rattle.mc_shelf.proofs.TakesLemmas.{is_spent}
 use Rattle.mc_shelf.proofs.RefusalLemmas.{can_wants, needs_can, spent_told, taken_not_spent, wants_not_spent, writes_some}
 use Rattle.mc_shelf.proofs.shelf.Shelf.step.Goals as goal

@@ -1,5 +1,4 @@
-use Rattle.std.proofs.Common.{arith, sym, subst, ◌∙◌}
-use Rattle.mc_shelf.proofs.Common.{EntryState, IndexState, items_of}
+use Rattle.mc_shelf.proofs.Common.{◌∙◌, arith, EntryState, IndexState, items_of, subst, sym}
 use Rattle.mc_shelf.specs.Sweeps.{TakesDead}
 use Rattle.mc_shelf.proofs.LenLemmas.{one_less}
 use Rattle.mc_shelf.proofs.ShelfLemmas.{content_of}

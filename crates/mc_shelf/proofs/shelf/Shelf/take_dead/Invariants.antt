@@ -1,6 +1,4 @@
-use Rattle.std.proofs.Common.{◌≡◌, ℕ, ◌+◌, ◌≤◌, vec_len, vec_capacity}
-use Rattle.mc_shelf.proofs.Common.{count_from, count_of, items_of, len}
-use Rattle.mc_shelf.specs.Sweeps.{count_among}
+use Rattle.mc_shelf.proofs.Common.{◌+◌, ◌≡◌, ◌≤◌, count_among, count_from, count_of, items_of, len, vec_capacity, vec_len, ℕ}
 use Rattle.mc_shelf.proofs.SweepLemmas.{IsSwept}
 use Rattle.mc_shelf.proofs.shelf.Shelf.take_dead.Given as goal
 

@@ -1,12 +1,12 @@
-use Rattle.std.proofs.Common.{inr, ◌<◌, ◌≡◌, ◌-◌, ◌^◌, ◌≤◌, List, ℕ, Option, None, true, arith, rules, length, refl, sym, ap, subst, ◌∙◌}
-use Rattle.mc_shelf.proofs.Common.{AreChunksOf, charge, ChunksState, DeskState, Draft, Entry, given, has_room_with, IsNeed, IsSlab, key_of, KeyStep, made_ready, need_for, NeedState, none-some}
-use Rattle.mc_shelf.proofs.Common.{out_of, ShelfContent, ShelfState, size_in, SlabState, taken, write_reply}
+use Rattle.mc_shelf.proofs.Common.{◌-◌, ◌<◌, ◌^◌, ◌∙◌, ◌≡◌, ◌≤◌, ap, AreChunksOf, arith, back_at, block_beside, charge, ChunksState, DeskState, Draft, drafted, Entry, given, GivesBack}
+use Rattle.mc_shelf.proofs.Common.{has_room_with, inr, IsNeed, IsOut, IsPut, IsSlab, IsWriteOf, key_of, KeyStep, length, List, made_ready, need_for, NeedState, None, none-some, Option}
+use Rattle.mc_shelf.proofs.Common.{out_of, refl, rules, ShelfContent, ShelfState, size_in, SlabState, StepTaken, subst, sym, taken, true, with_item, write_reply, ℕ}
 use Rattle.mc_shelf.specs.declared.write.Write.{Write as Writing}
-use Rattle.mc_shelf.specs.Plans.{CanWriteBlock, GivesBack, GoesInto, IsOut, IsPut, IsWriteOf, StepTaken, Suits, back_at, block_beside, drafted, drawn, left_of, with_item, written}
+use Rattle.mc_shelf.specs.Plans.{CanWriteBlock, GoesInto, Suits, drawn, left_of, written}
 use Rattle.mc_shelf.proofs.NeedLemmas.{chunks_size}
 use Rattle.mc_shelf.proofs.ShelfLemmas.{known_sought, put_over}
-use Rattle.mc_shelf.proofs.TakesLemmas.{Writes, charge_beside, drafts, gave_way, is_out, is_out_taken, item_over, may_go, put_after_drop, reuses_none, room_by}
-use Rattle.mc_shelf.proofs.TakesLemmas.{takes_anew, takes_full, takes_over, takes_way, way_is, way_out, writes_so}
+use Rattle.mc_shelf.proofs.TakesLemmas.{Writes, charge_beside, drafts, gave_way, is_out, is_out_taken, item_over, may_go, put_after_drop, reuses_none, room_by, takes_anew, takes_full}
+use Rattle.mc_shelf.proofs.TakesLemmas.{takes_over, takes_way, way_is, way_out, writes_so}
 use Rattle.mc_shelf.proofs.shelf.Shelf.write.Goals as goal
 
 pub need_for-need-requires : goal.need_for-need-requires
@@ -31,10 +31,10 @@ over {write} {step} {shelf} {desk = desk} {unique = unique} is need_is is_need i
 can_write : {write : Writing} {step : KeyStep} {shelf : ShelfState} {desk : DeskState} {need : NeedState} {slab : SlabState} → IsWriteOf write shelf.content step
     → Writes step write.moment shelf.content desk write.charge write.draft need → GoesInto write step shelf.content need slab
     → CanWriteBlock write None step shelf
-can_write {write} {step} {shelf} is w into = record {
+can_write {write} {step} {shelf} {slab = slab} is w into = record {
   short = is.short;
   sought = known_sought _ (key_of step) write.hash write.place is.known;
-  ready = (may_go w into.over, item_over w shelf refl into.has);
+  ready = (may_go w slab into.over, item_over w shelf refl into.has);
 }
 
 pub write_block-none-requires : goal.write_block-none-requires

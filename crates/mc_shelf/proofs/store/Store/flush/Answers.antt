@@ -1,7 +1,4 @@
-use Rattle.std.proofs.Common.{List, refl, sym, ap, subst, ◌∙◌}
-use Rattle.mc_shelf.proofs.Common.{Answered, Flushed, ShelfState}
-use Rattle.mc_shelf.specs.Parts.{ArePartsOf}
-use Rattle.mc_shelf.specs.Unions.{plain_of}
+use Rattle.mc_shelf.proofs.Common.{◌∙◌, Answered, ap, ArePartsOf, Flushed, List, plain_of, refl, ShelfState, subst, sym}
 use Rattle.mc_shelf.proofs.PartLemmas.{are_kept, plain_is}
 use Rattle.mc_shelf.proofs.FlushLemmas.{flushed_back, flushed_greatest, flushed_limit}
 use Rattle.mc_shelf.proofs.LeftLemmas.{rises_back}

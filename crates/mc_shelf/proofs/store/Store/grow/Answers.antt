@@ -1,4 +1,4 @@
-use Rattle.std.proofs.Common.{refl}
+use Rattle.mc_shelf.proofs.Common.{refl}
 use Rattle.mc_shelf.proofs.StoreLemmas.{shelf_here, goes_nowhere, kept_after, plain_after, left_after}
 use Rattle.mc_shelf.proofs.store.Store.grow.Goals as goal
 

@@ -1,4 +1,4 @@
-use Rattle.std.proofs.Common.{lt-ltb}
+use Rattle.mc_shelf.proofs.Common.{lt-ltb}
 use Rattle.mc_shelf.proofs.LeftLemmas.{falls_at}
 use Rattle.mc_shelf.proofs.StoreLemmas.{shelf_here, kept_after, plain_after}
 use Rattle.mc_shelf.proofs.store.Store.purge.Goals as goal

@@ -1,4 +1,4 @@
-use Rattle.std.proofs.Common.{refl}
+use Rattle.mc_shelf.proofs.Common.{refl}
 use Rattle.mc_shelf.proofs.PartLemmas.{are_kept, plain_is}
 use Rattle.mc_shelf.proofs.RangeLemmas.{some_shelf, divides_numbers}
 use Rattle.mc_shelf.proofs.StoreLemmas.{new_parts}
