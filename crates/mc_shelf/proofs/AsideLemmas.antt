@@ -69,9 +69,6 @@ none_last all rest last all_is none class =
 -- ---- a slab as it is seen
 
 module _ {slab : SlabState} {out : List ℕ} {shelves : List ShelfState} (lie : LieAside slab out shelves) where
-  pub seen_within : (class : ℕ) → IsClass class → out_of (seen slab out) class ≤ out_of slab class
-  seen_within class is = omega (arith, lie.account class is)
-
   pub seen_is_slab : IsSlab (seen slab out)
   seen_is_slab = record {
     pages = lie.is_slab.pages;
@@ -127,7 +124,7 @@ module _ {slab : SlabState} {out : List ℕ} {shelves : List ShelfState} (lie : 
   shown = seen slab out
 
   more_unused : unused slab need.class ≤ unused shown need.class
-  more_unused = omega (arith, seen_within lie need.class is_class)
+  more_unused = omega (arith, lie.account need.class is_class)
 
   same_unused : out_of slab need.class ≡ out_of shown need.class → unused slab need.class ≡ unused shown need.class
   same_unused same = ap (λ n. slabs.chunks_of slab need.class - n) same

@@ -45,9 +45,6 @@ module _ (old new : IndexState EntryState) (n : ℕ) (are : AreMoved hash_in key
       let before = added_strays are.moved.added in
       omega (arith, before, same, are.moved.many)
 
-  moved_strays : length new.strays ≤ length old.strays + n
-  moved_strays = moved_strays_by (left new) refl
-
 module _ (old new : IndexState EntryState) (once : len (items_of old) ≡ count old) where
   loaded : nat_lt (3 * 2 ^ old.k) (4 * (count old + 1)) ≡ true → IsLoaded (counts_in old)
   loaded e = omega (arith, ltb-true (3 * 2 ^ old.k) (4 * (count old + 1)) e, once)
@@ -67,7 +64,7 @@ module _ (old new : IndexState EntryState) (once : len (items_of old) ≡ count 
         none_left = λ e. absurd (true≢false (sym load.0 ∙ e));
         rests = λ e. absurd (true≢false (sym load.0 ∙ e));
         over = λ over. let none : left new ≤ 0 = ltb-false 0 (left new) (sym are.growing ∙ over) in omega (arith, none);
-        strays = let more = moved_strays old new moved are load.0 in omega (arith, more, is);
+        strays = let more = moved_strays_by old new moved are load.0 (left new) refl in omega (arith, more, is);
       }
 
 -- where no growth lags
@@ -99,9 +96,6 @@ due_by_load false true true stray many e = (refl, inl refl)
 due_by_load false true false true false e = (refl, inr (refl, refl))
 due_by_load growing few more stray many e = absurd (true≢false (sym e))
 
-table_within : (index : IndexState EntryState) → filled index.table ≤ count index
-table_within index = omega (arith, count_parts index.draining index.table index.strays)
-
 doubled : (k : ℕ) → 2 ^ (k + 1) ≡ 2 * 2 ^ k
 doubled k = omega (arith, pow_more 2 k)
 
@@ -132,7 +126,7 @@ module _ (old : ShelfCounts) (mid new : IndexState EntryState) (caught : CaughtU
   begins_so e is =
       let was = was_due e in
       let before = due_before was.0 was.1 in
-      let fewer : filled mid.table ≤ count mid = table_within mid in
+      let fewer : filled mid.table ≤ count mid = omega (arith, count_parts mid.draining mid.table mid.strays) in
       let rest : left new ≡ filled mid.table = ap (λ (s : IndexState EntryState). left s) is in
       record {
         due = before.0;

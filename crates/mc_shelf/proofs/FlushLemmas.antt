@@ -135,9 +135,6 @@ below_next n at = elim (cases_order n at) [
   | inr (inr above) ↦ le-ltb n (at + 1) (omega (arith, above)) ∙ sym (or_from (ltb n at) (eqb n at) (le-ltb n at (omega (arith, above))) (ne_eqb n at (λ same. omega (arith, same, above))))
 ]
 
-below_not_here : (n at : ℕ) → eqb n at ≡ true → ltb n at ≡ false
-below_not_here n at same = le-ltb n at (omega (arith, eqb-true n at same))
-
 -- an item of the shelf at a place, and one of a shelf below it, are items of the shelves below the next place
 module _ (o : Option Entry) where
   is_own : (own below next : Bool) → next ≡ below || own → cond own o None ≡ cond own (cond next o None) None
@@ -227,7 +224,7 @@ module _ (hash_of : List ℕ → ℕ) (count delay now : ℕ) (state : Plain) wh
       ∙ ap (λ o. cond (eqb (place q) at) o None) (sym (get_kept s.items (λ q. ltb (place q) (at + 1)) q)))
       (λ q.
       get_kept s.items (λ q. ltb (place q) at) q
-      ∙ is_below (get s.items q) (eqb (place q) at) (ltb (place q) at) (ltb (place q) (at + 1)) (below_next (place q) at) (below_not_here (place q) at)
+      ∙ is_below (get s.items q) (eqb (place q) at) (ltb (place q) at) (ltb (place q) (at + 1)) (below_next (place q) at) (λ same. le-ltb (place q) at (omega (arith, eqb-true (place q) at same)))
       ∙ ap (λ o. cond (not (eqb (place q) at)) o None) (sym (get_kept s.items (λ q. ltb (place q) (at + 1)) q)))
 
   -- the items of all shelves have the chunks of all items

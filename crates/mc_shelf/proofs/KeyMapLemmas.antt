@@ -23,25 +23,13 @@ module _ (m : EntryMap) (keyed : EntriesAreKeyed m) where
   pub hash_held : (key : List ℕ) (hash : ℕ) → get (hashes_in m) key ≡ Some hash → Held (λ e. e.hash) m key hash
   hash_held = held (λ e. e.hash) m keyed
 
-  -- a key has no item, and no hash, exactly where no entry has it
-  pub no_item : (key : List ℕ) → ((hash : ℕ) → get m (hash ∷ key) ≡ None) → get (items_in m) key ≡ None
-  no_item = no_part (λ e. e.item) m keyed
-
+  -- a key that has no item has no entry
   pub no_item_entry : (key : List ℕ) → get (items_in m) key ≡ None → (hash : ℕ) → get m (hash ∷ key) ≡ None
   no_item_entry = no_entry (λ e. e.item) m keyed
 
-  pub no_hash : (key : List ℕ) → ((hash : ℕ) → get m (hash ∷ key) ≡ None) → get (hashes_in m) key ≡ None
-  no_hash = no_part (λ e. e.hash) m keyed
-
-  pub no_hash_entry : (key : List ℕ) → get (hashes_in m) key ≡ None → (hash : ℕ) → get m (hash ∷ key) ≡ None
-  no_hash_entry = no_entry (λ e. e.hash) m keyed
-
   -- items and hashes have the same keys
   pub hash_absent : (key : List ℕ) → get (items_in m) key ≡ None → get (hashes_in m) key ≡ None
-  hash_absent key none = no_hash key (no_item_entry key none)
-
-  pub item_absent : (key : List ℕ) → get (hashes_in m) key ≡ None → get (items_in m) key ≡ None
-  item_absent key none = no_item key (no_hash_entry key none)
+  hash_absent key none = no_part (λ e. e.hash) m keyed key (no_item_entry key none)
 
   -- the hash of an entry that was found is its key's
   pub found_hash : (hash : ℕ) (key : List ℕ) (e : EntryState) → get m (hash ∷ key) ≡ Some e → IsHashOf m key hash
@@ -50,9 +38,9 @@ module _ (m : EntryMap) (keyed : EntriesAreKeyed m) where
 
   -- a search with the key's hash that finds no entry says that the key has no item
   pub not_found : (hash : ℕ) (key : List ℕ) → IsHashOf m key hash → get m (hash ∷ key) ≡ None → get (items_in m) key ≡ None
-  not_found hash key right none = item_absent key (none_by _ (λ stored is.
+  not_found hash key right none = no_part (λ e. e.item) m keyed key (no_entry (λ e. e.hash) m keyed key (none_by _ (λ stored is.
       let s = hash_held key stored is in
-      none-some s.entry (sym none ∙ ap (λ n. get m (n ∷ key)) (sym (s.same_part ∙ right stored is)) ∙ s.there)))
+      none-some s.entry (sym none ∙ ap (λ n. get m (n ∷ key)) (sym (s.same_part ∙ right stored is)) ∙ s.there))))
 
 -- ---- a change of one entry
 

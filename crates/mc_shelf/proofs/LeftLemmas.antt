@@ -1,5 +1,5 @@
 -- How many entries each shelf of a store has left to move, after a change of one shelf or of all.
-use Rattle.mc_shelf.proofs.Common.{⊎_elim, ◌++◌, ◌<◌, ◌∙◌, ◌≡◌, ◌≢◌, ◌≤◌, ap, arith, cases_eq, drop, FewMoveAt, get_or-set_other, get_or-set_same, get_or_from_slice_get, inl, inr, IsOnKey}
+use Rattle.mc_shelf.proofs.Common.{⊎_elim, ◌++◌, ◌<◌, ◌∙◌, ◌≡◌, ◌≤◌, ap, arith, cases_eq, drop, FewMoveAt, get_or-set_other, get_or-set_same, get_or_from_slice_get, inl, inr, IsOnKey}
 use Rattle.mc_shelf.proofs.Common.{KeyStep, lefts, length, length-map, List, map-set, MovesFew, NoneRises, option_map, ShelfCounts, ShelfState, slice_get-map, slice_get_within, slice_index}
 use Rattle.mc_shelf.proofs.Common.{slice_set, Some, subst, sym, take, take-append_seam, ℕ}
 use Rattle.std.proofs.Common.{slice_get}
@@ -38,19 +38,13 @@ module _ (list : List ShelfState) (at : ℕ) {shelf : ShelfState} (shelf' : Shel
   pub falls_at : shelf'.left ≤ shelf.left → FallsAt at (lefts list) (lefts (slice_set list at shelf'))
   falls_at less = (others, omega (arith, was, is, less))
 
-  falls_elsewhere : (k : ℕ) → k ≢ at → slice_index (lefts (slice_set list at shelf')) k ≡ slice_index (lefts list) k
-  falls_elsewhere k other = ap (λ (l : List ℕ). slice_index l k) changed ∙ get_or-set_other (lefts list) at k shelf'.left 0 other
-
   pub falls : shelf'.left ≤ shelf.left → NoneRises (lefts list) (lefts (slice_set list at shelf'))
   falls less k =
       ⊎_elim (λ same. let here_is : slice_index (lefts (slice_set list at shelf')) k ≡ shelf'.left = ap (slice_index (lefts (slice_set list at shelf'))) same ∙ is in
       let here_was : slice_index (lefts list) k ≡ shelf.left = ap (slice_index (lefts list)) same ∙ was in omega (arith, here_is, here_was, less))
-      (λ other. let same = falls_elsewhere k other in omega (arith, same)) (cases_eq k at)
+      (λ other. let same = ap (λ (l : List ℕ). slice_index l k) changed ∙ get_or-set_other (lefts list) at k shelf'.left 0 other in omega (arith, same)) (cases_eq k at)
 
 -- shelves in turn
-pub rises_none : (list : List ShelfState) → NoneRises (lefts list) (lefts list)
-rises_none list k = omega arith
-
 pub rises_never : (first list : List ShelfState) (at : ℕ) {shelf : ShelfState} (shelf' : ShelfState) → slice_get list at ≡ Some shelf → NoneRises (lefts first) (lefts list)
     → shelf'.left ≤ shelf.left → NoneRises (lefts first) (lefts (slice_set list at shelf'))
 rises_never first list at shelf' here none less k = let before = none k in let then = falls list at shelf' here less k in omega (arith, before, then)

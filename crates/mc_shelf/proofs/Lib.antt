@@ -1,9 +1,7 @@
 pub mod Common
-pub mod EntryLemmas
 pub mod NeedLemmas
 pub mod PartsLemmas
 pub mod IndexLemmas
-pub mod PlaceLemmas
 pub mod KeyLemmas
 pub mod ShelfLemmas
 pub mod StandLemmas

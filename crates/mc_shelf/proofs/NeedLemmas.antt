@@ -1,8 +1,7 @@
 -- What a charge needs.
-use Rattle.mc_shelf.proofs.Common.{◌&&◌, ◌*◌, ◌+◌, ◌-◌, ◌/◌, ◌<◌, ◌∙◌, ◌≡◌, ◌≤◌, ap, AreChunksOf, arith, cases_lt, ChunksState, class_holding, cond_both, dead_chunks, Entry, eq-eqb, eqb}
-use Rattle.mc_shelf.proofs.Common.{eqb-true, false, get_or, gives_way, has_need, inl, inr, is_gone, IsClass, item_need, le-leb, leb, leb-false, leb-true, length, length-chunk_sizes, List}
-use Rattle.mc_shelf.proofs.Common.{ltb, need_for, NeedState, None, not, of_class, Option, position_or_len, refl, same_need, size_in, size_of, size_of-last, Some, subst, sym, true}
-use Rattle.mc_shelf.proofs.Common.{true≢false, ℕ}
+use Rattle.mc_shelf.proofs.Common.{◌&&◌, ◌*◌, ◌+◌, ◌-◌, ◌/◌, ◌<◌, ◌∙◌, ◌≡◌, ◌≤◌, ap, arith, cases_lt, class_holding, cond_both, dead_chunks, Entry, eq-eqb, eqb, eqb-true, false, get_or}
+use Rattle.mc_shelf.proofs.Common.{gives_way, has_need, inl, inr, is_gone, IsClass, item_need, le-leb, leb, leb-false, leb-true, length, length-chunk_sizes, List, ltb, need_for, NeedState}
+use Rattle.mc_shelf.proofs.Common.{None, not, of_class, Option, position_or_len, refl, same_need, size_in, size_of, size_of-last, Some, subst, sym, true, true≢false, ℕ}
 use Rattle.std.proofs.lemmas.List.Sums.{fails_before_first, passes_at_first}
 use Rattle.mc_slab.specs.Classes.{chunk_sizes}
 
@@ -53,14 +52,11 @@ need_fits charge =
     let fits : charge ≤ pages * 1048576 = omega arith in
     subst (λ (k : ℕ). charge ≤ pages * k) (sym size_of-last) fits)
 
--- how long the chunks of a need are
-pub chunks_size : (need : NeedState) (chunks : ChunksState) → AreChunksOf need chunks → length chunks.bytes ≡ size_in need
-chunks_size need chunks are = are.are.size ∙ ap size_in are.need_is
+-- a charge fits the chunks of an item whose own charge needs the same
+pub same_need_fits : (need : NeedState) (own other : ℕ) → need ≡ need_for own → need_for own ≡ need_for other → other ≤ size_in need
+same_need_fits need own other serves same = subst (λ (n : NeedState). other ≤ size_in n) (sym (serves ∙ same)) (need_fits other)
 
 -- ---- small charges
-
-small_class : (charge : ℕ) → charge ≤ 493552 → class_holding charge ≤ 39
-small_class charge = holding_most charge 38 493552 last_but_one
 
 -- what needs chunks of a small charge's class needs the same
 small_same : (charge other : ℕ) → charge ≤ 493552 → (need_for other).class ≡ (need_for charge).class → need_for other ≡ need_for charge
@@ -68,7 +64,7 @@ small_same charge other small =
     by_charge (λ need. (need_for other).class ≡ need.class → need_for other ≡ need) charge
     (λ most. by_charge (λ need. need.class ≡ class_holding charge → need ≡ record { class = class_holding charge; count = 1 }) other
     (λ most same. λ i. record { class = same i; count = 1 })
-    (λ above same. let low = small_class charge small in absurd (omega (arith, same, low))))
+    (λ above same. let low = holding_most charge 38 493552 last_but_one small in absurd (omega (arith, same, low))))
     (λ above. absurd (omega (arith, small, above)))
 
 pub small_stays : (cut : Option ℕ) (now : ℕ) (key : List ℕ) (f : Option Entry) (charge : ℕ) → charge ≤ 493552 → gives_way cut now key f (need_for charge) ≡ false

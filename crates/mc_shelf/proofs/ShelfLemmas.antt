@@ -12,7 +12,8 @@ pub others_same : (key : List ℕ) (shelf : ShelfContent) → OtherKeysStay key 
 others_same key shelf = record { greatest = refl; cut = refl; items = λ other apart. refl; hashes = λ other apart. refl }
 
 module _ (key : List ℕ) (own : ℕ) (old : ShelfContent) where
-  put_there : (mid : ShelfContent) (item : Entry) → OtherKeysStay key old mid → IsHash mid key own → IsPut key own old (with_item None key own item mid) item
+  -- an item that was put over one of the key's
+  pub put_there : (mid : ShelfContent) (item : Entry) → OtherKeysStay key old mid → IsHash mid key own → IsPut key own old (with_item None key own item mid) item
   put_there mid item others hash = record {
     item = get_put mid.items key item;
     others = record {
@@ -23,10 +24,6 @@ module _ (key : List ℕ) (own : ℕ) (old : ShelfContent) where
     };
     hash = hash;
   }
-
-  -- an item that was put under the key, with another put over it
-  pub put_again : (mid : ShelfContent) (any item : Entry) → IsPut key own old mid any → IsPut key own old (with_item None key own item mid) item
-  put_again mid any item is = put_there mid item is.others is.hash
 
   -- an item in the place of the key's
   pub put_over : (item : Entry) → IsHash old key own → IsPut key own old (with_item None key own item old) item

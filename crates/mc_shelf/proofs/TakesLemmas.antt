@@ -1,11 +1,11 @@
 -- What a shelf and a desk make of a plan is what the plain machine makes of the step.
-use Rattle.mc_shelf.proofs.Common.{[], ◌&&◌, ◌*◌, ◌+◌, ◌-◌, ◌<◌, ◌==◌, ◌^◌, ◌||◌, ◌∙◌, ◌≡◌, ◌≢◌, ◌≤◌, Action, alive, and_parts, and_right, Answer, Answered, ap, Appended, arith, back_at}
-use Rattle.mc_shelf.proofs.Common.{block_beside, block_in, block_need, block_of, Body, Bool, CanStandAt, changed, charge, chunks_a_page, chunks_in, count-remove, count_of, Counted, counts}
-use Rattle.mc_shelf.proofs.Common.{dead_chunks, DeskState, Discard, Draft, drafted, empty, Entry, eqb, eqb-true, Expire, Expiry, false, get, Given, given, gives_way, GivesBack, GoesOver}
-use Rattle.mc_shelf.proofs.Common.{has_need, has_room, if◌then◌else◌, insert, is_gone, is_none, is_some, IsClass, IsDropped, IsHash, IsNeed, IsOnKey, IsOut, IsPut, IsSlab, IsSpent}
-use Rattle.mc_shelf.proofs.Common.{IsWriteOf, item_need, keeps_chunk, key_of, KeyStep, le-leb, leb-true, List, lt-ltb, made_block, made_ready, need_for, NeedState, next_of, NoChunk, None}
-use Rattle.mc_shelf.proofs.Common.{not, of_class, Option, or_right, out_of, Plain, plain, Prepended, refl, remove, Reply, row_at, same_need, same_Some, ShelfContent, ShelfState, SlabState}
-use Rattle.mc_shelf.proofs.Common.{Some, StandsAt, StepTaken, stood, subst, sym, taken, true, true≢false, with_chunk, Write, write_reply, written, written_block, wrote, ℕ}
+use Rattle.mc_shelf.proofs.Common.{[], ◌&&◌, ◌*◌, ◌+◌, ◌-◌, ◌<◌, ◌==◌, ◌^◌, ◌||◌, ◌∙◌, ◌≡◌, ◌≢◌, ◌≤◌, Action, alive, and_parts, and_right, Answer, Answered, ap, arith, back_at, block_beside}
+use Rattle.mc_shelf.proofs.Common.{block_in, block_need, block_of, Body, Bool, CanStandAt, changed, charge, chunks_a_page, chunks_in, count-remove, count_of, Counted, counts, dead_chunks}
+use Rattle.mc_shelf.proofs.Common.{DeskState, Discard, Draft, drafted, empty, Entry, eqb, eqb-true, Expire, Expiry, false, get, Given, given, gives_way, GivesBack, GoesOver, has_need}
+use Rattle.mc_shelf.proofs.Common.{has_room, if◌then◌else◌, insert, is_gone, is_none, is_some, IsClass, IsDropped, IsHash, IsNeed, IsOnKey, IsOut, IsPut, IsSlab, IsSpent, IsWriteOf}
+use Rattle.mc_shelf.proofs.Common.{item_need, keeps_chunk, key_of, KeyStep, le-leb, leb-true, List, lt-ltb, made_block, made_ready, need_for, NeedState, next_of, NoChunk, None, not}
+use Rattle.mc_shelf.proofs.Common.{of_class, Option, or_right, out_of, Plain, plain, Prepended, refl, remove, Reply, row_at, same_need, same_Some, ShelfContent, ShelfState, SlabState, Some}
+use Rattle.mc_shelf.proofs.Common.{StandsAt, StepTaken, stood, subst, sym, taken, true, true≢false, with_chunk, Write, write_reply, written, written_block, wrote, ℕ}
 use Rattle.std.proofs.Common.{decimal}
 use Rattle.mc_shelf.specs.declared.write.Write.{Write as Writing}
 use Rattle.mc_shelf.specs.Plans.{GivesChunks, GoesApart, LiesInNeed, TakesStepAtKey, readied, way_given}
@@ -311,9 +311,6 @@ module _ {step : KeyStep} {now : ℕ} {shelf : ShelfContent} {desk : DeskState} 
         need = there.2 ∙ need_charge ∙ ap (block_need its_key) (sym beside_is);
       }
 
-  pub block_given : draft.body ≡ Given → block_of step ≡ block_beside shelf step draft
-  block_given given = ap (λ (b : Body). made_block b (block_of step) (block_in its_found)) (sym given)
-
   -- the item that gives way, and the block that takes its place
   pub way_is : Reuses false → 0 < back → (old : Entry) × (its_found ≡ Some old) × ((item_need its_key old).class ≡ need.class)
       × ((item_need its_key old).count ≡ back) × (draft.body ≡ Given) × (gives_way shelf.cut now its_key its_found (need_for size) ≡ true)
@@ -348,7 +345,7 @@ module _ {step : KeyStep} {now : ℕ} {shelf : ShelfContent} {desk : DeskState} 
         gave_is,
         subst (λ (d : DeskState). need.count ≤ slabs.unused d.slab need.class) (sym gave_is)
             (ready_unused desk.slab need (subst (λ (n : NeedState). IsClass n.class) (sym w.need_is) (need_class size)) is back (way_out e more can)),
-        ap (λ (b : Body). made_block b (block_of step) (block_in (get mid.items its_key))) way.4 ∙ block_given way.4,
+        ap (λ (b : Body). made_block b (block_of step) (block_in (get mid.items its_key))) way.4 ∙ ap (λ (b : Body). made_block b (block_of step) (block_in its_found)) (sym way.4),
       )
 
   module _ (is_need : IsNeed need) (is : IsSlab desk.slab) (more : desk.next_unique < 2 ^ 64 - 1) where

@@ -1,13 +1,13 @@
 use Rattle.mc_shelf.proofs.Common.{arith}
 use Rattle.std.proofs.lemmas.Option.{slice_get-get_or}
 use Rattle.mc_shelf.proofs.FlushLemmas.{flushed_none, flushed_more, flushed_all, out_before}
-use Rattle.mc_shelf.proofs.LeftLemmas.{rises_none, rises_never}
+use Rattle.mc_shelf.proofs.LeftLemmas.{rises_never}
 use Rattle.mc_shelf.proofs.parts.flush_parts.Goals as goal
 
 pub loop-shelf-init : goal.loop-shelf-init
 loop-shelf-init c = record {
   parts = λ hash_of state count parts. flushed_none hash_of count c.args.delay c.args.now state parts;
-  left = rises_none c.args.shelves.now;
+  left = λ k. omega arith;
 }
 
 pub flush-requires : goal.flush-requires

@@ -1,7 +1,7 @@
-use Rattle.mc_shelf.proofs.Common.{◌-◌, ◌∙◌, ◌≡◌, ap, get_or, LieAside, Readies, seen, SlabState, subst, Suffices, ℕ}
+use Rattle.mc_shelf.proofs.Common.{◌-◌, ◌∙◌, ap, get_or, LieAside, Readies, seen, SlabState, subst, Suffices, ℕ}
 use Rattle.mc_shelf.proofs.AsideLemmas.{readied, seen_same}
-use Rattle.mc_shelf.proofs.collector.Collector.ready_with.Goals as goal
 use Rattle.mc_shelf.proofs.collector.Collector.ready_with.Goals.{After-ready_with}
+use Rattle.mc_shelf.proofs.collector.Collector.ready_with.Goals as goal
 
 both : (c : After-ready_with) → Readies c.args.need c.args.back (seen c.collect_for.new.slab c.self.inside.out) c.ready_with.result (seen c.ready_with.new.self c.self.inside.out)
     × LieAside c.ready_with.new.self c.self.inside.out c.collect_for.new.aside.shelves.items

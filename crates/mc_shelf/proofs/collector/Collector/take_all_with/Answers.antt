@@ -1,7 +1,7 @@
 use Rattle.mc_shelf.proofs.Common.{◌+◌, ◌-◌, ◌∙◌, ◌≡◌, ap, Err, get_or, LieAside, Ok, seen, set, SlabState, subst, Suffices, sym, Takes, ℕ}
 use Rattle.mc_shelf.proofs.AsideLemmas.{refused, seen_same, took}
-use Rattle.mc_shelf.proofs.collector.Collector.take_all_with.Goals as goal
 use Rattle.mc_shelf.proofs.collector.Collector.take_all_with.Goals.{After-collect_for}
+use Rattle.mc_shelf.proofs.collector.Collector.take_all_with.Goals as goal
 
 place : (c : After-collect_for) → c.place_of-place.result ≡ c.args.need.class - 1
 place c = c.place_of-place.ensures.value ∙ ap (λ (n : ℕ). n - 1) c.class.ensures.value

@@ -1,6 +1,6 @@
 use Rattle.mc_shelf.proofs.Common.{◌++◌, ◌≡◌, ◌≤◌, arith, charge, charge_of, EntryState, length-append, size_in, subst, sym}
 use Rattle.mc_item.specs.Items.{item_need}
-use Rattle.mc_shelf.proofs.EntryLemmas.{same_need_fits}
+use Rattle.mc_shelf.proofs.NeedLemmas.{same_need_fits}
 use Rattle.mc_protocol.specs.Plain as plain
 use Rattle.mc_shelf.proofs.entry.Entry.extend.Goals as goal
 

@@ -1,7 +1,7 @@
 use Rattle.mc_shelf.proofs.Common.{◌≡◌, CaughtUp, count, counts_in, EntryState, IndexState, items_of, len, subst, sym}
 use Rattle.mc_shelf.proofs.CountLemmas.{catches, reserved}
-use Rattle.mc_shelf.proofs.index.EntryIndex.reserve.Goals as goal
 use Rattle.mc_shelf.proofs.index.EntryIndex.reserve.Goals.{After-reserve}
+use Rattle.mc_shelf.proofs.index.EntryIndex.reserve.Goals as goal
 
 caught : (c : After-reserve) → CaughtUp (counts_in c.args.self.now) (counts_in c.self.inside.entries)
 caught c = subst (λ (s : IndexState EntryState). CaughtUp (counts_in c.args.self.now) (counts_in s)) (sym c.self.view_is) c.catch_up.ensures.moves

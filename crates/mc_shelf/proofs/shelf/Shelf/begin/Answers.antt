@@ -1,4 +1,4 @@
-use Rattle.mc_shelf.proofs.Common.{◌∙◌, ◌≡◌, Action, ap, DeskState, Entry, get, IsPut, key_of, KeyStep, List, None, ShelfContent, Some, StepTaken, subst, sym, ℕ}
+use Rattle.mc_shelf.proofs.Common.{◌∙◌, ◌≡◌, Action, DeskState, key_of, KeyStep, None, ShelfContent, StepTaken, subst, sym}
 use Rattle.mc_shelf.proofs.ShelfLemmas.{others_same}
 use Rattle.mc_shelf.proofs.TakesLemmas.{discarded_is, expired_is, is_out, puts_at, takes_answer, takes_discard, takes_expire}
 use Rattle.mc_shelf.specs.declared.plan.Plan.{Plan}

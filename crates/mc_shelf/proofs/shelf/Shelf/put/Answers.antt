@@ -1,7 +1,7 @@
 use Rattle.mc_shelf.proofs.Common.{◌∙◌, ◌≡◌, ap, arith, block_beside, block_need, block_of, Body, charge, ChunksState, counts, Draft, drafted, Entry, EntryState, get, Given, GoesOver, IsPut}
 use Rattle.mc_shelf.proofs.Common.{ItemIsChanged, items_of, key_of, KeyStep, length, List, need_for, None, none-some, refl, ShelfContent, ShelfState, Some, subst, sym, with_item, ℕ}
 use Rattle.mc_shelf.specs.declared.write.Write.{Write as Writing}
-use Rattle.mc_shelf.proofs.ShelfLemmas.{changed_put, content_of, put_again, put_new}
+use Rattle.mc_shelf.proofs.ShelfLemmas.{changed_put, content_of, put_new, put_there}
 use Rattle.mc_shelf.proofs.shelf.Shelf.put.Goals as goal
 
 -- an item that came under its key with the number that was drawn
@@ -37,7 +37,7 @@ returns-then-leaves_block-clause-put c =
     let item = drafted write.draft (block_beside mid step write.draft) c.draw-unique.result write.moment in
     subst (λ (e : Entry). IsPut (key_of step) write.hash old (with_item None (key_of step) write.hash item mid) e)
     (λ i. drafted write.draft (same i) (c.draw-unique.ensures.number i) write.moment)
-    (put_again (key_of step) write.hash old mid c.head_of-entry.result.item item (head_put c))
+    (put_there (key_of step) write.hash old mid item (head_put c).others (head_put c).hash)
 
 pub returns-then-leaves_block-clause-left : goal.returns-then-leaves_block-clause-left
 returns-then-leaves_block-clause-left c =

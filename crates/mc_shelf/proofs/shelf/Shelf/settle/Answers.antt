@@ -1,4 +1,4 @@
-use Rattle.mc_shelf.proofs.Common.{◌∙◌, ◌≡◌, ap, Entry, get, is_some, IsPut, key_of, List, refl, Some, subst, sym, ℕ}
+use Rattle.mc_shelf.proofs.Common.{◌∙◌, ap, is_some, key_of, refl, sym}
 use Rattle.mc_shelf.proofs.ShelfLemmas.{others_same}
 use Rattle.mc_shelf.proofs.TakesLemmas.{expired_is, puts_at, takes_answer, takes_expire}
 use Rattle.mc_shelf.proofs.shelf.Shelf.settle.Goals as goal

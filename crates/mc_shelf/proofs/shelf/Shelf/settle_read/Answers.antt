@@ -1,4 +1,4 @@
-use Rattle.mc_shelf.proofs.Common.{◌∙◌, ◌≡◌, ap, Entry, false, get, is_some, IsPut, key_of, List, None, rules, Some, subst, sym, true, ℕ}
+use Rattle.mc_shelf.proofs.Common.{◌∙◌, ◌≡◌, false, is_some, None, rules, sym, true}
 use Rattle.mc_shelf.proofs.HitLemmas.{settled_expiring, settled_miss, settled_plain}
 use Rattle.mc_shelf.proofs.TakesLemmas.{puts_at}
 use Rattle.mc_shelf.proofs.shelf.Shelf.settle_read.Goals as goal

@@ -3,7 +3,6 @@ use Rattle.mc_shelf.proofs.Common.{has_room_with, inr, IsNeed, IsOut, IsPut, IsS
 use Rattle.mc_shelf.proofs.Common.{out_of, refl, rules, ShelfContent, ShelfState, size_in, SlabState, StepTaken, subst, sym, taken, true, with_item, write_reply, ℕ}
 use Rattle.mc_shelf.specs.declared.write.Write.{Write as Writing}
 use Rattle.mc_shelf.specs.Plans.{CanWriteBlock, GoesInto, Suits, drawn, left_of, written}
-use Rattle.mc_shelf.proofs.NeedLemmas.{chunks_size}
 use Rattle.mc_shelf.proofs.ShelfLemmas.{known_sought, put_over}
 use Rattle.mc_shelf.proofs.TakesLemmas.{Writes, charge_beside, drafts, gave_way, is_out, is_out_taken, item_over, may_go, put_after_drop, reuses_none, room_by, takes_anew, takes_full}
 use Rattle.mc_shelf.proofs.TakesLemmas.{takes_over, takes_way, way_is, way_out, writes_so}
@@ -65,7 +64,7 @@ suits {step} {size = size} {chunks = chunks} w mid fits are same =
     let charged = ap (charge (key_of step)) same ∙ charge_beside w in
     record {
       need = are.need_is ∙ w.need_is ∙ ap need_for (sym charged);
-      fits = subst (λ (n : ℕ). n ≤ length chunks.bytes) (sym charged) (subst (λ (n : ℕ). size ≤ n) (sym (chunks_size _ _ are)) fits);
+      fits = subst (λ (n : ℕ). n ≤ length chunks.bytes) (sym charged) (subst (λ (n : ℕ). size ≤ n) (sym (are.are.size ∙ ap size_in are.need_is)) fits);
     }
 
 pub drop_dead-requires-clause-out : goal.drop_dead-requires-clause-out

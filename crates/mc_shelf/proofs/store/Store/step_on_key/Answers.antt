@@ -4,8 +4,8 @@ use Rattle.mc_shelf.proofs.LeftLemmas.{few_at, few_left, step_moves}
 use Rattle.mc_shelf.proofs.PartLemmas.{is_at}
 use Rattle.mc_shelf.proofs.StoreLemmas.{shelf_here, goes_nowhere, plain_after, parts_stepped, took_step, spent_there}
 use Rattle.std.proofs.lemmas.Result.{IfOk-weaker, on_err_weaker}
-use Rattle.mc_shelf.proofs.store.Store.step_on_key.Goals as goal
 use Rattle.mc_shelf.proofs.store.Store.step_on_key.Goals.{After-index_mut-shelf}
+use Rattle.mc_shelf.proofs.store.Store.step_on_key.Goals as goal
 
 hashed : (g : _) → (c : After-index_mut-shelf g) → c.hash-hash.result ≡ g.K.KeyHash.hash_of c.self.inside.parts.hasher (key_of c.args.step.now)
 hashed g c = c.hash-hash.ensures ∙ ap (g.K.KeyHash.hash_of c.self.inside.parts.hasher) c.key.ensures
