@@ -19,35 +19,27 @@ pub(crate) const PAGE: u64 = 1_048_576;
 /// The place of the first unexpected answer, and the pages and chunks out of the last class.
 type Seen = (Option<usize>, (u32, u32));
 
-/// Returns what is seen of plays in a store.
+/// Returns what is seen of plays in a store. `read` tells whether a key is read before its step.
 fn seen_in(
     store: &mut Store<Fnv>,
     alloc: Global,
     bytes: &[u8],
     plays: &[Play],
+    read: bool,
 ) -> Result<Seen, StepFault> {
-    let wrong = first_wrong(store, alloc, bytes, plays)?;
+    let wrong = if read {
+        first_wrong(store, alloc, bytes, plays)?
+    } else {
+        first_wrong_unread(store, alloc, bytes, plays)
+    };
     Ok((wrong, account(store, PAGE)))
 }
 
-/// Returns the same, if no key is read before its step.
-fn seen_unread_in(store: &mut Store<Fnv>, alloc: Global, bytes: &[u8], plays: &[Play]) -> Seen {
-    let wrong = first_wrong_unread(store, alloc, bytes, plays);
-    (wrong, account(store, PAGE))
-}
-
 /// Returns what is seen of plays in a new store with these settings.
-fn seen_of(alloc: Global, settings: Settings, plays: &[Play]) -> Result<Seen, Fail> {
+fn seen_of(alloc: Global, settings: Settings, plays: &[Play], read: bool) -> Result<Seen, Fail> {
     let bytes = filled_block(alloc, LONGEST)?;
     let mut store = set_up(alloc, settings, Fnv)?;
-    Ok(seen_in(&mut store, alloc, bytes.as_slice(), plays)?)
-}
-
-/// Returns the same, if no key is read before its step.
-fn seen_unread(alloc: Global, settings: Settings, plays: &[Play]) -> Result<Seen, Fail> {
-    let bytes = filled_block(alloc, LONGEST)?;
-    let mut store = set_up(alloc, settings, Fnv)?;
-    Ok(seen_unread_in(&mut store, alloc, bytes.as_slice(), plays))
+    Ok(seen_in(&mut store, alloc, bytes.as_slice(), plays, read)?)
 }
 
 /// Checks that all answers were expected, and the account of the last class then.
@@ -56,27 +48,17 @@ fn is_right(rt: &impl Abort, seen: Seen, account: (u32, u32)) {
 }
 
 /// Checks plays in a new store with these settings, and the account of the last class then.
+///
+/// `read` tells whether a key is read before its step.
 pub(crate) fn are_answered(
     rt: &impl Abort,
     alloc: Global,
     settings: Settings,
     plays: &[Play],
     account: (u32, u32),
+    read: bool,
 ) -> Result<(), Fail> {
-    let seen = seen_of(alloc, settings, plays)?;
-    is_right(rt, seen, account);
-    Ok(())
-}
-
-/// Checks the same, if no key is read before its step.
-pub(crate) fn are_answered_unread(
-    rt: &impl Abort,
-    alloc: Global,
-    settings: Settings,
-    plays: &[Play],
-    account: (u32, u32),
-) -> Result<(), Fail> {
-    let seen = seen_unread(alloc, settings, plays)?;
+    let seen = seen_of(alloc, settings, plays, read)?;
     is_right(rt, seen, account);
     Ok(())
 }

@@ -2,8 +2,8 @@
 
 use crate::lengths::{ByLength, front, set_key};
 use crate::seen::{counts, dead_chunks, keys, reclaimed};
-use crate::tests::store_tests::answers;
 use crate::stores::open_with;
+use crate::tests::store_tests::answers;
 use mc_hop::{Constant, KeyHash};
 use mc_protocol::Verb;
 use mc_shelf::{Shelf, ShelfCounts, Store, StoreParts};
@@ -22,53 +22,84 @@ fn purge_at(store: &mut Store<Constant>, seconds: u64, purges: bool) {
 
 const X: Ask<'static> = Ask::Store(Verb::Set, 0, b"x");
 
+/// It expires in 5 seconds.
+const FIVE: Ask<'static> = Ask::Store(Verb::Set, 5, b"x");
+
 /// It expires in 10 seconds.
-const Y: Ask<'static> = Ask::Store(Verb::Set, 10, b"y");
+const TEN: Ask<'static> = Ask::Store(Verb::Set, 10, b"x");
 
 const Z: Ask<'static> = Ask::Store(Verb::Set, 0, b"z");
 
 const STORED: Want<'static> = Want::Told("stored");
 
-/// Rows, whether a purge at the row's second follows, and the number of the shelf's items then.
-static ITEMS: [(Row<'static>, bool, usize); 16] = [
-    ((1000, b"a", Ask::Get, Want::Told("miss")), false, 0),
-    ((1000, b"a", X, STORED), false, 1),
-    ((1000, b"b", Y, STORED), false, 2),
-    ((1001, b"a", Z, STORED), true, 2),
-    ((1002, b"a", Ask::Delete, Want::Told("deleted")), false, 1),
-    ((1002, b"a", Ask::Delete, Want::Told("not found")), false, 1),
-    ((1010, b"a", Ask::Get, Want::Told("miss")), false, 1),
-    ((1010, b"b", Ask::Get, Want::Told("miss")), false, 0),
-    ((1010, b"c", Y, STORED), false, 1),
-    ((1020, b"a", Ask::Get, Want::Told("miss")), true, 0),
-    ((1020, b"a", X, STORED), false, 1),
-    ((1020, b"b", X, STORED), false, 2),
-    ((1020, b"a", Ask::Flush(5), Want::Told("flushed")), true, 2),
-    ((1025, b"c", Ask::Get, Want::Told("miss")), true, 0),
-    ((1025, b"a", X, STORED), false, 1),
-    ((1025, b"a", Ask::Flush(0), Want::Told("flushed")), false, 0),
+const FLUSHED: Want<'static> = Want::Told("flushed");
+
+const MISS: Want<'static> = Want::Told("miss");
+
+const DELETED: Want<'static> = Want::Told("deleted");
+
+/// Rows, and whether a purge at the row's second follows. Then the number of the shelf's items, and
+/// of those that purges and flushes dropped.
+static COUNTS: [(Row<'static>, bool, usize, u64); 30] = [
+    ((1000, b"a", Ask::Get, MISS), false, 0, 0),
+    ((1000, b"a", X, STORED), false, 1, 0),
+    ((1000, b"b", TEN, STORED), false, 2, 0),
+    ((1001, b"a", Z, STORED), true, 2, 0),
+    ((1002, b"a", Ask::Delete, DELETED), false, 1, 0),
+    (
+        (1002, b"a", Ask::Delete, Want::Told("not found")),
+        false,
+        1,
+        0,
+    ),
+    ((1010, b"a", Ask::Get, MISS), false, 1, 0),
+    ((1010, b"b", Ask::Get, MISS), false, 0, 0),
+    ((1010, b"c", TEN, STORED), false, 1, 0),
+    ((1020, b"a", Ask::Get, MISS), true, 0, 1),
+    ((1020, b"a", X, STORED), false, 1, 1),
+    ((1020, b"b", X, STORED), false, 2, 1),
+    ((1020, b"a", Ask::Flush(5), FLUSHED), true, 2, 1),
+    ((1025, b"c", Ask::Get, MISS), true, 0, 3),
+    ((1025, b"a", X, STORED), false, 1, 3),
+    ((1025, b"a", Ask::Flush(0), FLUSHED), false, 0, 4),
+    ((2000, b"a", X, STORED), false, 1, 4),
+    ((2000, b"b", TEN, STORED), false, 2, 4),
+    ((2000, b"c", FIVE, STORED), false, 3, 4),
+    ((2000, b"d", FIVE, STORED), true, 4, 4),
+    ((2005, b"e", Ask::Get, MISS), true, 2, 6),
+    ((2005, b"a", Ask::Delete, DELETED), true, 1, 6),
+    ((2010, b"b", Ask::Get, MISS), true, 0, 6),
+    ((2010, b"a", FIVE, STORED), true, 1, 6),
+    ((2015, b"a", X, STORED), true, 1, 6),
+    ((2015, b"b", X, STORED), true, 2, 6),
+    ((2015, b"", Ask::Flush(5), FLUSHED), true, 2, 6),
+    ((2020, b"e", Ask::Get, MISS), true, 0, 8),
+    ((2020, b"a", X, STORED), true, 1, 8),
+    ((2020, b"", Ask::Flush(0), FLUSHED), true, 0, 9),
 ];
 
 /// Keys of one hash, on the first shelf, with the number 960.
 ///
-/// A dead item counts until a step on its key, or a purge, drops it.
+/// A dead item counts until a step on its key, or a purge, drops it. One that such a step drops
+/// isn't counted as dropped.
 #[test]
-fn a_shelf_counts_its_items(rt: HostRuntime) -> Result<(), Fail> {
+fn items_that_purges_and_flushes_drop_are_counted(rt: HostRuntime) -> Result<(), Fail> {
     let mut store = open_with(rt.alloc(), 64, Constant(5056))?;
-    counts_items(&rt, rt.alloc(), &mut store, &ITEMS)
+    counts_items(&rt, rt.alloc(), &mut store, &COUNTS)
 }
 
-/// Checks after each row, and a purge if there is one, how many items and keys there are.
+/// Checks the counts after each row, and a purge if there is one.
 fn counts_items(
     rt: &impl Abort,
     alloc: Global,
     store: &mut Store<Constant>,
-    rows: &[(Row<'_>, bool, usize)],
+    rows: &[(Row<'_>, bool, usize, u64)],
 ) -> Result<(), Fail> {
-    for (row, purges, want) in rows {
+    for (row, purges, items, dropped) in rows {
         answers(rt, alloc, store, &[*row])?;
         purge_at(store, row.0, *purges);
-        has_items(rt, store, *want, row.0);
+        has_items(rt, store, *items, row.0);
+        has_dropped(rt, store, *dropped, row.0);
     }
     Ok(())
 }
@@ -80,52 +111,6 @@ fn has_items(rt: &impl Abort, store: &mut Store<Constant>, want: usize, seconds:
         len == want && count == want as u64,
         "{len} and {count} at {seconds}"
     );
-}
-
-/// It expires in 5 seconds.
-const FIVE: Ask<'static> = Ask::Store(Verb::Set, 5, b"x");
-
-/// It expires in 10 seconds.
-const TEN: Ask<'static> = Ask::Store(Verb::Set, 10, b"x");
-
-/// Rows, whether a purge at the row's second follows, and the number of dropped items then.
-static DROPPED: [(Row<'static>, bool, u64); 14] = [
-    ((1000, b"a", X, STORED), false, 0),
-    ((1000, b"b", TEN, STORED), false, 0),
-    ((1000, b"c", FIVE, STORED), false, 0),
-    ((1000, b"d", FIVE, STORED), true, 0),
-    ((1005, b"e", Ask::Get, Want::Told("miss")), true, 2),
-    ((1005, b"a", Ask::Delete, Want::Told("deleted")), true, 2),
-    ((1010, b"b", Ask::Get, Want::Told("miss")), true, 2),
-    ((1010, b"a", FIVE, STORED), true, 2),
-    ((1015, b"a", X, STORED), true, 2),
-    ((1015, b"b", X, STORED), true, 2),
-    ((1015, b"", Ask::Flush(5), Want::Told("flushed")), true, 2),
-    ((1020, b"e", Ask::Get, Want::Told("miss")), true, 4),
-    ((1020, b"a", X, STORED), true, 4),
-    ((1020, b"", Ask::Flush(0), Want::Told("flushed")), true, 5),
-];
-
-/// Keys of one hash, on the first shelf. A dead item that a step on its key drops isn't counted.
-#[test]
-fn items_that_purges_and_flushes_drop_are_counted(rt: HostRuntime) -> Result<(), Fail> {
-    let mut store = open_with(rt.alloc(), 64, Constant(5056))?;
-    counts_the_dropped(&rt, rt.alloc(), &mut store, &DROPPED)
-}
-
-/// Checks after each row, and a purge if there is one, how many items were dropped.
-fn counts_the_dropped(
-    rt: &impl Abort,
-    alloc: Global,
-    store: &mut Store<Constant>,
-    rows: &[(Row<'_>, bool, u64)],
-) -> Result<(), Fail> {
-    for (row, purges, want) in rows {
-        answers(rt, alloc, store, &[*row])?;
-        purge_at(store, row.0, *purges);
-        has_dropped(rt, store, *want, row.0);
-    }
-    Ok(())
 }
 
 /// Checks how many items were dropped.

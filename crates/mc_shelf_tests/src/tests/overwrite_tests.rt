@@ -5,8 +5,8 @@
 
 use crate::plays::are_answered;
 use crate::seen::account;
-use crate::tests::store_tests::answers;
 use crate::stores::{open, small_items};
+use crate::tests::store_tests::answers;
 use mc_hop::Fnv;
 use mc_protocol::{Bytes, KeyStep, Reply, Verb};
 use mc_shelf::Store;
@@ -125,7 +125,7 @@ static NO_PAGE: [Play; 4] = [
 /// With one page none is free beside the item's, and the old item stays.
 #[test]
 fn no_chunk_is_free_and_no_page_left(rt: HostRuntime) -> Result<(), Fail> {
-    are_answered(&rt, rt.alloc(), small_items(1), &NO_PAGE, (1, 1))
+    are_answered(&rt, rt.alloc(), small_items(1), &NO_PAGE, (1, 1), true)
 }
 
 static A_PAGE: [Play; 5] = [
@@ -142,7 +142,7 @@ static A_PAGE: [Play; 5] = [
 /// page is taken.
 #[test]
 fn no_chunk_is_free_and_a_page_comes(rt: HostRuntime) -> Result<(), Fail> {
-    are_answered(&rt, rt.alloc(), small_items(2), &A_PAGE, (2, 1))
+    are_answered(&rt, rt.alloc(), small_items(2), &A_PAGE, (2, 1), true)
 }
 
 /// A block of 45 bytes, which other bytes come around.
@@ -258,7 +258,7 @@ static NO_JOIN: [Play; 4] = [
 /// Without a free chunk and a page, a join that would stay in the chunk is refused too.
 #[test]
 fn a_join_wants_a_free_chunk(rt: HostRuntime) -> Result<(), Fail> {
-    are_answered(&rt, rt.alloc(), small_items(1), &NO_JOIN, (1, 1))
+    are_answered(&rt, rt.alloc(), small_items(1), &NO_JOIN, (1, 1), true)
 }
 
 static JOINS: [Play; 4] = [
@@ -271,5 +271,5 @@ static JOINS: [Play; 4] = [
 /// The first join takes the second page. From then on a chunk is free, and joins stay in theirs.
 #[test]
 fn a_join_takes_a_page_once(rt: HostRuntime) -> Result<(), Fail> {
-    are_answered(&rt, rt.alloc(), small_items(2), &JOINS, (2, 1))
+    are_answered(&rt, rt.alloc(), small_items(2), &JOINS, (2, 1), true)
 }

@@ -1,7 +1,7 @@
 //! Items of several pages: which chunks they take, and what a dead one gives back first.
 
 use crate::both::{Both, asked_in_parts, first_apart, open_both};
-use crate::plays::{PAGE, are_answered, are_answered_unread};
+use crate::plays::{PAGE, are_answered};
 use crate::seen::account;
 use crate::stores::{large_items, set_up};
 use core::mem::replace_with;
@@ -38,7 +38,7 @@ static LIVE: [Play; 5] = [
 /// An item that isn't dead keeps its pages until the new one has its own.
 #[test]
 fn one_that_stands_gives_its_pages_last(rt: HostRuntime) -> Result<(), Fail> {
-    are_answered(&rt, rt.alloc(), large_items(4), &LIVE, (2, 0))
+    are_answered(&rt, rt.alloc(), large_items(4), &LIVE, (2, 0), true)
 }
 
 // The item of `k` dies at 1010, and the set then is the first step on `k`.
@@ -54,7 +54,7 @@ static SHORTER: [Play; 5] = [
 /// A dead item of three pages gives way to one of two, and another item takes the third.
 #[test]
 fn a_dead_one_gives_way_to_a_shorter(rt: HostRuntime) -> Result<(), Fail> {
-    are_answered_unread(&rt, rt.alloc(), large_items(3), &SHORTER, (3, 3))
+    are_answered(&rt, rt.alloc(), large_items(3), &SHORTER, (3, 3), false)
 }
 
 static FULL: [Play; 4] = [
@@ -67,7 +67,7 @@ static FULL: [Play; 4] = [
 /// The dead item is dropped even if its pages are also too few.
 #[test]
 fn a_dead_one_goes_where_no_room_is(rt: HostRuntime) -> Result<(), Fail> {
-    are_answered_unread(&rt, rt.alloc(), large_items(3), &FULL, (3, 3))
+    are_answered(&rt, rt.alloc(), large_items(3), &FULL, (3, 3), false)
 }
 
 /// Sets `k` at 1010, when its item of two pages is dead. Returns whether it is stored.
@@ -127,7 +127,7 @@ static GROWING: [Play; 4] = [
 /// A block in several pages is joined from others.
 #[test]
 fn joins_go_over_pages(rt: HostRuntime) -> Result<(), Fail> {
-    are_answered(&rt, rt.alloc(), large_items(6), &GROWING, (6, 3))
+    are_answered(&rt, rt.alloc(), large_items(6), &GROWING, (6, 3), true)
 }
 
 static STAYING: [Play; 5] = [
@@ -143,7 +143,7 @@ static STAYING: [Play; 5] = [
 /// One that needs three finds too few.
 #[test]
 fn joins_stay_in_their_pages(rt: HostRuntime) -> Result<(), Fail> {
-    are_answered(&rt, rt.alloc(), large_items(4), &STAYING, (4, 2))
+    are_answered(&rt, rt.alloc(), large_items(4), &STAYING, (4, 2), true)
 }
 
 /// Returns the accounts of the last class in both.

@@ -302,7 +302,7 @@ static OTHERS: [Play; 10] = [
 
 #[test]
 fn a_chunk_that_comes_back_serves_another_shelf(rt: HostRuntime) -> Result<(), Fail> {
-    are_answered(&rt, rt.alloc(), small_items(1), &OTHERS, (1, 1))
+    are_answered(&rt, rt.alloc(), small_items(1), &OTHERS, (1, 1), true)
 }
 
 static DIES: [Play; 2] = [
