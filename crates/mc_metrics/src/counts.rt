@@ -95,10 +95,7 @@ impl Counters {
 
     /// Returns the counter at an index, modulo 2^64, and 0 if there is none.
     pub fn at(&self, place: usize) -> u64 {
-        match self.cells.get(place) {
-            Some(cell) => cell.load(Ordering::SeqCst),
-            None => 0,
-        }
+        count_at(&self.cells, place)
     }
 
     /// Counts a step that was refused for want of a chunk of the class with this number.
@@ -106,6 +103,11 @@ impl Counters {
         if let Some(cell) = self.refused.get(class) {
             cell.fetch_add(1, Ordering::SeqCst);
         }
+    }
+
+    /// Returns the refused steps of a class, modulo 2^64, and 0 if there is no such class.
+    pub fn refused_at(&self, class: usize) -> u64 {
+        count_at(&self.refused, class)
     }
 
     /// Notes how many bytes of buffers the worker's connections hold, and how many wait for room.
@@ -123,12 +125,12 @@ impl Counters {
     pub fn waiting(&self) -> u64 {
         self.waiting.load(Ordering::SeqCst)
     }
+}
 
-    /// Returns the refused steps of a class, modulo 2^64, and 0 if there is no such class.
-    pub fn refused_at(&self, class: usize) -> u64 {
-        match self.refused.get(class) {
-            Some(cell) => cell.load(Ordering::SeqCst),
-            None => 0,
-        }
+/// Returns the count at an index, and 0 if there is none.
+pub fn count_at(counts: &[AtomicU64], place: usize) -> u64 {
+    match counts.get(place) {
+        Some(count) => count.load(Ordering::SeqCst),
+        None => 0,
     }
 }

@@ -32,7 +32,7 @@ mod reading;
 mod request;
 
 pub use answer::{HttpAnswer, HttpReply, NO_MEMORY, response};
-pub use counts::{COUNTED, Counted, Counters, REFUSED};
+pub use counts::{COUNTED, Counted, Counters, REFUSED, count_at};
 pub use family::{Family, Kind, Samples};
 pub use page::page_of;
 pub use reading::{
