@@ -1,5 +1,5 @@
 -- What a request over HTTP is answered.
-use Rattle.std.specs.Prelude.{◌≡◌, ℕ, Bool, true, false, not, ◌&&◌, ◌||◌, List, [], ◌++◌, length, map, codes, decimal, if◌then◌else◌, IsTrue, Option, Some}
+use Rattle.std.specs.Prelude.{◌≡◌, ℕ, Bool, true, false, not, ◌||◌, List, [], ◌++◌, length, map, codes, decimal, if◌then◌else◌, IsTrue}
 use Rattle.std.specs.Str.{bytes_eq, byte}
 use Rattle.std.specs.declared.net.ip_addr.IpAddr.{IpAddr}
 use Rattle.httparse.specs.Grammar.{RequestHead, ReadsRequest}
