@@ -15,22 +15,15 @@ phase_number Failed = 4
 abbrev pub no_more_come : Phase → Bool
 no_more_come Open = false
 no_more_come Asked = false
-no_more_come Closing = true
-no_more_come Over = true
-no_more_come Failed = true
+no_more_come _ = true
 
 -- open connections end too
 abbrev pub all_end : Phase → Bool
-all_end Open = false
-all_end Asked = false
-all_end Closing = false
 all_end Over = true
 all_end Failed = true
+all_end _ = false
 
 -- they end because that was asked for
 abbrev pub all_end_as_asked : Phase → Bool
-all_end_as_asked Open = false
-all_end_as_asked Asked = false
-all_end_as_asked Closing = false
 all_end_as_asked Over = true
-all_end_as_asked Failed = false
+all_end_as_asked _ = false
