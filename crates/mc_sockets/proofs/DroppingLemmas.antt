@@ -1,16 +1,17 @@
 -- Input that is dropped.
-use Rattle.std.proofs.Common.{◌≡◌, ℕ, ◌+◌, List, subst, sym}
+use Rattle.std.proofs.Common.{◌≡◌, ℕ, ◌+◌, List}
+use Rattle.mc_guests.specs.Repeats.{one_more}
 use Rattle.mc_sockets.specs.declared.dropping.Drain.TheVariants.{Going}
 use Rattle.mc_sockets.specs.declared.dropping.Dropping.{Dropping}
 use Rattle.mc_sockets.specs.declared.stream.Received.{Received}
-use Rattle.mc_sockets.specs.Dropping.{Drops, DropsInput, after_drop, one_more}
+use Rattle.mc_sockets.specs.Dropping.{Drops, DropsInput, after_drop}
 
 -- one more read was made
 pub dropped_more : {S : Type 0} (receives : S → List ℕ → Received → S → Type 0) (before : ℕ) (first : S) (reads : ℕ) (old result : Dropping)
     (mid new : S) (answer : Received) (piece : List ℕ) → Drops receives before first reads old mid → old.drain ≡ Going
     → receives mid piece answer new → result ≡ after_drop old answer → Drops receives before first (reads + 1) result new
 dropped_more receives before first reads old result mid new answer piece drops going call is =
-    subst (λ (dropped : Dropping). Drops receives before first (reads + 1) dropped new) (sym is) (one_more reads old mid new answer drops going (piece, call))
+    one_more drops (record { going = going; answer = answer; reads = (piece, call); dropped = is })
 
 -- nothing more is to be dropped, or nothing now
 pub drop_stops : {S : Type 0} (receives : S → List ℕ → Received → S → Type 0) (before : ℕ) (first : S) (reads : ℕ) (result : Dropping) (new : S)

@@ -1,5 +1,6 @@
 -- Input that is dropped behind the last answer.
 use Rattle.std.specs.Prelude.{◌≡◌, ℕ, List, ◌+◌, ◌-◌, ◌^◌, min, nat_lt, if◌then◌else◌}
+use Rattle.mc_guests.specs.Repeats.{Repeats}
 use Rattle.mc_sockets.specs.declared.dropping.Drain.{Drain}
 use Rattle.mc_sockets.specs.declared.dropping.Drain.TheVariants.{Going, Waiting, Done}
 use Rattle.mc_sockets.specs.declared.dropping.Dropping.{Dropping}
@@ -26,10 +27,16 @@ after_drop old (received.Hindered Fault) = record { bytes = old.bytes; drain = D
 abbrev pub starts : (before : ℕ) → Dropping
 starts before = record { bytes = before; drain = Going }
 
+-- a read where there may be more to drop, and what was dropped after it
+pub record DropsOnce {S : Type 0} (receives : S → List ℕ → Received → S → Type 0) (old new : Dropping × S) : Type 0 where
+  pub going : old.0.drain ≡ Going
+  pub answer : Received
+  pub reads : into_some receives old.1 answer new.1
+  pub dropped : new.0 ≡ after_drop old.0 answer
+
 -- `reads` reads, one after another, each where there may be more to drop
-pub data Drops {S : Type 0} (receives : S → List ℕ → Received → S → Type 0) (before : ℕ) (first : S) : (reads : ℕ) → Dropping → S → Type 0 where
-  none_yet : Drops receives before first 0 (starts before) first
-  one_more : (reads : ℕ) (old : Dropping) (mid new : S) (answer : Received) → Drops receives before first reads old mid → old.drain ≡ Going → into_some receives mid answer new → Drops receives before first (reads + 1) (after_drop old answer) new
+abbrev pub Drops : {S : Type 0} → (S → List ℕ → Received → S → Type 0) → (before : ℕ) → S → (reads : ℕ) → Dropping → S → Type 0
+Drops receives before first reads result new = Repeats (DropsOnce receives) reads (starts before, first) (result, new)
 
 -- input is dropped until nothing more is to be dropped, or nothing now, or 128 reads were made
 pub record DropsInput {S : Type 0} (receives : S → List ℕ → Received → S → Type 0) (before : ℕ) (old : S) (result : Dropping) (new : S) : Type 0 where
