@@ -123,12 +123,11 @@ module _ {F R : Type 0} (known : F → Option Readiness) (sends : R → ℕ → 
     same = is ∙ ap (λ (at : ℕ). record (noted now first) { at = at }) (sym (ap (λ (w : Watch). w.at) is));
   }
 
-  pub looked_more : (count : ℕ) (mid later : Watch) (between new : Seats F) (mid_rests new_rests : R) → Looked count mid between mid_rests
-      → LooksAtNext sends (act mid.limit) (sweep mid.at between mid_rests) (sweep later.at new new_rests) → later ≡ record mid { at = later.at }
-      → Looked (count + 1) later new new_rests
-  looked_more count mid later between new mid_rests new_rests looked next is =
-      let limit : mid.limit ≡ first.limit = ap (λ (w : Watch). w.limit) looked.same in
-      let one = subst (λ (d : Duration). LooksAtNext sends (act d) (sweep mid.at between mid_rests) (sweep later.at new new_rests)) limit next in
+  pub looked_more : (count : ℕ) (limit : Duration) (mid later : Watch) (between new : Seats F) (mid_rests new_rests : R) → limit ≡ first.limit
+      → Looked count mid between mid_rests → LooksAtNext sends (act limit) (sweep mid.at between mid_rests) (sweep later.at new new_rests)
+      → later ≡ record mid { at = later.at } → Looked (count + 1) later new new_rests
+  looked_more count limit mid later between new mid_rests new_rests by_limit looked next is =
+      let one = subst (λ (d : Duration). LooksAtNext sends (act d) (sweep mid.at between mid_rests) (sweep later.at new new_rests)) by_limit next in
       record {
         looks = λ n more. subst (λ (k : ℕ). Repeats (LooksAtNext sends (act first.limit)) k (sweep first.at old old_rests) (sweep later.at new new_rests)) (sym more)
             (repeats.one_more (looked.looks count refl) one);

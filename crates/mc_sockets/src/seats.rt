@@ -242,8 +242,10 @@ impl<F: ReadinessCell + Drop> Seats<F> {
         ensures { LooksInTurn F.known R.sends patrol before now watch.old watch.new self.old
             self.new rests.old rests.new }
     {
+        let limit = watch.limit();
+        let look = Look { limit, before, now };
         for _one in 0..watch.due(self.places.len(), now) {
-            self.look_at_next(watch, patrol, before, now, rests);
+            self.look_at_next(watch, patrol, look, rests);
         }
     }
 
@@ -253,18 +255,15 @@ impl<F: ReadinessCell + Drop> Seats<F> {
         &mut self,
         watch: &mut Watch,
         patrol: Patrol,
-        before: Instant,
-        now: Instant,
+        look: Look,
         rests: &mut R,
     )
-        ensures looks { LooksAtNext R.sends (Patrols F.known patrol
-            (record { limit = watch.old.limit; before = before; now = now }))
+        ensures looks { LooksAtNext R.sends (Patrols F.known patrol look)
             (sweep watch.old.at self.old rests.old) (sweep watch.new.at self.new rests.new) }
         ensures same { watch.new ≡ record watch.old { at = watch.new.at } }
     {
         let at = watch.turn(self.places.len());
-        let limit = watch.limit();
-        let was_dropped = self.look_at(at, patrol, Look { limit, before, now });
+        let was_dropped = self.look_at(at, patrol, look);
         send_rest_if(was_dropped, at, rests);
     }
 
