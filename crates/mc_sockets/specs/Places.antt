@@ -2,7 +2,6 @@
 use Rattle.std.specs.Prelude.{◌≡◌, ◌≤◌, ◌-◌, ◌↔◌, ◌&&◌, ◌||◌, ℕ, List, [], ◌∷◌, ◌++◌, Bool, true, false, not, if◌then◌else◌, is_some, MatchBool, MatchOption, Option, Some, None, IfSome, IsTrue}
 use Rattle.std.specs.Duration.{as_nanos}
 use Rattle.std.specs.Time.{instant_nanos}
-use Rattle.std.specs.declared.time.Duration.{Duration}
 use Rattle.std.specs.declared.time.Instant.{Instant}
 use Rattle.mc_sockets.specs.declared.connection.Parting.{Parting}
 use Rattle.mc_sockets.specs.declared.place.LinkRecord.{LinkRecord}
@@ -57,10 +56,14 @@ pub record HappensTo {F : Type 0} (known : F → Option Readiness) (happening : 
   pub number : new.number ≡ old.number
   pub happens : Happens happening old.number IsFull (known old.readiness) (known new.readiness) old_names new_names
 
--- what a report tells happens to the link of a record; the answer is whether the link was dropped
-pub record Notes {F : Type 0} (known : F → Option Readiness) (report : Report) (IsFull : Type 0) (answer : Bool) (old new : LinkRecord F) (old_names new_names : List ℕ) : Type 0 where
-  pub happens : HappensTo known (Reported report) IsFull old new old_names new_names
+-- that happens to the link of a record, and the answer is whether the link was dropped
+pub record Answers {F : Type 0} (known : F → Option Readiness) (happening : Happening) (IsFull : Type 0) (answer : Bool) (old new : LinkRecord F) (old_names new_names : List ℕ) : Type 0 where
+  pub happens : HappensTo known happening IsFull old new old_names new_names
   pub left : WasDropped (known old.readiness) answer
+
+-- what a report tells happens to the link of a record; the answer is whether the link was dropped
+abbrev pub Notes : {F : Type 0} → (known : F → Option Readiness) → Report → (IsFull : Type 0) → (answer : Bool) → (old new : LinkRecord F) → (old_names new_names : List ℕ) → Type 0
+Notes known report = Answers known (Reported report)
 
 -- the same if its number is this, and nothing if it has another
 pub record HappensIf {F : Type 0} (known : F → Option Readiness) (happening : Happening) (number : ℕ) (IsFull : Type 0) (old new : LinkRecord F) (old_names new_names : List ℕ) : Type 0 where

@@ -35,10 +35,10 @@ pub struct LinkRecord<F: ReadinessCell + Drop> {
 impl<F: ReadinessCell + Drop> LinkRecord<F> {
     ghost use Rattle.std.specs.Prelude.{Some, None, IfSome};
     ghost use Rattle.std.specs.VecDeque.{deque_len, deque_capacity};
-    ghost use Rattle.mc_sockets.specs.Readiness.{Reported, AskedAgain, Ended};
-    ghost use Rattle.mc_sockets.specs.Places.{AsksIfUnheard, AsksOrCloses, EndsIfIdle, Finds};
-    ghost use Rattle.mc_sockets.specs.Places.{Happens, HappensIf, HappensTo, NamesIf, lingers};
-    ghost use Rattle.mc_sockets.specs.Places.{WasDropped, seen_waiting};
+    ghost use Rattle.mc_sockets.specs.Readiness.{AskedAgain, Ended};
+    ghost use Rattle.mc_sockets.specs.Places.{Answers, AsksIfUnheard, AsksOrCloses, EndsIfIdle};
+    ghost use Rattle.mc_sockets.specs.Places.{Finds, Happens, HappensIf, HappensTo, NamesIf};
+    ghost use Rattle.mc_sockets.specs.Places.{Notes, WasDropped, lingers, seen_waiting};
 
     /// Returns the record of a new link with this number.
     pub fn new(number: u64, readiness: F) -> LinkRecord<F>
@@ -69,11 +69,8 @@ impl<F: ReadinessCell + Drop> LinkRecord<F> {
     /// Notes what an event reports, and names the link if it waits. Returns whether the link was
     /// dropped.
     pub fn note(&mut self, report: Report, named: &mut VecDeque<u64>) -> bool
-        ensures happens { Happens (Reported report) self.old.number
-            (deque_capacity named.old ≤ deque_len named.old) (F.known self.old.readiness)
-            (F.known self.new.readiness) named.old.items named.new.items }
-        ensures number { self.new.number ≡ self.old.number }
-        ensures left { IfSome (F.known self.old.readiness) (λ known. result ≡ known.leaves) }
+        ensures { Notes F.known report (deque_capacity named.old ≤ deque_len named.old) result
+            self.old self.new named.old.items named.new.items }
     {
         self.waits_since = None;
         self.asked_since = None;
@@ -98,11 +95,8 @@ impl<F: ReadinessCell + Drop> LinkRecord<F> {
     ///
     /// A link that doesn't wait is asked by its guest, and then answers that it is at its end.
     pub fn end(&mut self, parting: Parting, named: &mut VecDeque<u64>) -> bool
-        ensures happens { Happens (Ended parting) self.old.number
-            (deque_capacity named.old ≤ deque_len named.old) (F.known self.old.readiness)
-            (F.known self.new.readiness) named.old.items named.new.items }
-        ensures number { self.new.number ≡ self.old.number }
-        ensures left { IfSome (F.known self.old.readiness) (λ known. result ≡ known.leaves) }
+        ensures { Answers F.known (Ended parting) (deque_capacity named.old ≤ deque_len named.old)
+            result self.old self.new named.old.items named.new.items }
     {
         self.waits_since = None;
         let known = self.readiness.look();

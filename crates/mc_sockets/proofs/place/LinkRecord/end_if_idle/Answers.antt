@@ -10,6 +10,6 @@ returns-then-not-has_waited g c =
 
 pub returns : goal.returns
 returns g c =
-    ends_if_idle _ _ _ _ _ _ _ _ _ c.has_waited.new.self c.has_waited.ensures.number c.end.ensures.number _ c.has_waited.ensures.finds
-    (match_true _ _ _ c.if-not-has_waited.false (record { number = c.end.ensures.number; happens = c.end.ensures.happens }))
+    ends_if_idle _ _ _ _ _ _ _ _ _ c.has_waited.new.self c.has_waited.ensures.number c.end.ensures.happens.number _ c.has_waited.ensures.finds
+    (match_true _ _ _ c.if-not-has_waited.false c.end.ensures.happens)
     (match_true _ _ _ c.if-not-has_waited.false c.end.ensures.left)

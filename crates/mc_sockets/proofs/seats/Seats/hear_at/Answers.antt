@@ -4,10 +4,7 @@ use Rattle.mc_sockets.proofs.seats.Seats.hear_at.Goals as goal
 
 pub returns-in-Some : goal.returns-in-Some
 returns-in-Some g c =
-    done_at _ _ _ _ _ c.note.new.self _ _ c.args.self.now.places.ok.0 (c.in-Some.ensures.variant.0 refl) c.in-Some.ensures.value (record {
-      happens = record { number = c.note.ensures.number; happens = c.note.ensures.happens };
-      left = c.note.ensures.left;
-    }) refl refl
+    done_at _ _ _ _ _ c.note.new.self _ _ c.args.self.now.places.ok.0 (c.in-Some.ensures.variant.0 refl) c.in-Some.ensures.value c.note.ensures refl refl
 
 pub returns-in-None : goal.returns-in-None
 returns-in-None g c = none_at _ _ _ _ _ c.args.self.now.places.ok.0 c.in-None.ensures.variant.1 (refl, refl)
