@@ -238,3 +238,5 @@ names_waiting known Paused is = cc
 names_waiting known (Reported report) is = is
 names_waiting known AskedAgain is = is
 names_waiting known (Ended parting) is = is
+
+pub ruleset wakeups = (misses_never, waits_until, names_waiting)

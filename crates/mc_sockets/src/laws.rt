@@ -15,6 +15,7 @@ ghost use Rattle.mc_sockets.specs.Wakeups.{Watched, Steps, MissesNothing, IsCall
 /// report is owed, a report is owed where its link would answer `Later` although there is input or
 /// room. The next report names each link that waits. A link that answered `Later` waits until it is
 /// named or called, and no other is named.
+#[tactic(auto, using(crate::proofs::WakeupLemmas::wakeups))]
 pub fn no_wake_up_is_lost()
     ensures owed { (first last : Watched) → first.owed ≡ true → Steps first last →
         MissesNothing last }
