@@ -7,6 +7,7 @@
 use crate::lines::LogLine;
 use crate::log::Log;
 use crate::warning::Warning;
+use mc_metrics::count_at;
 use mio::net::TcpStream;
 use std::alloc::{AllocError, Global};
 use std::array;
@@ -137,10 +138,7 @@ impl Crowd {
 
     /// Returns the number of connections closed for the reason at this index.
     pub fn closed_at(&self, place: usize) -> u64 {
-        match self.closed.get(place) {
-            Some(count) => count.load(Ordering::SeqCst),
-            None => 0,
-        }
+        count_at(&self.closed, place)
     }
 
     /// Logs a warning, unless it was logged within a minute.
