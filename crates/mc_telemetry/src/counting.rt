@@ -17,27 +17,28 @@ pub fn counted_as(step: &KeyStep<'_>, outcome: Outcome) -> Option<Counted>
         | Outcome::Touched
         | Outcome::Deleted
         | Outcome::Number
-        | Outcome::Flushed => Some(hit_of(step.kind())),
-        Outcome::Miss | Outcome::NotFound | Outcome::NotStored => Some(miss_of(step.kind())),
+        | Outcome::Flushed => Some(ways_of(step.kind()).0),
+        Outcome::Miss | Outcome::NotFound | Outcome::NotStored => Some(ways_of(step.kind()).1),
         Outcome::Exists => badval_of(step.kind()),
         Outcome::NoChunk => Some(Counted::Refused),
         Outcome::NotNumeric | Outcome::TooLarge => None,
     }
 }
 
-/// Returns the counter of a step that did what it asked for.
-fn hit_of(kind: StepKind) -> Counted
-    ensures { result ≡ (ways_of kind).0 }
+/// Returns the counter of a step that did what it asked for, and that of one that found no item, or
+/// one in its way. A flush is never in vain.
+fn ways_of(kind: StepKind) -> (Counted, Counted)
+    ensures { result ≡ ways_of kind }
 {
     match kind {
-        StepKind::Set => Counted::SetStored,
-        StepKind::Cas => Counted::CasHit,
-        StepKind::Get => Counted::GetHit,
-        StepKind::Touch => Counted::TouchHit,
-        StepKind::Delete => Counted::DeleteHit,
-        StepKind::Incr => Counted::IncrHit,
-        StepKind::Decr => Counted::DecrHit,
-        StepKind::Flush => Counted::Flush,
+        StepKind::Set => (Counted::SetStored, Counted::SetNotStored),
+        StepKind::Cas => (Counted::CasHit, Counted::CasMiss),
+        StepKind::Get => (Counted::GetHit, Counted::GetMiss),
+        StepKind::Touch => (Counted::TouchHit, Counted::TouchMiss),
+        StepKind::Delete => (Counted::DeleteHit, Counted::DeleteMiss),
+        StepKind::Incr => (Counted::IncrHit, Counted::IncrMiss),
+        StepKind::Decr => (Counted::DecrHit, Counted::DecrMiss),
+        StepKind::Flush => (Counted::Flush, Counted::Flush),
     }
 }
 
@@ -54,21 +55,5 @@ fn badval_of(kind: StepKind) -> Option<Counted>
         | StepKind::Incr
         | StepKind::Decr
         | StepKind::Flush => None,
-    }
-}
-
-/// Returns the counter of a step that found no item, or one in its way. A flush is never in vain.
-fn miss_of(kind: StepKind) -> Counted
-    ensures { result ≡ (ways_of kind).1 }
-{
-    match kind {
-        StepKind::Set => Counted::SetNotStored,
-        StepKind::Cas => Counted::CasMiss,
-        StepKind::Get => Counted::GetMiss,
-        StepKind::Touch => Counted::TouchMiss,
-        StepKind::Delete => Counted::DeleteMiss,
-        StepKind::Incr => Counted::IncrMiss,
-        StepKind::Decr => Counted::DecrMiss,
-        StepKind::Flush => Counted::Flush,
     }
 }
