@@ -17,12 +17,6 @@ by_outcome : (ways : Counted × Counted) (badval : Option Counted) (command vain
     → label_of ways.0 ≡ Some (command, codes "hit") → label_of ways.1 ≡ Some (command, vain)
     → option_and_then label_of badval ≡ clash
     → option_and_then label_of (counted_by ways badval out) ≡ shown_by command vain clash out
-by_outcome ways badval command vain clash outcome.Hit hit miss changed = hit
-by_outcome ways badval command vain clash outcome.Stored hit miss changed = hit
-by_outcome ways badval command vain clash outcome.Touched hit miss changed = hit
-by_outcome ways badval command vain clash outcome.Deleted hit miss changed = hit
-by_outcome ways badval command vain clash outcome.Number hit miss changed = hit
-by_outcome ways badval command vain clash outcome.Flushed hit miss changed = hit
 by_outcome ways badval command vain clash outcome.Miss hit miss changed = miss
 by_outcome ways badval command vain clash outcome.NotFound hit miss changed = miss
 by_outcome ways badval command vain clash outcome.NotStored hit miss changed = miss
@@ -30,6 +24,7 @@ by_outcome ways badval command vain clash outcome.Exists hit miss changed = chan
 by_outcome ways badval command vain clash outcome.NoChunk hit miss changed = refl
 by_outcome ways badval command vain clash outcome.NotNumeric hit miss changed = refl
 by_outcome ways badval command vain clash outcome.TooLarge hit miss changed = refl
+by_outcome ways badval command vain clash other hit miss changed = hit
 
 of_kind : (of : StepKind) (out : Outcome) → option_and_then label_of (counted_by (ways_of of) (badval_of of) out) ≡ shown_by (command_of of) (vain_of of) (clash_of of) out
 of_kind kind.Set out = by_outcome (ways_of kind.Set) (badval_of kind.Set) (codes "set") (codes "hit") None out refl refl refl
