@@ -1,8 +1,8 @@
 -- The keys of each number are counted, shelf by shelf.
 use Rattle.mc_shared.proofs.Words.{◌≡◌, ◌≢◌, ℕ, zero, suc, ◌+◌, ◌*◌, ◌/◌, ◌%◌, ◌≤◌, ◌<◌, List, length, Some, get_or, slice_get, slice_index, set, replicate, refl, sym, ap, ◌∙◌, subst, arith}
-use Rattle.mc_shared.proofs.Words.{mod-lt, div-add-mod', ◌==◌, get_or-set_same, get_or-set_other, length-set, same_from_place, mul-add-lt, div_below, mod_below, none-some, slice_get-get_or, dite}
-use Rattle.mc_shared.proofs.Words.{ℕ_discrete, empty, get-empty, Plain, flushed, ShelfState, keys_with, number_of, shelf_of, IsShelfOf, AreAllOf, AreCountsOfAll, AreKeyCounts, order, Beginning}
-use Rattle.mc_shared.proofs.Words.{AreKeys, SeatView, KeysAreCounted, HasPlaces, AreNone}
+use Rattle.mc_shared.proofs.Words.{mod-lt, div-add-mod', ◌==◌, get_or-set_same, get_or-set_other, length-set, same_from_place, mul-add-lt, div_below, mod_below, none-some, slice_get-get_or}
+use Rattle.mc_shared.proofs.Words.{dite, ℕ_discrete, empty, get-empty, Plain, flushed, ShelfState, keys_with, number_of, shelf_of, IsShelfOf, AreAllOf, AreCountsOfAll, AreKeyCounts, order}
+use Rattle.mc_shared.proofs.Words.{Beginning, AreKeys, SeatView, KeysAreCounted, HasPlaces, AreNone}
 use Rattle.mc_shared.proofs.NumberLemmas.{count_none}
 use Rattle.mc_shared.proofs.NumberSteps.{shelf_named, own_at}
 use Rattle.mc_shared.proofs.NumberSweeps.{off_shelf}
@@ -17,8 +17,7 @@ zero_at (suc long) (suc n) = zero_at long n
 pub record CountsFirst (shelves : List ShelfState) (first : ℕ) (counts : List ℕ) : Type 0 where
   pub many : length counts ≡ 4096
   pub counted : (hash_of : List ℕ → ℕ) (state : Plain) (all : AreAllOf hash_of state shelves)
-      → (number : ℕ) → number < 4096 → number % all.count < first
-      → slice_index counts number ≡ keys_with hash_of number state.items
+      → (number : ℕ) → number < 4096 → number % all.count < first → slice_index counts number ≡ keys_with hash_of number state.items
   pub none : (hash_of : List ℕ → ℕ) (state : Plain) (all : AreAllOf hash_of state shelves)
       → (number : ℕ) → number < 4096 → first ≤ number % all.count → slice_index counts number ≡ 0
 
@@ -41,8 +40,7 @@ module _ (hash_of : List ℕ → ℕ) (state : Plain) (shelves : List ShelfState
   }
 
   next_counted : (counts new : List ℕ) (at : ℕ) (shelf : ShelfState) → slice_get shelves at ≡ Some shelf
-      → CountsFirst shelves at counts → KeysAreCounted shelf.content counts new
-      → (number : ℕ) → number < 4096 → number % all.count < at + 1
+      → CountsFirst shelves at counts → KeysAreCounted shelf.content counts new → (number : ℕ) → number < 4096 → number % all.count < at + 1
       → slice_index new number ≡ keys_with hash_of number state.items
   next_counted counts new at shelf is first added number low few =
       let part : IsShelfOf hash_of all.count state at shelf.content = all.parts.each at shelf is in
@@ -127,9 +125,7 @@ pub row_below : (step at row : ℕ) → 4096 / step * step ≡ 4096 → at < ste
 row_below step at row divides inside low =
     let q : ℕ = 4096 / step in
     let less = mul-add-lt row step at q low inside in
-    let all = native.Mathlib.Nat.mul_comm q step in
-    let whole : q * step ≡ 4096 = divides in
-    omega (arith, less, all, whole)
+    let all = native.Mathlib.Nat.mul_comm q step in let whole : q * step ≡ 4096 = divides in omega (arith, less, all, whole)
 
 pub rows_next : (start : Beginning) (v : SeatView) (shelves at row : ℕ) (counts : List ℕ) (count : ℕ) → at < shelves → row * shelves + at < 4096
     → ReadsRows start v shelves at row counts → AreKeys start v (row * shelves + at) count → ReadsRows start v shelves at (row + 1) (set counts (row * shelves + at) count)

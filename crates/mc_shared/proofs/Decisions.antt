@@ -1,17 +1,13 @@
 -- Which decisions are the plain machine's: those that take a state on by one shelf and the desk.
-use Rattle.mc_shared.proofs.Words.{◌≡◌, ◌≢◌, inl, inr, Bool, true, false, true≢false, Option, Some, None, ℕ, ◌<◌, List, [], ◌∷◌, Result, Err, sym, refl, ap, ◌∙◌, subst, arith, Expiry, Plain}
-use Rattle.mc_shared.proofs.Words.{Entry as Item, Outcome, MayFail, alive, changed, hit_of, plain, row_of, standing, stepped, without_dead, KeyStep, Read, ReadTouch, Reply, Miss, ShelfContent}
-use Rattle.mc_shared.proofs.Words.{DeskState, StandsAt, CanStandAt, key_of, get, Reads, is_gone, next_of, writes, IsShelfOf, IsDeskOf, GoesTo, Content, OfShelf, OfDesk, Beginning, start_of}
-use Rattle.mc_shared.proofs.Words.{Operation, Stepped, shelf_in, left_by, next, after, IsRight, FitsBay, AllFit, KeepsLimits, holds_bay, SeatView, Decides, Fitted, Mine, Sitter, SharedState}
-use Rattle.mc_shared.proofs.Words.{HoldsShelf, IsAsked, StepFault, NoMemory, NumbersSpent, Past, CanCome, MayFailAfter, Refuses, LookTakesMemory, answered, next_by, row_at, GoesByStep}
-use Rattle.mc_shared.proofs.Words.{GoesWithoutDesk, Ask, IsSpentAfter, is_read}
+use Rattle.mc_shared.proofs.Words.{◌≡◌, ◌≢◌, ℕ, ◌<◌, List, [], ◌∷◌, Result, Err, sym, refl, ap, ◌∙◌, subst, arith, Plain, Outcome, plain, KeyStep, Reply, ShelfContent, DeskState, StandsAt}
+use Rattle.mc_shared.proofs.Words.{CanStandAt, key_of, IsShelfOf, IsDeskOf, GoesTo, Content, OfShelf, OfDesk, Beginning, Operation, Stepped, shelf_in, left_by, next, after, IsRight, FitsBay}
+use Rattle.mc_shared.proofs.Words.{AllFit, KeepsLimits, holds_bay, SeatView, Decides, Fitted, StepFault, NoMemory, NumbersSpent, Past, CanCome, MayFailAfter, Refuses, GoesByStep}
+use Rattle.mc_shared.proofs.Words.{GoesWithoutDesk, IsSpentAfter}
 use Rattle.mc_shared.proofs.StockedKept.{here}
 
 -- a bay that isn't held is another than one that is
 pub other_bay : (b c : ℕ) (x : Content) → holds_bay c (b, x) ≡ 0 → c ≢ b
-other_bay b c x none same =
-    let one : holds_bay c (b, x) ≡ 1 = ap (λ k. holds_bay k (b, x)) same ∙ here b x in
-    omega (arith, none, one)
+other_bay b c x none same = let one : holds_bay c (b, x) ≡ 1 = ap (λ k. holds_bay k (b, x)) same ∙ here b x in omega (arith, none, one)
 
 module _ (start : Beginning) (at : ℕ) where
   abbrev pub Goes : (old new : Plain) → ShelfContent → DeskState → Type 0
@@ -20,8 +16,7 @@ module _ (start : Beginning) (at : ℕ) where
   abbrev pub IsPart : Plain → ShelfContent → Type 0
   IsPart m = IsShelfOf start.hash_of start.shelves m at
 
-  limits_stay : (m m' : Plain) (f : ShelfContent) (d : DeskState) → Goes m m' f d
-      → KeepsLimits start m → KeepsLimits start m'
+  limits_stay : (m m' : Plain) (f : ShelfContent) (d : DeskState) → Goes m m' f d → KeepsLimits start m → KeepsLimits start m'
   limits_stay m m' f d goes keeps = record {
     greatest = goes.greatest ∙ keeps.greatest;
     limit = goes.limit ∙ keeps.limit;
@@ -30,26 +25,19 @@ module _ (start : Beginning) (at : ℕ) where
   -- ---- decided by giving back the shelf
 
   module _ (f f' : ShelfContent) (step : KeyStep) (now : ℕ) (reply : Reply)
-      (alone : (m : Plain) → IsPart m f
-      → GoesWithoutDesk start.hash_of start.shelves at step now m reply f') where
+      (alone : (m : Plain) → IsPart m f → GoesWithoutDesk start.hash_of start.shelves at step now m reply f') where
     abbrev what : Operation
     what = Stepped step now reply
 
-    pub goes_alone : (m : Plain) → IsPart m f → (d : DeskState) → IsDeskOf m d
-        → Goes m (next start m what) f' d
-    goes_alone m part d is =
-        let goes = alone m part in
-        subst (λ new. Goes m new f' d) (sym (ap (left_by m) goes.answered)) (goes.goes d is)
+    pub goes_alone : (m : Plain) → IsPart m f → (d : DeskState) → IsDeskOf m d → Goes m (next start m what) f' d
+    goes_alone m part d is = let goes = alone m part in subst (λ new. Goes m new f' d) (sym (ap (left_by m) goes.answered)) (goes.goes d is)
 
-    settled_else : (m : Plain) → IsPart m f → (c : ℕ) (z : Content) → c ≢ at → FitsBay start m c z
-        → FitsBay start (next start m what) c z
+    settled_else : (m : Plain) → IsPart m f → (c : ℕ) (z : Content) → c ≢ at → FitsBay start m c z → FitsBay start (next start m what) c z
     settled_else m part c (OfShelf g) ne fits =
-        let desk = (alone m part).some_desk in
-        (fits.0, (goes_alone m part desk.0 desk.1).others c g ne fits.1)
+        let desk = (alone m part).some_desk in (fits.0, (goes_alone m part desk.0 desk.1).others c g ne fits.1)
     settled_else m part c (OfDesk d) ne fits = (fits.0, (goes_alone m part d fits.1).account)
 
-    pub settles : at < start.shelves
-        → Decides start ((at, OfShelf f) ∷ []) at (OfShelf f') what []
+    pub settles : at < start.shelves → Decides start ((at, OfShelf f) ∷ []) at (OfShelf f') what []
     settles low = record {
       places = λ c. refl;
       right = λ m h. ((alone m h.0.1).new, (alone m h.0.1).answered);
@@ -80,20 +68,17 @@ module _ (start : Beginning) (at : ℕ) where
 
   -- ---- decided by giving back the desk, while the shelf is held
 
-  module _ (f f' : ShelfContent) (d d' : DeskState) (what : Operation)
-      (right : (m : Plain) → IsPart m f → IsDeskOf m d → IsRight m what)
+  module _ (f f' : ShelfContent) (d d' : DeskState) (what : Operation) (right : (m : Plain) → IsPart m f → IsDeskOf m d → IsRight m what)
       (goes : (m : Plain) → IsPart m f → IsDeskOf m d → Goes m (next start m what) f' d') where
     abbrev both : List (ℕ × Content)
     both = (start.shelves, OfDesk d) ∷ (at, OfShelf f) ∷ []
 
     applied_else : (m : Plain) → AllFit start m both → (c : ℕ) (z : Content) → c ≢ at
         → c ≢ start.shelves → FitsBay start m c z → FitsBay start (next start m what) c z
-    applied_else m h c (OfShelf g) ne ne' fits =
-        (fits.0, (goes m h.1.0.1 h.0.1).others c g ne fits.1)
+    applied_else m h c (OfShelf g) ne ne' fits = (fits.0, (goes m h.1.0.1 h.0.1).others c g ne fits.1)
     applied_else m h c (OfDesk e) ne ne' fits = absurd (ne' fits.0)
 
-    pub applies : at < start.shelves
-        → Decides start both start.shelves (OfDesk d') what ((at, OfShelf f') ∷ [])
+    pub applies : at < start.shelves → Decides start both start.shelves (OfDesk d') what ((at, OfShelf f') ∷ [])
     applies low = record {
       places = λ c. refl;
       right = λ m h. right m h.1.0.1 h.0.1;
@@ -107,32 +92,24 @@ module _ (start : Beginning) (at : ℕ) where
     }
 
   pub goes_step : (f f' : ShelfContent) (d d' : DeskState) (step : KeyStep) (now : ℕ) (reply : Reply)
-      → ((m : Plain) → IsPart m f → IsDeskOf m d
-      → GoesByStep start.hash_of start.shelves at step now m reply f' d')
+      → ((m : Plain) → IsPart m f → IsDeskOf m d → GoesByStep start.hash_of start.shelves at step now m reply f' d')
       → (m : Plain) → IsPart m f → IsDeskOf m d → Goes m (next start m (Stepped step now reply)) f' d'
   goes_step f f' d d' step now reply by_step m part desk =
-      subst (λ new. Goes m new f' d') (sym (ap (left_by m) (by_step m part desk).answered))
-      (by_step m part desk).goes
+      subst (λ new. Goes m new f' d') (sym (ap (left_by m) (by_step m part desk).answered)) (by_step m part desk).goes
 
   -- a step's is so by the law
-  pub applies_step : (f f' : ShelfContent) (d d' : DeskState) (step : KeyStep) (now : ℕ)
-      (reply : Reply)
-      → ((m : Plain) → IsPart m f → IsDeskOf m d
-      → GoesByStep start.hash_of start.shelves at step now m reply f' d')
-      → at < start.shelves
+  pub applies_step : (f f' : ShelfContent) (d d' : DeskState) (step : KeyStep) (now : ℕ) (reply : Reply)
+      → ((m : Plain) → IsPart m f → IsDeskOf m d → GoesByStep start.hash_of start.shelves at step now m reply f' d') → at < start.shelves
       → Decides start ((start.shelves, OfDesk d) ∷ (at, OfShelf f) ∷ []) start.shelves (OfDesk d')
       (Stepped step now reply) ((at, OfShelf f') ∷ [])
   applies_step f f' d d' step now reply by_step =
-      applies f f' d d' (Stepped step now reply)
-      (λ m part desk. ((by_step m part desk).new, (by_step m part desk).answered))
+      applies f f' d d' (Stepped step now reply) (λ m part desk. ((by_step m part desk).new, (by_step m part desk).answered))
       (λ m part desk.
-      subst (λ new. Goes m new f' d') (sym (ap (left_by m) (by_step m part desk).answered))
-      (by_step m part desk).goes)
+      subst (λ new. Goes m new f' d') (sym (ap (left_by m) (by_step m part desk).answered)) (by_step m part desk).goes)
 
 -- a state that a shelf and a desk fit
 pub stands : (start : Beginning) (m : Plain) (at : ℕ) (f : ShelfContent) (d : DeskState)
-    (key : List ℕ) → shelf_in start key ≡ at → IsShelfOf start.hash_of start.shelves m at f
-    → IsDeskOf m d → StandsAt key f d m
+    (key : List ℕ) → shelf_in start key ≡ at → IsShelfOf start.hash_of start.shelves m at f → IsDeskOf m d → StandsAt key f d m
 stands start m at f d key own part desk = record {
   greatest = sym part.greatest;
   cut = sym part.cut;
@@ -144,25 +121,20 @@ stands start m at f d key own part desk = record {
 }
 
 -- a shelf and a desk that are held stand for a state
-pub can_stand : (start : Beginning) (at : ℕ) (f : ShelfContent) (d : DeskState) (key : List ℕ)
-    → shelf_in start key ≡ at → (v : SeatView)
-    → v.bays ≡ (start.shelves, OfDesk d) ∷ (at, OfShelf f) ∷ [] → Fitted start v
-    → CanStandAt key f d
+pub can_stand : (start : Beginning) (at : ℕ) (f : ShelfContent) (d : DeskState) (key : List ℕ) → shelf_in start key ≡ at → (v : SeatView)
+    → v.bays ≡ (start.shelves, OfDesk d) ∷ (at, OfShelf f) ∷ [] → Fitted start v → CanStandAt key f d
 can_stand start at f d key own v is fitted =
     let m : Plain = after start start.plain fitted.log in
-    let fits : AllFit start m ((start.shelves, OfDesk d) ∷ (at, OfShelf f) ∷ []) =
-    subst (AllFit start m) is fitted.fits in
+    let fits : AllFit start m ((start.shelves, OfDesk d) ∷ (at, OfShelf f) ∷ []) = subst (AllFit start m) is fitted.fits in
     record { plain = m; stands = stands start m at f d key own fits.1.0.1 fits.0.1 }
 
 -- they are parts of some state
 pub part_held : (start : Beginning) (at : ℕ) (f : ShelfContent) (d : DeskState) (v : SeatView)
     → v.bays ≡ (start.shelves, OfDesk d) ∷ (at, OfShelf f) ∷ [] → Fitted start v
-    → (hash_of : List ℕ → ℕ) × (shelves : ℕ) × (place : ℕ) × (m : Plain)
-    × IsShelfOf hash_of shelves m place f × IsDeskOf m d
+    → (hash_of : List ℕ → ℕ) × (shelves : ℕ) × (place : ℕ) × (m : Plain) × IsShelfOf hash_of shelves m place f × IsDeskOf m d
 part_held start at f d v is fitted =
     let m : Plain = after start start.plain fitted.log in
-    let fits : AllFit start m ((start.shelves, OfDesk d) ∷ (at, OfShelf f) ∷ []) =
-    subst (AllFit start m) is fitted.fits in
+    let fits : AllFit start m ((start.shelves, OfDesk d) ∷ (at, OfShelf f) ∷ []) = subst (AllFit start m) is fitted.fits in
     (start.hash_of, start.shelves, at, m, fits.1.0.1, fits.0.1)
 
 -- what comes of a step in each state that a shelf and a desk stand for comes of it after some history,
@@ -170,12 +142,10 @@ part_held start at f d v is fitted =
 pub comes_after : (start : Beginning) (at : ℕ) (f : ShelfContent) (d : DeskState) (step : KeyStep)
     (now : ℕ) → shelf_in start (key_of step) ≡ at → (v : SeatView)
     → v.bays ≡ (start.shelves, OfDesk d) ∷ (at, OfShelf f) ∷ [] → Fitted start v
-    → (so : Outcome → Type 0) → ((m : Plain) → StandsAt (key_of step) f d m → so (plain m step now))
-    → CanCome start v.past step now so
+    → (so : Outcome → Type 0) → ((m : Plain) → StandsAt (key_of step) f d m → so (plain m step now)) → CanCome start v.past step now so
 comes_after start at f d step now own v is fitted so comes =
     let m : Plain = after start start.plain fitted.log in
-    let fits : AllFit start m ((start.shelves, OfDesk d) ∷ (at, OfShelf f) ∷ []) =
-    subst (AllFit start m) is fitted.fits in
+    let fits : AllFit start m ((start.shelves, OfDesk d) ∷ (at, OfShelf f) ∷ []) = subst (AllFit start m) is fitted.fits in
     record {
       log = fitted.log;
       legal = fitted.legal;
@@ -183,83 +153,9 @@ comes_after start at f d step now own v is fitted so comes =
       outcome = comes m (stands start m at f d (key_of step) own fits.1.0.1 fits.0.1);
     }
 
--- ---- a read that is refused memory
-
--- what a read asks a copy of is answered as a hit
-read_fails : (m : Plain) (step : KeyStep) (now : ℕ) (item : Option Item) (expiry : Option Expiry)
-    → is_read step ≡ true → row_of step now item ≡ Reads expiry
-    → MayFail (changed (row_of step now item) step item (without_dead item (key_of step) m) now)
-read_fails m (Read key) now (Some old) expiry is reads = tt
-read_fails m (ReadTouch key exptime) now (Some old) expiry is reads = tt
-read_fails m (Read key) now None expiry is reads = absurd (cc reads)
-read_fails m (ReadTouch key exptime) now None expiry is reads = absurd (cc reads)
-read_fails m step now item expiry is reads = absurd (cc is)
-
-plain_read : (m : Plain) (step : KeyStep) (now : ℕ) → is_read step ≡ true
-    → plain m step now ≡ stepped m step now
-plain_read m (Read key) now is = refl
-plain_read m (ReadTouch key exptime) now is = refl
-plain_read m step now is = absurd (cc is)
-
--- a shelf that is held has an item that a read copies, and so has the state after some history
-pub reads_after : (start : Beginning) (at : ℕ) (f : ShelfContent) (below : List (ℕ × Content))
-    (step : KeyStep) (now : ℕ) → shelf_in start (key_of step) ≡ at → (v : SeatView)
-    → v.bays ≡ (at, OfShelf f) ∷ below → Fitted start v → is_read step ≡ true
-    → (expiry : Option Expiry) × (row_at f step now ≡ Reads expiry)
-    → MayFailAfter start v.past step now
-reads_after start at f below step now own v is fitted read reads =
-    let m : Plain = after start start.plain fitted.log in
-    let fits : AllFit start m ((at, OfShelf f) ∷ below) = subst (AllFit start m) is fitted.fits in
-    let stood : alive f.cut now (get f.items (key_of step)) ≡ standing m (key_of step) now =
-    λ i. alive (fits.0.1.cut i) now (fits.0.1.items (key_of step) own i) in
-    record {
-      log = fitted.log;
-      legal = fitted.legal;
-      keeps = fitted.keeps;
-      outcome = subst MayFail (sym (plain_read m step now read))
-          (read_fails m step now (standing m (key_of step) now) reads.0 read
-          (subst (λ item. row_of step now item ≡ Reads reads.0) stood reads.1));
-    }
-
--- what reads an item writes none
-tells_only : (dead : Bool) (reply : Reply) → writes (answered dead reply) ≡ true → ⊥
-tells_only true reply e = true≢false (sym e)
-tells_only false reply e = true≢false (sym e)
-
-reads_only : (dead : Bool) (greatest : ℕ) (step : KeyStep) (now : ℕ) (item : Option Item) → is_read step ≡ true
-    → writes (next_by dead greatest step item (row_of step now item)) ≡ true → ⊥
-reads_only dead greatest (Read key) now None is e = tells_only dead Miss e
-reads_only dead greatest (Read key) now (Some old) is e = tells_only dead (hit_of (Some old)) e
-reads_only dead greatest (ReadTouch key exptime) now None is e = tells_only dead Miss e
-reads_only dead greatest (ReadTouch key exptime) now (Some old) is e = true≢false (sym e)
-reads_only dead greatest step now item is e = absurd (cc is)
-
-pub read_writes : (f : ShelfContent) (step : KeyStep) (now : ℕ) → is_read step ≡ true
-    → writes (next_of f step now) ≡ true → ⊥
-read_writes f step now is e =
-    let found : Option Item = get f.items (key_of step) in
-    reads_only (is_gone f.cut now found) f.greatest step now (alive f.cut now found) is e
-
--- a look that is refused memory for a read found an item
-pub look_reads : (f : ShelfContent) (step : KeyStep) (now : ℕ) → is_read step ≡ true
-    → LookTakesMemory step now f
-    → (expiry : Option Expiry) × (row_at f step now ≡ Reads expiry)
-look_reads f step now is (inl reads) = reads
-look_reads f step now is (inr writes_new) = absurd (read_writes f step now is writes_new.1)
-
--- a look at a shelf that is held is refused memory for a read
-pub look_fails : {K : Type 0} (hash_of : K → List ℕ → ℕ) (shared : SharedState K) (seat : Sitter) (at : ℕ)
-    (f : ShelfContent) (ask : Ask) → HoldsShelf hash_of shared seat at f → IsAsked hash_of shared ask → at ≡ ask.at
-    → is_read ask.step.now ≡ true → LookTakesMemory ask.step.now ask.moment f
-    → MayFailAfter (start_of hash_of shared.began) seat.me.0.past ask.step.now ask.moment
-look_fails hash_of shared seat at f ask holds asked same read memory =
-    reads_after (start_of hash_of shared.began) at f [] ask.step.now ask.moment (asked.own ∙ sym same) seat.me.0
-    (ap (λ (m : Mine). m.0.bays) holds.held) holds.fits read (look_reads f ask.step.now ask.moment read memory)
-
 -- what is told of a fault
 pub refuses : {A : Type 0} (start : Beginning) (p : Past) (step : KeyStep) (now : ℕ) (result : Result A StepFault)
-    (fault : StepFault) → result ≡ Err fault
-    → (result ≡ Err NoMemory → MayFailAfter start p step now)
+    (fault : StepFault) → result ≡ Err fault → (result ≡ Err NoMemory → MayFailAfter start p step now)
     → (result ≡ Err NumbersSpent → IsSpentAfter start p step now) → Refuses start p step now fault
 refuses start p step now result NoMemory is wants spent = λ _. wants is
 refuses start p step now result NumbersSpent is wants spent = spent is

@@ -1,7 +1,7 @@
 -- Shelves to whose places others of no items came are the parts of the state that a flush at once leaves.
-use Rattle.mc_shared.proofs.Words.{◌≡◌, ◌≢◌, ◌≤◌, ◌<◌, ℕ, zero, suc, ◌+◌, ◌-◌, List, [], ◌∷◌, ◌++◌, length, length-set, get_or, take, Some, None, slice_get, slice_set, refl, sym, ap, subst, ◌∙◌}
-use Rattle.mc_shared.proofs.Words.{arith, ⊎_elim, none-some, empty, get, get-empty, Plain, flushed, DeskState, ShelfContent, ShelfState, ArePartsOf, IsShelfOf, order, get_or-replicate, take_more}
-use Rattle.mc_shared.proofs.Words.{take_all, get_or_from_slice_get, slice_get_within, Option, option_to_list, count_of, nothing_held, put_cases, AreEmptied, IsEmptied}
+use Rattle.mc_shared.proofs.Words.{◌≡◌, ◌≢◌, ◌≤◌, ◌<◌, ℕ, zero, suc, ◌+◌, ◌-◌, List, [], ◌∷◌, ◌++◌, length, length-set, get_or, take, Some, None, slice_get, slice_set, refl, sym, ap, subst}
+use Rattle.mc_shared.proofs.Words.{◌∙◌, arith, ⊎_elim, none-some, empty, get, get-empty, Plain, flushed, DeskState, ShelfContent, ShelfState, ArePartsOf, IsShelfOf, order, get_or-replicate}
+use Rattle.mc_shared.proofs.Words.{take_more, take_all, get_or_from_slice_get, slice_get_within, Option, option_to_list, count_of, nothing_held, put_cases, AreEmptied, IsEmptied}
 use Rattle.mc_shelf.specs.Asides.{none_out}
 
 bare_part : {hash_of : List ℕ → ℕ} {count at : ℕ} {state : Plain} {old new : ShelfContent} → IsShelfOf hash_of count state at old → new ≡ nothing_held old.greatest
@@ -27,8 +27,7 @@ emptied {hash_of} {state} {old} {new} {count} {desk} {desk'} now none parts are 
     pages = ap (λ (d : DeskState). d.slab.pages) is ∙ parts.account.pages;
     out = λ class is_class.
         ap (λ (d : DeskState). get_or d.slab.out (class - 1) 0) is
-        ∙ get_or-replicate 40 (class - 1) 0 0 (omega (arith, is_class.0, is_class.1))
-        ∙ sym (none class);
+        ∙ get_or-replicate 40 (class - 1) 0 0 (omega (arith, is_class.0, is_class.1)) ∙ sym (none class);
   };
 }
 
@@ -51,11 +50,9 @@ emptied_more {old} {at} {new} {aside} to {was} bare {more} here holds more_is =
       gone = λ k shelf less stands.
           ⊎_elim
           (λ h. subst (λ (p : ℕ × ShelfState). IsEmptied old p.0 p.1) (λ i. (sym h.0 i, sym h.1 i)) (record { was = was; there = there; holds = holds }))
-          (λ h. to.gone k shelf (let apart = h.0 in omega (arith, less, apart)) h.1)
-          (put_cases new at bare k shelf stands);
+          (λ h. to.gone k shelf (let apart = h.0 in omega (arith, less, apart)) h.1) (put_cases new at bare k shelf stands);
       still = λ k from. other_stays new at bare k (λ same. omega (arith, from, same)) ∙ to.still k (omega (arith, from));
-      aside_is =
-          more_is ∙ ap (λ l. l ++ was ∷ []) to.aside_is
+      aside_is = more_is ∙ ap (λ l. l ++ was ∷ []) to.aside_is
           ∙ sym (take_more old at was (slice_get_within old at was there) ∙ ap (λ x. take at old ++ x ∷ []) (get_or_from_slice_get old at was was there));
     }
   where

@@ -1,10 +1,10 @@
 -- A seat that holds one bay, or two.
-use Rattle.mc_shared.proofs.Words.{◌≡◌, ℕ, zero, suc, List, [], ◌∷◌, ◌++◌, None, Result, Ok, Err, replicate, refl, sym, ap, ◌∙◌, subst, ◌<◌, ◌-◌, ◌%◌, ◌^◌, arith, rest, Content, place, OfShelf}
-use Rattle.mc_shared.proofs.Words.{OfDesk, Past, Lives, call, SeatView, Mine, Fitted, HasTaken, HoldsThis, holding, without, decided_by, entry_of, loaded, newcomer, met, next_name, Agrees}
-use Rattle.mc_shared.proofs.Words.{Decides, Counts, MayAdd, MayCount, Desk, holds_one, holds_two, CanCome, Refuses, KeyStep, key_of, StepFault, NoMemory, NumbersSpent, Plain, Outcome, Spent}
-use Rattle.mc_shared.proofs.Words.{MayFail, plain, ShelfContent, DeskState, CanStandAt, StandsAt, Reply, Beginning, Operation, Stepped, start_of, shelf_in, AreKeyCounts, AreCountsBy, len}
-use Rattle.mc_shared.proofs.Words.{SharedState, CallerState, HoldsShelf, HoldsBoth, IsAsked, Sitter, IsTableOf, IsAnswered, MayDecide, Rests, StoreState, TableId, HoldsLast, resting, IsSpent}
-use Rattle.mc_shared.proofs.Words.{MayWantMemory, SameSeat, IsSeatOf, IsAlive, IsFree, caller_at, Ask, IsOnKey, IsShelfOf, PlanIsSettled, goes_without_desk}
+use Rattle.mc_shared.proofs.Words.{◌≡◌, ℕ, zero, suc, List, [], ◌∷◌, ◌++◌, None, Result, Ok, Err, replicate, refl, sym, ap, ◌∙◌, subst, ◌<◌, ◌-◌, ◌%◌, ◌^◌, arith, rest, Content, place}
+use Rattle.mc_shared.proofs.Words.{OfShelf, OfDesk, Past, Lives, call, SeatView, Mine, Fitted, HasTaken, HoldsThis, holding, without, decided_by, entry_of, loaded, newcomer, met, next_name}
+use Rattle.mc_shared.proofs.Words.{Agrees, Decides, Counts, MayAdd, MayCount, Desk, holds_one, holds_two, CanCome, Refuses, KeyStep, key_of, StepFault, NoMemory, NumbersSpent, Plain}
+use Rattle.mc_shared.proofs.Words.{Outcome, Spent, MayFail, plain, ShelfContent, DeskState, CanStandAt, StandsAt, Reply, Beginning, Operation, Stepped, start_of, shelf_in, AreKeyCounts}
+use Rattle.mc_shared.proofs.Words.{AreCountsBy, len, SharedState, CallerState, HoldsShelf, HoldsBoth, IsAsked, Sitter, IsTableOf, IsAnswered, MayDecide, Rests, StoreState, TableId}
+use Rattle.mc_shared.proofs.Words.{HoldsLast, resting, IsSpent, MayWantMemory, SameSeat, IsSeatOf, IsAlive, IsFree, caller_at, Ask, IsOnKey, IsShelfOf, PlanIsSettled, goes_without_desk}
 use Rattle.mc_shared.proofs.NamedKept.{lives_start, lives_both}
 use Rattle.mc_shared.proofs.NumberSteps.{may_add, counts_settled}
 use Rattle.mc_shared.proofs.NumberSweeps.{may_count_one, shelf_counted}
@@ -23,8 +23,7 @@ taken_held me was b x e = ((x, top_of me.0.bays (b, x) was.0.bays (ap (λ m. m.0
 
 -- a seat's caller lives on while its past stays
 pub lives_on : {K : Type 0} (table : TableId) (began : StoreState K) (old new : Sitter) (m : Mine)
-    → IsAlive table began old → SameSeat old new → new.me ≡ m → m.0.past ≡ old.me.0.past
-    → IsAlive table began new
+    → IsAlive table began old → SameSeat old new → new.me ≡ m → m.0.past ≡ old.me.0.past → IsAlive table began new
 lives_on table began old new m alive same is past = record {
   seated = record { own = same.0 ∙ alive.seated.own; fit = alive.seated.fit };
   lives = subst Lives (sym (ap (λ (n : Mine). n.0.past) is ∙ past)) alive.lives;

@@ -1,6 +1,7 @@
 -- What a read is told of the item that is found standing under its key.
-use Rattle.mc_shared.proofs.Words.{◌≡◌, cond, Bool, true, false, ℕ, zero, suc, ◌-◌, ◌≤◌, List, [], ◌∷◌, length, drop, get_or, Option, Some, None, refl, ap, arith, is_dead, alive, Entry as Item}
-use Rattle.mc_shared.proofs.Words.{parts_of, is_gone, is_none, concat, size_of, item_need, stored, found_of, is_read, IsOnKey, KeyStep, Read, ReadTouch, AreLentParts, IsLentPart}
+use Rattle.mc_shared.proofs.Words.{◌≡◌, cond, Bool, true, false, ℕ, zero, suc, ◌-◌, ◌≤◌, List, [], ◌∷◌, length, drop, get_or, Option, Some, None, refl, ap, arith, is_dead, alive}
+use Rattle.mc_shared.proofs.Words.{Entry as Item, parts_of, is_gone, is_none, concat, size_of, item_need, stored, found_of, is_read, IsOnKey, KeyStep, Read, ReadTouch, AreLentParts}
+use Rattle.mc_shared.proofs.Words.{IsLentPart}
 use Rattle.mc_item.specs.Items.{front_of, pieces}
 use Rattle.mc_shelf.specs.Lent.{HitState}
 use Rattle.mc_shelf.specs.declared.hit.Found.{Found}

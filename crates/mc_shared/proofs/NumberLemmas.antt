@@ -1,6 +1,6 @@
 -- How many keys of a map pass a test.
-use Rattle.mc_shared.proofs.Words.{◌≡◌, ◌≢◌, ℕ, suc, ◌+◌, ◌≤◌, Bool, true, false, true≢false, cond, List, [], ◌∷◌, length, Option, Some, None, is_some, refl, sym, ap, ◌∙◌, arith, Less, Equal}
-use Rattle.mc_shared.proofs.Words.{Greater, get, len, retain_keys, empty, get-empty, Items, Entry, order, same_maps, get_kept, get_gone, insert, remove, entries, entries_sorted}
+use Rattle.mc_shared.proofs.Words.{◌≡◌, ◌≢◌, ℕ, suc, ◌+◌, ◌≤◌, Bool, true, false, true≢false, cond, List, [], ◌∷◌, length, Option, Some, None, is_some, refl, sym, ap, ◌∙◌, arith, Less}
+use Rattle.mc_shared.proofs.Words.{Equal, Greater, get, len, retain_keys, empty, get-empty, Items, Entry, order, same_maps, get_kept, get_gone, insert, remove, entries, entries_sorted}
 use Rattle.mc_shared.proofs.Words.{entries-from_sorted, from_sorted, get-entries, get-from_sorted, get-remove, is_sorted, len-empty, len-entries, len-insert, empty_of_len, same_key}
 use lib.Dec.{T}
 use Rattle.std.specs.Ordering.{is_eq}
@@ -25,8 +25,7 @@ without_same a b key same = same_maps _ _ (λ q.
 -- where nothing stands under a key, there is nothing to take out
 pub nothing_out : (a : Items) (key : List ℕ) → get a key ≡ None → remove a key ≡ a
 nothing_out a key none = same_maps _ _ (λ q.
-    get-remove nat_list_cmp_total a key q
-    ∙ elim (order q key) as (λ r. order q key ≡ r → cond (is_eq r) None (get a q) ≡ get a q) [
+    get-remove nat_list_cmp_total a key q ∙ elim (order q key) as (λ r. order q key ≡ r → cond (is_eq r) None (get a q) ≡ get a q) [
       | Less ↦ λ e. refl
       | Equal ↦ λ e. sym (ap (λ (k : List ℕ). get a k) (same_key q key e) ∙ none)
       | Greater ↦ λ e. refl
@@ -58,9 +57,7 @@ len_without a key =
 pub len_change : (a b : Items) (key : List ℕ) → ((q : List ℕ) → q ≢ key → get a q ≡ get b q) → len a + there (get b key) ≡ len b + there (get a key)
 len_change a b key same =
     let rests : len (remove a key) ≡ len (remove b key) = ap (λ (m : Items). len m) (without_same a b key same) in
-    let of_a = len_without a key in
-    let of_b = len_without b key in
-    omega (arith, rests, of_a, of_b)
+    let of_a = len_without a key in let of_b = len_without b key in omega (arith, rests, of_a, of_b)
 
 module _ (keep : List ℕ → Bool) where
   -- maps that have the same under the keys of a test
@@ -99,8 +96,7 @@ module _ (keep : List ℕ → Bool) where
   pub none_counted : (a : Items) → len (retain_keys a keep) ≡ 0 → (key : List ℕ) → keep key ≡ true → get a key ≡ None
   none_counted a zero key passes =
       sym (get_kept a keep key ∙ ap (λ t. cond t (get a key) None) passes)
-      ∙ ap (λ (m : Items). get m key) (empty_of_len (retain_keys a keep) zero)
-      ∙ get-empty order key
+      ∙ ap (λ (m : Items). get m key) (empty_of_len (retain_keys a keep) zero) ∙ get-empty order key
 
   -- no more pass than there are
   shorter : (es : List (List ℕ × Entry)) → length (where_key order keep es) ≤ length es
@@ -115,8 +111,7 @@ module _ (keep : List ℕ → Bool) where
       let sorted : T (is_sorted order es) = is_sorted-where_key order keep (entries a) (entries_sorted a) in
       let alike : (q x : List ℕ) → order q x ≡ Equal → keep x ≡ keep q = λ q x h. ap keep (sym (same_key q x h)) in
       let same : retain_keys a keep ≡ from_sorted es = same_maps _ _ (λ q.
-      get_kept a keep q
-      ∙ ap (λ (o : Option Entry). cond (keep q) o None) (get-entries a q)
+      get_kept a keep q ∙ ap (λ (o : Option Entry). cond (keep q) o None) (get-entries a q)
       ∙ sym (get-from_sorted order es q sorted ∙ find-where_key order keep q (alike q) (entries a))) in
       ap (λ (m : Items). entries m) same ∙ entries-from_sorted order es sorted
 

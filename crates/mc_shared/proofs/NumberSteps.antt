@@ -1,8 +1,8 @@
 -- By how much the keys of each number change in a decision.
-use Rattle.mc_shared.proofs.Words.{◌≡◌, ◌≢◌, ◌==◌, ℕ, zero, suc, ◌+◌, ◌-◌, ◌*◌, ◌/◌, ◌%◌, ◌^◌, ◌≤◌, ◌<◌, true, false, cond, eqb, Option, Some, None, is_some, List, [], ◌∷◌, replicate, refl, sym}
-use Rattle.mc_shared.proofs.Words.{ap, ◌∙◌, subst, arith, eq-eqb, ne_eqb, mod-lt, div-add-mod', dite, ℕ_discrete, get, len, retain_keys, empty, get-empty, Plain, Items, Entry, ShelfContent}
-use Rattle.mc_shared.proofs.Words.{DeskState, shelf_of, IsShelfOf, GoesTo, order, get_kept, total, number_of, keys_with, word_of, Beginning, Operation, shelf_in, next, Content, OfShelf, OfDesk}
-use Rattle.mc_shared.proofs.Words.{SeatView, FitsBay, AllFit, holds_bay, times, named, Counts, MayAdd}
+use Rattle.mc_shared.proofs.Words.{◌≡◌, ◌≢◌, ◌==◌, ℕ, zero, suc, ◌+◌, ◌-◌, ◌*◌, ◌/◌, ◌%◌, ◌^◌, ◌≤◌, ◌<◌, true, false, cond, eqb, Option, Some, None, is_some, List, [], ◌∷◌, replicate, refl}
+use Rattle.mc_shared.proofs.Words.{sym, ap, ◌∙◌, subst, arith, eq-eqb, ne_eqb, mod-lt, div-add-mod', dite, ℕ_discrete, get, len, retain_keys, empty, get-empty, Plain, Items, Entry}
+use Rattle.mc_shared.proofs.Words.{ShelfContent, DeskState, shelf_of, IsShelfOf, GoesTo, order, get_kept, total, number_of, keys_with, word_of, Beginning, Operation, shelf_in, next, Content}
+use Rattle.mc_shared.proofs.Words.{OfShelf, OfDesk, SeatView, FitsBay, AllFit, holds_bay, times, named, Counts, MayAdd}
 use Rattle.mc_shared.proofs.StockedKept.{here, elsewhere}
 use Rattle.mc_shared.proofs.WordLemmas.{words_apart}
 use Rattle.mc_shared.proofs.NumberLemmas.{there, kept_same, len_change, count_here, count_most, count_other}
@@ -101,13 +101,12 @@ module _ (start : Beginning) (at : ℕ) (divides : 4096 / start.shelves * start.
             ∙ (count_other (λ k. number_of start.hash_of k == n) f'.items f.items key others (ne_eqb number n (λ h. ne (sym h)))
             ∙ sym (own_at start at (4096 / start.shelves) divides m f g.0 n here)))
             (λ off. others_stay start at (4096 / start.shelves) divides m m' f f' g.1.0 g.0 g.1.1 n off) in omega (arith, was', is', same));
-        owned = λ x some_named. dite (ℕ_discrete x word)
-            (λ e. record {
-              number = number;
-              below = below;
-              is = e;
-              held = subst (λ b. 1 ≤ times b w) (sym own_number) (holds (let all : named x w ≡ left = ap (λ y. named y w) e ∙ is word ∙ named_so word left in omega (arith, all, some_named)));
-            })
+        owned = λ x some_named. dite (ℕ_discrete x word) (λ e. record {
+          number = number;
+          below = below;
+          is = e;
+          held = subst (λ b. 1 ≤ times b w) (sym own_number) (holds (let all : named x w ≡ left = ap (λ y. named y w) e ∙ is word ∙ named_so word left in omega (arith, all, some_named)));
+        })
             (λ ne. absurd (let none = is x ∙ named_not x word left ne in omega (arith, none, some_named)));
       }
 
@@ -181,6 +180,5 @@ module _ (start : Beginning) (divides : 4096 / start.shelves * start.shelves ≡
   pub keys_alike : (bays : List (ℕ × Content)) → 1 ≤ total (holds_bay (n % start.shelves)) bays → AllFit start m bays → AllFit start m' bays
       → keys_with start.hash_of n m.items ≡ keys_with start.hash_of n m'.items
   keys_alike [] some fits fits' = absurd (omega (arith, some))
-  keys_alike ((b, x) ∷ bays) some fits fits' = dite (ℕ_discrete (n % start.shelves) b)
-      (λ e. of_bay b x e fits.0 fits'.0)
+  keys_alike ((b, x) ∷ bays) some fits fits' = dite (ℕ_discrete (n % start.shelves) b) (λ e. of_bay b x e fits.0 fits'.0)
       (λ ne. let none = elsewhere b (n % start.shelves) x ne in keys_alike bays (omega (arith, some, none)) fits.1 fits'.1)

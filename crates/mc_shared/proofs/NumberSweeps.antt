@@ -1,9 +1,9 @@
 -- By how much the keys of each number change where many go at once.
 use Rattle.mc_shared.proofs.Words.{◌≡◌, ◌≢◌, ◌==◌, ℕ, suc, ◌+◌, ◌-◌, ◌*◌, ◌/◌, ◌%◌, ◌≤◌, ◌<◌, Bool, true, false, ◌||◌, cond, eqb, if◌then◌else◌, Option, Some, None, is_some, List, [], ◌∷◌}
-use Rattle.mc_shared.proofs.Words.{length, slice_get, slice_index, refl, sym, ap, ◌∙◌, subst, arith, mod-lt, none-some, dite, ℕ_discrete, get, len, retain_keys, empty, get-empty, moment_named}
-use Rattle.mc_shared.proofs.Words.{Plain, Items, Entry, alive, flushed, living, Flush, Flushed, ShelfContent, ShelfState, DeskState, keys_with, number_of, IsShelfOf, ArePartsOf, GoesTo, order}
-use Rattle.mc_shared.proofs.Words.{same_maps, get_kept, total, Content, OfShelf, OfDesk, word_of, spread, keys_in, Beginning, Operation, Purged, Stepped, shelf_in, next, after, SeatView, AllFit}
-use Rattle.mc_shared.proofs.Words.{holds_bay, times, named, Past, AreCountsBy, Mine, Counts, MayCount, Fitted, stacked, holds_all, holds_one, AreKeyCounts}
+use Rattle.mc_shared.proofs.Words.{length, slice_get, slice_index, refl, sym, ap, ◌∙◌, subst, arith, mod-lt, none-some, dite, ℕ_discrete, get, len, retain_keys, empty, get-empty}
+use Rattle.mc_shared.proofs.Words.{moment_named, Plain, Items, Entry, alive, flushed, living, Flush, Flushed, ShelfContent, ShelfState, DeskState, keys_with, number_of, IsShelfOf}
+use Rattle.mc_shared.proofs.Words.{ArePartsOf, GoesTo, order, same_maps, get_kept, total, Content, OfShelf, OfDesk, word_of, spread, keys_in, Beginning, Operation, Purged, Stepped, shelf_in}
+use Rattle.mc_shared.proofs.Words.{next, after, SeatView, AllFit, holds_bay, times, named, Past, AreCountsBy, Mine, Counts, MayCount, Fitted, stacked, holds_all, holds_one, AreKeyCounts}
 use Rattle.std.proofs.Common.{not}
 use Rattle.mc_shared.proofs.WordLemmas.{number_inside}
 use Rattle.mc_shared.proofs.StockedKept.{here}
@@ -42,20 +42,18 @@ narrow true (Some e) o is = is
 narrow false (Some e) o is = absurd (none-some e (sym is))
 
 flushed_within : (delay now : ℕ) (m : Plain) → IsWithin (flushed delay m now).items m.items
-flushed_within delay now m key = either (delay == 0)
-  where
-    left : Bool → Plain
-    left b = if b then record m { items = empty; cut = None } else record m { items = living m.items m.cut now; cut = Some (moment_named delay now) }
+flushed_within delay now m key = either (delay == 0) where
+  left : Bool → Plain
+  left b = if b then record m { items = empty; cut = None } else record m { items = living m.items m.cut now; cut = Some (moment_named delay now) }
 
-    either : (b : Bool) → get (left b).items key ≡ cond (is_some (get (left b).items key)) (get m.items key) None
-    either true = narrow false (get empty key) (get m.items key) (get-empty order key)
-    either false = narrow (is_some (alive m.cut now (get m.items key))) (get (living m.items m.cut now) key) (get m.items key) (get_kept m.items (λ k. is_some (alive m.cut now (get m.items k))) key)
+  either : (b : Bool) → get (left b).items key ≡ cond (is_some (get (left b).items key)) (get m.items key) None
+  either true = narrow false (get empty key) (get m.items key) (get-empty order key)
+  either false = narrow (is_some (alive m.cut now (get m.items key))) (get (living m.items m.cut now) key) (get m.items key) (get_kept m.items (λ k. is_some (alive m.cut now (get m.items k))) key)
 
 -- ---- a decision by which so many keys of each number go
 
 pub counts_gone : (start : Beginning) → AreApart start.shelves → (gone : ℕ → ℕ) (v w : SeatView) (what : Operation)
-    → v.surplus ≡ [] → w.surplus ≡ spread start.shelves gone 0 4096
-    → ((n : ℕ) → n < 4096 → 1 ≤ gone n → 1 ≤ times (n % start.shelves) w)
+    → v.surplus ≡ [] → w.surplus ≡ spread start.shelves gone 0 4096 → ((n : ℕ) → n < 4096 → 1 ≤ gone n → 1 ≤ times (n % start.shelves) w)
     → ((m : Plain) → AllFit start m v.bays → (n : ℕ) → n < 4096 → keys_with start.hash_of n m.items ≡ keys_with start.hash_of n (next start m what).items + gone n)
     → Counts start v what w
 counts_gone start apart gone v w what had has held weighed =
@@ -75,12 +73,7 @@ counts_gone start apart gone v w what had has held weighed =
           let below : inside.0 < 4096 = omega (arith, high) in
           let is = named_is inside.0 below in
           let same : named word w ≡ named (word_of start.shelves inside.0) w = ap (λ (x : ℕ). named x w) inside.3 in
-          record {
-            number = inside.0;
-            below = below;
-            is = inside.3;
-            held = held inside.0 below (omega (arith, is, same, some));
-          };
+          record { number = inside.0; below = below; is = inside.3; held = held inside.0 below (omega (arith, is, same, some)) };
     }
 
 -- ---- a shelf is purged
@@ -108,8 +101,7 @@ module _ (start : Beginning) (at : ℕ) (divides : 4096 / start.shelves * start.
 
   pub counts_swept : AreApart start.shelves → (before : ℕ → ℕ) → ((n : ℕ) → n < 4096 → before n ≡ keys_with start.hash_of n f.items)
       → (v w : SeatView) (below_it : List (ℕ × Content)) → v.surplus ≡ []
-      → w.surplus ≡ spread start.shelves (λ n. before n - keys_with start.hash_of n f'.items) 0 4096
-      → w.bays ≡ (at, OfShelf f') ∷ below_it
+      → w.surplus ≡ spread start.shelves (λ n. before n - keys_with start.hash_of n f'.items) 0 4096 → w.bays ≡ (at, OfShelf f') ∷ below_it
       → (some : Plain) → AllFit start some v.bays → ((m : Plain) → AllFit start m v.bays → Goes m) → Counts start v what w
   counts_swept apart before counted v w below_it had has holds some fit goes =
       counts_gone start apart (λ n. before n - keys_with start.hash_of n f'.items) v w what had has

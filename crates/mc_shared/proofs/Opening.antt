@@ -1,8 +1,8 @@
 -- The rule at the start.
-use Rattle.mc_shared.proofs.Words.{◌≡◌, ◌⊎◌, ℕ, zero, suc, ◌+◌, ◌*◌, ◌/◌, ◌≤◌, ◌<◌, set, length-set, get_or-set_other, get_or-set_same, Some, List, [], ◌∷◌, ◌++◌, length, map, get_or, slice_get}
-use Rattle.mc_shared.proofs.Words.{sym, refl, ap, ◌∙◌, subst, inl, inr, ⊎_elim, arith, dite, ℕ_discrete, some, some-injective, some-ne-none, get_elem?, opening, ShelfState, DeskState, ArePartsOf}
-use Rattle.mc_shared.proofs.Words.{Shelf, Desk, Beginning, Name, start_of, SeatView, starting, Sound, Lives, spent, AllFit, Kept, AreFirst, AreFilled, named, Slot, place, shelf_slot, spaced}
-use Rattle.mc_shared.proofs.Words.{word_of, words_with, AreAllOf, AreCountsOfAll, TableId, StoreState, IsTableOf, desk_slot, slot_alone}
+use Rattle.mc_shared.proofs.Words.{◌≡◌, ◌⊎◌, ℕ, zero, suc, ◌+◌, ◌*◌, ◌/◌, ◌≤◌, ◌<◌, set, length-set, get_or-set_other, get_or-set_same, Some, List, [], ◌∷◌, ◌++◌, length, map, get_or}
+use Rattle.mc_shared.proofs.Words.{slice_get, sym, refl, ap, ◌∙◌, subst, inl, inr, ⊎_elim, arith, dite, ℕ_discrete, some, some-injective, some-ne-none, get_elem?, opening, ShelfState}
+use Rattle.mc_shared.proofs.Words.{DeskState, ArePartsOf, Shelf, Desk, Beginning, Name, start_of, SeatView, starting, Sound, Lives, spent, AllFit, Kept, AreFirst, AreFilled, named, Slot}
+use Rattle.mc_shared.proofs.Words.{place, shelf_slot, spaced, word_of, words_with, AreAllOf, AreCountsOfAll, TableId, StoreState, IsTableOf, desk_slot, slot_alone}
 use Rattle.mc_shared.proofs.WordLemmas.{words_apart, word_behind, word_inside, bays_inside}
 use Rattle.mc_shared.proofs.NamedKept.{sound_start}
 use Rattle.mc_shared.specs.Past as past
@@ -36,12 +36,7 @@ pub opens : (began : Beginning) (shelves : List ShelfState) (desk : DeskState) �
     → (words : List ℕ) → AreFirst began words → Kept began (opening words (slots shelves desk) starting)
 opens began shelves desk parts words first = record {
   log = [];
-  story = record {
-    legal = tt;
-    ordered = only (λ v. past.Ordered [] v.past) tt;
-    balanced = λ h. refl;
-    known = λ g. omega arith;
-  };
+  story = record { legal = tt; ordered = only (λ v. past.Ordered [] v.past) tt; balanced = λ h. refl; known = λ g. omega arith };
   named = record {
     sound = only (λ v. Sound v.past) (sound_start [] spent);
     once = λ c. first_once c;

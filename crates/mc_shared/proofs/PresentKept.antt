@@ -1,7 +1,7 @@
 -- What keeps the presence words in step with the keys.
 use Rattle.mc_shared.proofs.Words.{◌≡◌, ◌≢◌, ℕ, ◌+◌, ◌%◌, ◌≤◌, ◌<◌, List, [], ◌∷◌, ◌++◌, length, replicate, get_or, set, cond, eqb, sym, ap, ◌∙◌, subst, ⊎_elim, arith, get_or-set_other}
-use Rattle.mc_shared.proofs.Words.{get_or-set_same, dite, some, ℕ_discrete, get_elem?, Plain, Bay, place, total, keys_with, word_of, Beginning, HistoryEntry, name_of, Lives}
-use Rattle.mc_shared.proofs.Words.{Whole, SeatView, holds_bay, times, named, Present, Stocked, Story, Named, IsHeldWord}
+use Rattle.mc_shared.proofs.Words.{get_or-set_same, dite, some, ℕ_discrete, get_elem?, Plain, Bay, place, total, keys_with, word_of, Beginning, HistoryEntry, name_of, Lives, Whole, SeatView}
+use Rattle.mc_shared.proofs.Words.{holds_bay, times, named, Present, Stocked, Story, Named, IsHeldWord}
 use Rattle.mc_shared.proofs.Sums.{sum_set, sum_two, total-append, each_set, each_snoc}
 use Rattle.mc_shared.proofs.NamedKept.{total_zero, total_one, alone}
 use Rattle.mc_shared.proofs.WordLemmas.{words_apart, word_behind}
@@ -24,8 +24,7 @@ pub present_step : (start : Beginning) (m m' : Plain) (words words' : List ℕ) 
     → ((n : ℕ) → n < 4096
     → get_or words' (word_of start.shelves n) 0 + keys_with start.hash_of n m.items + named (word_of start.shelves n) v ≡ get_or words
     (word_of start.shelves n) 0 + keys_with start.hash_of n m'.items + named (word_of start.shelves n) w)
-    → ((word : ℕ) → 1 ≤ named word w → IsHeldWord start w word)
-    → Present start m' words' (set views id w)
+    → ((word : ℕ) → 1 ≤ named word w → IsHeldWord start w word) → Present start m' words' (set views id w)
 present_step start m m' words words' views id v w p at moves owns = record {
   divides = p.divides;
   counts = λ n l. let c = p.counts n l in let t = sum_set (named (word_of start.shelves n)) views id v w at in let e = moves n l in omega (arith, c, t, e);

@@ -6,8 +6,7 @@ use Rattle.mc_shared.proofs.NumberSteps.{named_so, named_not}
 
 -- words of different numbers differ
 abbrev pub AreApart : ℕ → Type 0
-AreApart shelves =
-    (n k : ℕ) → n < 4096 → k < 4096 → word_of shelves n ≡ word_of shelves k → n ≡ k
+AreApart shelves = (n k : ℕ) → n < 4096 → k < 4096 → word_of shelves n ≡ word_of shelves k → n ≡ k
 
 module _ (shelves : ℕ) (gone : ℕ → ℕ) where
   -- the first number's words come first
@@ -20,8 +19,7 @@ module _ (shelves : ℕ) (gone : ℕ → ℕ) where
   unfolding spread
   spread_none number = refl
 
-  split : (number count word : ℕ)
-      → total (λ x. cond (eqb word x) 1 0) (spread shelves gone number (suc count))
+  split : (number count word : ℕ) → total (λ x. cond (eqb word x) 1 0) (spread shelves gone number (suc count))
       ≡ total (λ x. cond (eqb word x) 1 0) (replicate (gone number) (word_of shelves number))
       + total (λ x. cond (eqb word x) 1 0) (spread shelves gone (number + 1) count)
   split number count word =
@@ -33,14 +31,12 @@ module _ (shelves : ℕ) (gone : ℕ → ℕ) where
   empty number word = ap (total (λ x. cond (eqb word x) 1 0)) (spread_none number)
 
   -- a word that is named is one of those numbers'
-  pub spread_within : (number count word : ℕ)
-      → 1 ≤ total (λ x. cond (eqb word x) 1 0) (spread shelves gone number count)
+  pub spread_within : (number count word : ℕ) → 1 ≤ total (λ x. cond (eqb word x) 1 0) (spread shelves gone number count)
       → (n : ℕ) × (number ≤ n) × (n < number + count) × (word ≡ word_of shelves n)
   spread_within number zero word some = absurd (let none = empty number word in omega (arith, none, some))
   spread_within number (suc count) word some =
       let parts = split number count word in
-      dite (ℕ_discrete word (word_of shelves number))
-      (λ e. (number, omega arith, omega arith, e))
+      dite (ℕ_discrete word (word_of shelves number)) (λ e. (number, omega arith, omega arith, e))
       (λ ne.
       let first = named_not word (word_of shelves number) (gone number) ne in
       let rest = spread_within (number + 1) count word (omega (arith, parts, first, some)) in
@@ -57,8 +53,7 @@ module _ (shelves : ℕ) (gone : ℕ → ℕ) where
         let parts = split number count (word_of shelves n) in
         let first = named_not (word_of shelves n) (word_of shelves number) (gone number)
         (λ is. let same : n ≡ number = apart n number (omega (arith, low, all)) (omega (arith, all)) is in omega (arith, same, low)) in
-        let rest = spread_not (number + 1) count n (omega (arith, low)) (omega (arith, all)) in
-        omega (arith, parts, first, rest)
+        let rest = spread_not (number + 1) count n (omega (arith, low)) (omega (arith, all)) in omega (arith, parts, first, rest)
 
     -- a number's is named as often as keys of it went
     pub spread_names : (number count n : ℕ) → number + count ≤ 4096 → number ≤ n → n < number + count
@@ -80,20 +75,17 @@ module _ (shelves : ℕ) (gone : ℕ → ℕ) where
         omega (arith, parts, first, rest))
 
 -- functions that are alike give the same words
-pub spread_alike : (shelves : ℕ) (f g : ℕ → ℕ) (number count : ℕ)
-    → ((n : ℕ) → number ≤ n → n < number + count → f n ≡ g n)
+pub spread_alike : (shelves : ℕ) (f g : ℕ → ℕ) (number count : ℕ) → ((n : ℕ) → number ≤ n → n < number + count → f n ≡ g n)
     → spread shelves f number count ≡ spread shelves g number count
 spread_alike shelves f g number zero same = spread_none shelves f number ∙ sym (spread_none shelves g number)
 spread_alike shelves f g number (suc count) same =
     let rest = spread_alike shelves f g (number + 1) count (λ n low high. same n (omega (arith, low)) (omega (arith, high))) in
     let here : f number ≡ g number = same number (omega arith) (omega arith) in
-    spread_first shelves f number count
-    ∙ (λ i. replicate (here i) (word_of shelves number) ++ rest i)
+    spread_first shelves f number count ∙ (λ i. replicate (here i) (word_of shelves number) ++ rest i)
     ∙ sym (spread_first shelves g number count)
 
 -- the words of the numbers from one on: first its own, and then the others'
-pub spread_next : (shelves : ℕ) (gone : ℕ → ℕ) (number : ℕ) → number < 4096
-    → spread shelves gone number (4096 - number)
+pub spread_next : (shelves : ℕ) (gone : ℕ → ℕ) (number : ℕ) → number < 4096 → spread shelves gone number (4096 - number)
     ≡ replicate (gone number) (word_of shelves number) ++ spread shelves gone (number + 1) (4096 - (number + 1))
 spread_next shelves gone number low =
     let more : 4096 - number ≡ suc (4096 - (number + 1)) = omega (arith, low) in

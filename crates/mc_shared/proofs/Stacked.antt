@@ -1,8 +1,8 @@
 -- Held shelves, and the step that changes them all.
-use Rattle.mc_shared.proofs.Words.{◌≡◌, ◌==◌, Bool, true, false, ℕ, zero, suc, ◌+◌, ◌≤◌, ◌<◌, None, Some, List, [], ◌∷◌, ◌++◌, length, slice_get, sym, refl, ap, ◌∙◌, subst, arith, rest, empty}
-use Rattle.mc_shared.proofs.Words.{moment_named, Plain, flushed, living, Flush, Flushed, ShelfState, DeskState, IsShelfOf, ArePartsOf, Bay, Content, OfShelf, OfDesk, content_of, place, total}
-use Rattle.mc_shared.proofs.Words.{Beginning, Operation, Stepped, after, FitsBay, AllFit, KeepsLimits, holds_bay, Past, KeptBy, SeatView, Slot, Mine, HasTaken, HoldsThis, without, holding}
-use Rattle.mc_shared.proofs.Words.{decided_by, loaded, Fitted, Decides, stacked, holds_all, if◌then◌else◌, take, drop, stacked_on, hollow, Gathered}
+use Rattle.mc_shared.proofs.Words.{◌≡◌, ◌==◌, Bool, true, false, ℕ, zero, suc, ◌+◌, ◌≤◌, ◌<◌, None, Some, List, [], ◌∷◌, ◌++◌, length, slice_get, sym, refl, ap, ◌∙◌, subst, arith, rest}
+use Rattle.mc_shared.proofs.Words.{empty, moment_named, Plain, flushed, living, Flush, Flushed, ShelfState, DeskState, IsShelfOf, ArePartsOf, Bay, Content, OfShelf, OfDesk, content_of}
+use Rattle.mc_shared.proofs.Words.{place, total, Beginning, Operation, Stepped, after, FitsBay, AllFit, KeepsLimits, holds_bay, Past, KeptBy, SeatView, Slot, Mine, HasTaken, HoldsThis}
+use Rattle.mc_shared.proofs.Words.{without, holding, decided_by, loaded, Fitted, Decides, stacked, holds_all, if◌then◌else◌, take, drop, stacked_on, hollow, Gathered}
 use Rattle.std.proofs.Math.Seq.{take-append_seam}
 use Rattle.mc_shared.proofs.StockedKept.{here, elsewhere}
 
@@ -134,11 +134,9 @@ written_back {hash_of} {state} {new} {count} {len} {desk} old all parts =
 
 -- all shelves and the desk are the parts of some state
 pub held_parts : (began : Beginning) (xs : List ShelfState) (d : DeskState) (v : SeatView) → v.bays ≡ (began.shelves, OfDesk d) ∷ stacked xs
-    → length xs ≡ began.shelves → 0 < began.shelves → Fitted began v
-    → (m : Plain) × ArePartsOf began.hash_of m xs began.shelves d
+    → length xs ≡ began.shelves → 0 < began.shelves → Fitted began v → (m : Plain) × ArePartsOf began.hash_of m xs began.shelves d
 held_parts began xs d v is all some fitted =
-    let m : Plain = after began began.plain fitted.log in
-    (m, parts_held began m xs d all some (subst (AllFit began m) is fitted.fits))
+    let m : Plain = after began began.plain fitted.log in (m, parts_held began m xs d all some (subst (AllFit began m) is fitted.fits))
 
 hollow_same : (n : ℕ) (xs ys : List ShelfState) (b d : List (ℕ × Content)) → length xs ≡ length ys → hollow b ≡ hollow d → hollow (stacked_on n xs b) ≡ hollow (stacked_on n ys d)
 hollow_same n [] [] b d l e = e
@@ -182,25 +180,22 @@ gathered began p xs d v is same all some fitted = record {
 
 -- what a seat has that took all shelves and then the desk: these bays, parts of some state, and no
 -- word that shows too many
-pub record HoldsAll (began : Beginning) (xs : List ShelfState) (d : DeskState) (me : Mine) : Type 0
-  where
-    pub bays : me.0.bays ≡ (began.shelves, OfDesk d) ∷ stacked xs
-    pub number : length xs ≡ began.shelves
-    pub some_shelf : 0 < began.shelves
-    pub parts : (m : Plain) × ArePartsOf began.hash_of m xs began.shelves d
-    pub bare : me.0.surplus ≡ []
+pub record HoldsAll (began : Beginning) (xs : List ShelfState) (d : DeskState) (me : Mine) : Type 0 where
+  pub bays : me.0.bays ≡ (began.shelves, OfDesk d) ∷ stacked xs
+  pub number : length xs ≡ began.shelves
+  pub some_shelf : 0 < began.shelves
+  pub parts : (m : Plain) × ArePartsOf began.hash_of m xs began.shelves d
+  pub bare : me.0.surplus ≡ []
 
 pub all_held : (began : Beginning) (p : Past) (xs : List ShelfState) (d : DeskState) (x : Bay) (n : ℕ)
     (was me : Mine) → was ≡ holds_all p xs → n ≡ began.shelves → content_of x ≡ OfDesk d
     → length xs ≡ n → 0 < n → HasTaken began was n x me → HoldsAll began xs d me
 all_held began p xs d x n was me held is desk long some taken =
-    let stack : (n, content_of x) ∷ was.0.bays ≡ (began.shelves, OfDesk d) ∷ stacked xs =
-    λ i. (is i, desk i) ∷ (held i).0.bays in
+    let stack : (n, content_of x) ∷ was.0.bays ≡ (began.shelves, OfDesk d) ∷ stacked xs = λ i. (is i, desk i) ∷ (held i).0.bays in
     record {
       bays = ap (λ (m : Mine). m.0.bays) taken.1 ∙ stack;
       number = long ∙ is;
       some_shelf = omega (arith, is, some);
-      parts = held_parts began xs d (holding was.0 n (content_of x)) stack (long ∙ is)
-          (omega (arith, is, some)) taken.2;
+      parts = held_parts began xs d (holding was.0 n (content_of x)) stack (long ∙ is) (omega (arith, is, some)) taken.2;
       bare = ap (λ (m : Mine). m.0.surplus) taken.1 ∙ ap (λ (m : Mine). m.0.surplus) held;
     }

@@ -1,11 +1,11 @@
 -- Each atomic step keeps the rule.
-use Rattle.mc_shared.proofs.Words.{◌≡◌, ◌≢◌, ◌==◌, ℕ, zero, suc, ◌+◌, ◌-◌, ◌%◌, ◌^◌, ◌≤◌, ◌<◌, cond, eq-eqb, ◌∙◌, None, Some, List, [], ◌∷◌, ◌++◌, length, drop, replicate, get_or, set, eqb, sym}
-use Rattle.mc_shared.proofs.Words.{refl, ap, subst, inl, inr, ⊎_elim, arith, dite, ℕ_discrete, none, some, some-ne-none, get_elem?, either, get, Plain, Items, Answered, alive, changed, plain}
-use Rattle.mc_shared.proofs.Words.{row_of, without_dead, Read, Miss, step, Allows, rest, at_set, set_here, Bay, Shelf, Desk, Content, content_of, place, total, Beginning, HistoryEntry, Operation}
-use Rattle.mc_shared.proofs.Words.{Stepped, after, next, left_by, name_of, Lives, Whole, SeatView, FitsBay, AllFit, holds_bay, times, named, Story, Named, Stocked, Present, Kept, Slot, Mine}
-use Rattle.mc_shared.proofs.Words.{holding, entry_of, without, decided_by, Agrees, took, gave, decided, reloaded, added, counted, sought, Shows, MayAdd, Decides, Counts, next_name, newcomer, met}
-use Rattle.mc_shared.proofs.Words.{number_of, keys_with, word_of, State, Act, keeps, takes, gives, carried_after, Valid, Splits, Joins, set_again, exchanged, BelongsAt, called, lowered, maker}
-use Rattle.mc_shared.proofs.Words.{gone}
+use Rattle.mc_shared.proofs.Words.{◌≡◌, ◌≢◌, ◌==◌, ℕ, zero, suc, ◌+◌, ◌-◌, ◌%◌, ◌^◌, ◌≤◌, ◌<◌, cond, eq-eqb, ◌∙◌, None, Some, List, [], ◌∷◌, ◌++◌, length, drop, replicate, get_or, set, eqb}
+use Rattle.mc_shared.proofs.Words.{sym, refl, ap, subst, inl, inr, ⊎_elim, arith, dite, ℕ_discrete, none, some, some-ne-none, get_elem?, either, get, Plain, Items, Answered, alive, changed}
+use Rattle.mc_shared.proofs.Words.{plain, row_of, without_dead, Read, Miss, step, Allows, rest, at_set, set_here, Bay, Shelf, Desk, Content, content_of, place, total, Beginning}
+use Rattle.mc_shared.proofs.Words.{HistoryEntry, Operation, Stepped, after, next, left_by, name_of, Lives, Whole, SeatView, FitsBay, AllFit, holds_bay, times, named, Story, Named, Stocked}
+use Rattle.mc_shared.proofs.Words.{Present, Kept, Slot, Mine, holding, entry_of, without, decided_by, Agrees, took, gave, decided, reloaded, added, counted, sought, Shows, MayAdd, Decides}
+use Rattle.mc_shared.proofs.Words.{Counts, next_name, newcomer, met, number_of, keys_with, word_of, State, Act, keeps, takes, gives, carried_after, Valid, Splits, Joins, set_again}
+use Rattle.mc_shared.proofs.Words.{exchanged, BelongsAt, called, lowered, maker, gone}
 use lib.Seq.{set-get_or}
 use Rattle.mc_shared.proofs.Sums.{sum_one, total-append}
 use Rattle.atomic_table.specs.Table.{stepped}
@@ -71,8 +71,7 @@ takes_bay began slots id b me l lives s k deep at small = let n : ℕ = get_or s
             legal = k.story.legal;
             keeps = kept_by began k.log s.views k.story k.named id v at;
             limits = k.stocked.limits;
-            fits =
-                (was.2, k.stocked.out id v at);
+            fits = (was.2, k.stocked.out id v at);
           },
         )),
         (λ ne. absurd (ne free)),
@@ -94,8 +93,7 @@ gives_bay began slots id b x me is out bare s k deep at small = let v : SeatView
         story = story_same began k.log s.views id v w k.story at refl;
         named = named_same k.log s.views id v w k.named at refl (⊎_elim (λ (h : Lives v.past). inl h) (λ (none : v.bays ≡ []). inr (ap rest none)) (k.named.idle id v at));
         stocked = stocked_give began m m s.words s.homes s.views id b v w (content_of x) x (rest v.bays) k.stocked at is (λ c. refl) fits.0 fits.1 (λ c y _ f. f) k.stocked.limits;
-        present =
-            present_give began m m s.words s.views id b 0 v w k.present at (inside began m b (content_of x) fits.0) (λ n low. refl)
+        present = present_give began m m s.words s.views id b 0 v w k.present at (inside began m b (content_of x) fits.0) (λ n low. refl)
             (λ word has. absurd (let z = bare_names w word bare in omega (arith, z, has)));
       },
       (refl, record { log = k.log; legal = k.story.legal; keeps = kept_by began k.log s.views k.story k.named id v at; limits = k.stocked.limits; fits = k.stocked.out id v at }),
@@ -115,8 +113,7 @@ decides_bay began slots id b x y d still surplus me is out right counts lives s 
     let named : Named (k.log ++ e ∷ []) (set s.views id w) = named_call began k.log s.views id v w d k.story k.named at refl lives in
     let F : ℕ → Type 0 = λ z. (w : SeatView) × (a : Act Slot) × Valid s.homes me.1 a × Kept began (stepped s (place b) z id me.1 w a)
     × decided began d still surplus (step slots (place b) 1 0 none) me n (w, carried_after me.1 a) in
-    exchanged n 1 0 F
-    (λ _. (
+    exchanged n 1 0 F (λ _. (
       w,
       gives,
       tt,
@@ -140,8 +137,7 @@ splits_seat began id v lives s k at = let w : SeatView = maker v in let u : Seat
   log = k.log;
   story = story_made began k.log s.views id v w u (next_name v.past) k.story at refl refl;
   named = named_made began k.log s.views id v w u k.story k.named at refl refl lives refl;
-  stocked =
-      stocked_snoc began (after began began.plain k.log) s.words s.homes (set s.views id w) u
+  stocked = stocked_snoc began (after began began.plain k.log) s.words s.homes (set s.views id w) u
       (stocked_same began (after began began.plain k.log) s.words s.homes s.views id v w k.stocked at refl) refl;
   present = present_snoc began (after began began.plain k.log) s.words (set s.views id w) u (present_same began (after began began.plain k.log) s.words s.views id v w k.present at refl refl) refl;
 }
@@ -154,11 +150,9 @@ joins_seats began id other v o bare s k at ne far = let w : SeatView = met v o i
       log = k.log;
       story = story_both began k.log s.views id other v w o u k.story at far far' refl refl;
       named = named_both k.log s.views id other v w o u k.named at far far' refl refl refl refl;
-      stocked =
-          stocked_same began (after began began.plain k.log) s.words s.homes (set s.views id w) other o u
+      stocked = stocked_same began (after began began.plain k.log) s.words s.homes (set s.views id w) other o u
           (stocked_same began (after began began.plain k.log) s.words s.homes s.views id v w k.stocked at refl) far (sym bare);
-      present =
-          present_gone began (after began began.plain k.log) s.words (set s.views id w) other o u
+      present = present_gone began (after began began.plain k.log) s.words (set s.views id w) other o u
           (present_same began (after began began.plain k.log) s.words s.views id v w k.present at refl refl) far bare refl;
     }
 
@@ -210,8 +204,7 @@ pub takes_many : (began : Beginning) (slots id word k : ℕ) (more : List ℕ) (
     → Allows (Kept began) slots id me word (λ n. (n + (2 ^ 64 - k)) % 2 ^ 64) (lowered (step slots word k 0 none) me)
 takes_many began slots id word k more me positive is s kept deep at small = let v : SeatView = me.0 in let m : Plain = after began began.plain kept.log in let c : ℕ = get_or s.words word 0 in
     let w : SeatView = record v { surplus = drop k v.surplus } in
-    let mine : named word v ≡ k + total (λ x. cond (eqb word x) 1 0) more =
-    ap (total (λ x. cond (eqb word x) 1 0)) is
+    let mine : named word v ≡ k + total (λ x. cond (eqb word x) 1 0) more = ap (total (λ x. cond (eqb word x) 1 0)) is
     ∙ (total-append (λ x. cond (eqb word x) 1 0) (replicate k word) more ∙ ap (λ (j : ℕ). j + total (λ x. cond (eqb word x) 1 0) more) (named_so word k)) in
     let own = kept.present.owned id v word at (omega (arith, mine, positive)) in
     let n : ℕ = own.number in let is_word : word ≡ word_of began.shelves n = own.is in

@@ -1,7 +1,7 @@
 -- What keeps the bays in step with the items.
 use Rattle.mc_shared.proofs.Words.{◌≡◌, ◌≢◌, ℕ, ◌+◌, ◌≤◌, ◌<◌, Option, Some, List, [], ◌∷◌, ◌++◌, length, get_or, set, cond, sym, refl, ap, ◌∙◌, subst, ⊎_elim, arith, length-set}
-use Rattle.mc_shared.proofs.Words.{get_or-set_other, get_or-set_same, eq-eqb, ne_eqb, dite, none, some, ℕ_discrete, get_elem?, at_set, set_here, Bay, Content, OfShelf, OfDesk, content_of, place}
-use Rattle.mc_shared.proofs.Words.{total, Plain, Beginning, SeatView, FitsBay, AllFit, KeepsLimits, holds_bay, times, Stocked, set_else}
+use Rattle.mc_shared.proofs.Words.{get_or-set_other, get_or-set_same, eq-eqb, ne_eqb, dite, none, some, ℕ_discrete, get_elem?, at_set, set_here, Bay, Content, OfShelf, OfDesk, content_of}
+use Rattle.mc_shared.proofs.Words.{place, total, Plain, Beginning, SeatView, FitsBay, AllFit, KeepsLimits, holds_bay, times, Stocked, set_else}
 use Rattle.mc_shared.proofs.Sums.{sum_set, sum_one, sum_two, total-append, each_set, each_snoc}
 use Rattle.mc_shared.proofs.WordLemmas.{bays_inside}
 use mathlib.Core.Option as maybe
@@ -85,12 +85,11 @@ stocked_give began m m' words homes views id b v w x x' xs s at is rests fits ke
           (λ e. let one : holds_bay c (b, x) ≡ 1 = ap (λ k. holds_bay c (k, x)) (sym e) ∙ here c x in
           let z : get_or (set words (place b) 0) (place c) 0 ≡ 0 = ap (λ k. get_or (set words (place b) 0) (place k) 0) e ∙ gone in omega (arith, f, low, one, z))
           (λ ne. let none_here = elsewhere b c x ne in let now = get_or-set_other words (place b) (place c) 0 0 (places_apart c b ne) in omega (arith, f, none_here, now));
-      home = λ c lc free. dite (ℕ_discrete c b)
-          (λ e. (
-            x',
-            ap (λ k. get_elem? (set homes (place b) (some (Some x'))) (place k)) e ∙ set_here homes (place b) (some (Some x')) lh,
-            subst (λ k. FitsBay began m' k (content_of x')) (sym e) fits,
-          ))
+      home = λ c lc free. dite (ℕ_discrete c b) (λ e. (
+        x',
+        ap (λ k. get_elem? (set homes (place b) (some (Some x'))) (place k)) e ∙ set_here homes (place b) (some (Some x')) lh,
+        subst (λ k. FitsBay began m' k (content_of x')) (sym e) fits,
+      ))
           (λ ne. let free' : get_or words (place c) 0 ≡ 0 = sym (get_or-set_other words (place b) (place c) 0 0 (places_apart c b ne)) ∙ free in let was = s.home c lc free' in
           let not_mine : times c v ≡ 0 = (let o = sum_one (times c) views id v at in let t = s.taken c lc in omega (arith, o, t, free')) in
           (was.0, set_else homes (place b) (place c) (some (Some x')) (places_apart c b ne) ∙ was.1, others c (content_of was.0) not_mine was.2));

@@ -43,7 +43,7 @@ pub use Rattle.std.specs.List.{All, concat}
 pub use Rattle.mc_time.specs.Death.{expiry_of, is_dead, moment_named}
 pub use Rattle.mc_protocol.specs.declared.row.Row.TheVariants.{Reads, Touches, Deletes, Writes}
 pub use Rattle.std.proofs.lemmas.Option.{none-some, slice_get-get_or, get_or_from_slice_get, slice_get_within}
-pub use Rattle.mc_shelf.specs.Plans.{is_gone, next_of, writes, PlanIsSettled, IsPlan, IsSpent, LookTakesMemory, MayWantMemory, NeedsPages, StepTaken, answered, finished, next_by, row_at, stood}
+pub use Rattle.mc_shelf.specs.Plans.{is_gone, next_of, writes, PlanIsSettled, IsPlan, IsSpent, MayWantMemory, NeedsPages, StepTaken, finished, stood}
 pub use Rattle.mc_protocol.specs.declared.step.StepFault.{StepFault}
 pub use Rattle.mc_protocol.specs.declared.step.StepFault.TheVariants.{NoMemory, NumbersSpent}
 pub use Rattle.std.proofs.lemmas.List.{append-nil, get_or-replicate, length-replicate, take_all, take_more}

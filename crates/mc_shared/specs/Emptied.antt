@@ -34,5 +34,4 @@ pub record IsEmptied (old : List ShelfState) (at : ℕ) (shelf : ShelfState) : T
 -- all shelves are
 pub record AreEmptied (old new : List ShelfState) : Type 0 where
   pub number : length new ≡ length old
-  pub each : (at : ℕ) (shelf : ShelfState) → slice_get new at ≡ Some shelf
-      → IsEmptied old at shelf
+  pub each : (at : ℕ) (shelf : ShelfState) → slice_get new at ≡ Some shelf → IsEmptied old at shelf

@@ -10,7 +10,7 @@ use Rattle.mc_shared.specs.Sums.{total}
 use Rattle.mc_shared.specs.declared.bay.Bay.{Bay}
 use Rattle.mc_shared.specs.Bays.{Content, OfShelf, OfDesk, content_of, place}
 use Rattle.mc_shared.specs.History.{Beginning, start_of, Name, HistoryEntry, after, IsLegal}
-use Rattle.mc_shared.specs.Past.{Past, held, callers, makes, numbered, Ordered, Sound, Lives}
+use Rattle.mc_shared.specs.Past.{held, callers, makes, numbered, Ordered, Sound, Lives}
 use Rattle.mc_shared.specs.Past as past
 use Rattle.mc_shared.specs.View.{SeatView}
 use Rattle.mc_shelf.specs.Numbers.{keys_with}
@@ -82,8 +82,7 @@ pub record Stocked (start : Beginning) (m : Plain) (words : List ℕ)
 pub record Present (start : Beginning) (m : Plain) (words : List ℕ) (views : List SeatView) : Type 0
   where
     pub divides : 4096 / start.shelves * start.shelves ≡ 4096
-    pub counts : (number : ℕ) → number < 4096
-        → slice_index words (word_of start.shelves number)
+    pub counts : (number : ℕ) → number < 4096 → slice_index words (word_of start.shelves number)
         ≡ keys_with start.hash_of number m.items + total (named (word_of start.shelves number)) views
     pub owned : (id : ℕ) (v : SeatView) (word : ℕ) → get_elem? views id ≡ some v → 1 ≤ named word v
         → IsHeldWord start v word
@@ -93,8 +92,7 @@ pub record AreFirst (start : Beginning) (words : List ℕ) : Type 0 where
   pub divides : 4096 / start.shelves * start.shelves ≡ 4096
   pub long : length words ≡ words_with start.shelves
   pub free : (b : ℕ) → b < start.shelves + 1 → slice_index words (place b) ≡ 0
-  pub counts : (number : ℕ) → number < 4096
-      → slice_index words (word_of start.shelves number)
+  pub counts : (number : ℕ) → number < 4096 → slice_index words (word_of start.shelves number)
       ≡ keys_with start.hash_of number start.plain.items
 
 -- the words of a table that is being filled: those of the numbers below one are set to their counts

@@ -78,8 +78,7 @@ start_at hash_of board = start_of hash_of board.shared.key.value
 
 -- a seat may take an atomic step by which a word becomes this of what it was: it keeps the rule, and
 -- then this holds of the word as it was and of the seat
-abbrev pub MayPlay
-    : {K P A : Type 0} → (K → List ℕ → ℕ) → BoardOf K P A → Sitter → (word : ℕ)
+abbrev pub MayPlay : {K P A : Type 0} → (K → List ℕ → ℕ) → BoardOf K P A → Sitter → (word : ℕ)
     → (becomes : ℕ → ℕ) → (then : ℕ → Mine → Type 0) → Type 0
 MayPlay hash_of board seat word becomes then =
     (seat.table_id ≡ board.shared.table_id) × (word < board.shared.table_id.words)
@@ -139,8 +138,7 @@ pub record CameOut {E : Type 0} (always : Type 0) (answered : Reply → Type 0) 
 
 -- The result of a step for a caller. If it was taken, its past has it as one more call; otherwise
 -- the past is unchanged, and the error is possible. A legal history keeps the past in both cases.
-abbrev pub IsAnswered
-    : {E : Type 0} → Beginning → (old : CallerState) → KeyStep → (now : ℕ)
+abbrev pub IsAnswered : {E : Type 0} → Beginning → (old : CallerState) → KeyStep → (now : ℕ)
     → (may : Beginning → Past → KeyStep → ℕ → E → Type 0) → Result Reply E → (new : CallerState)
     → Type 0
 IsAnswered start old step now may result new =

@@ -34,8 +34,7 @@ with_call p step now reply = call p (entry_of p (Stepped step now reply))
 
 -- the past became that with one more call, and a legal history keeps it
 abbrev pub HasCalled : Beginning → (old : Past) → KeyStep → (now : ℕ) → Reply → (new : Past) → Type 0
-HasCalled start old step now reply new =
-    (new ≡ with_call old step now reply) × Agrees start new
+HasCalled start old step now reply new = (new ≡ with_call old step now reply) × Agrees start new
 
 -- after some legal history that keeps the past, this is an outcome of the step on the plain machine
 pub record CanCome (began : Beginning) (p : Past) (step : KeyStep) (now : ℕ)
@@ -66,8 +65,7 @@ pub record IsPlanned (plan : Plan) (shelf : ShelfState) (step : KeyStep) (hash n
 -- whole; it is the key's shelf or the desk.
 abbrev pub May : Beginning → Past → KeyStep → ℕ → TryFault → Type 0
 May began p step now (Busy bay word) =
-    (word ≡ 1) × (Whole p → ⊥)
-    × ((bay ≡ shelf_in began (key_of step)) ⊎ (bay ≡ began.shelves))
+    (word ≡ 1) × (Whole p → ⊥) × ((bay ≡ shelf_in began (key_of step)) ⊎ (bay ≡ began.shelves))
 May began p step now NoMemory = MayFailAfter began p step now
 May began p step now NumbersSpent = IsSpentAfter began p step now
 
@@ -107,8 +105,7 @@ spaced (x ∷ xs) = slot_alone x ++ spaced xs
 abbrev pub holds_two : Past → ℕ → Content → ℕ → Content → Mine
 holds_two p b y at x = (
   record { past = p; bays = (b, y) ∷ (at, x) ∷ []; surplus = [] },
-  (place b, None) ∷ (place at, None) ∷
-      [],
+  (place b, None) ∷ (place at, None) ∷ [],
 )
 
 -- Why a step wasn't taken: memory was refused, which a flush needs too, or the numbers are used up;

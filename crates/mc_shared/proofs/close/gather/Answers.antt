@@ -15,8 +15,7 @@ returns-in-Ok-desk_at-clause-ok g c =
 
 pub returns-in-Err-clause-err : goal.returns-in-Err-clause-err
 returns-in-Err-clause-err g c =
-    let busy = c.in-Err.ensures.err in
-    (busy.2.odd, busy.2.other, subst (λ k. k ≤ c.args.count) (sym busy.2.same) busy.1)
+    let busy = c.in-Err.ensures.err in (busy.2.odd, busy.2.other, subst (λ k. k ≤ c.args.count) (sym busy.2.same) busy.1)
 
 pub returns-in-Err-desk_at-clause-err : goal.returns-in-Err-desk_at-clause-err
 returns-in-Err-desk_at-clause-err g c =

@@ -1,5 +1,5 @@
-use Rattle.mc_shared.proofs.Words.{rules, ℕ, eqb, sym, ap, ◌∙◌, subst, Some, ◌∷◌, rest, Allows, step, none, either, start_of, Lives, Kept, content_of, Mine, Decides, Counts, decided, decided_by}
-use Rattle.mc_shared.proofs.Words.{operation_of, still_of, surplus_of}
+use Rattle.mc_shared.proofs.Words.{rules, ℕ, eqb, sym, ap, ◌∙◌, subst, Some, ◌∷◌, rest, Allows, step, none, either, start_of, Lives, Kept, content_of, Mine, Decides, Counts, decided}
+use Rattle.mc_shared.proofs.Words.{decided_by, operation_of, still_of, surplus_of}
 use Rattle.mc_shared.proofs.StepsKept.{decides_bay}
 use Rattle.mc_shared.proofs.steps.decide.Goals as goal
 

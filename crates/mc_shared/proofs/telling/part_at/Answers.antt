@@ -6,9 +6,7 @@ pub returns-then-at-parts-clause-few : goal.returns-then-at-parts-clause-few
 returns-then-at-parts-clause-few c =
     let hit = c.args.hit.now in
     let counted = c.parts.ensures.value in
-    let range = c.parts.ensures.range in
-    let as_many = length-parts_of hit.key hit.item (omega arith) in
-    omega arith
+    let range = c.parts.ensures.range in let as_many = length-parts_of hit.key hit.item (omega arith) in omega arith
 
 pub returns-else-at-parts-clause-value : goal.returns-else-at-parts-clause-value
 returns-else-at-parts-clause-value c =
@@ -23,6 +21,4 @@ pub returns-else-at-parts-clause-few : goal.returns-else-at-parts-clause-few
 returns-else-at-parts-clause-few c =
     let hit = c.args.hit.now in
     let counted = c.parts.ensures.value in
-    let range = c.parts.ensures.range in
-    let as_many = length-parts_of hit.key hit.item (omega arith) in
-    omega arith
+    let range = c.parts.ensures.range in let as_many = length-parts_of hit.key hit.item (omega arith) in omega arith

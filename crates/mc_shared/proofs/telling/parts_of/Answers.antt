@@ -14,7 +14,4 @@ returns c =
     ++ (c.part_at-5.ensures.value i
     ++ (c.part_at-6.ensures.value i
     ++ (c.part_at-7.ensures.value i
-    ++ (c.part_at-8.ensures.value i
-    ++ []))))))))
-    ∙ concat-eight parts c.part_at.ensures.few
-    ∙ c.part_at.ensures.joined
+    ++ (c.part_at-8.ensures.value i ++ [])))))))) ∙ concat-eight parts c.part_at.ensures.few ∙ c.part_at.ensures.joined

@@ -1,7 +1,7 @@
-use Rattle.mc_shared.proofs.Words.{arith, ◌≡◌, ◌+◌, ◌-◌, ◌%◌, ℕ, mod-lt, [], ◌∷◌, Option, Some, None, is_some, is_none, true, false, replicate, refl, sym, ap, ◌∙◌, subst, get, len, key_of, Plain}
-use Rattle.mc_shared.proofs.Words.{ShelfState, ShelfContent, DeskState, IsShelfOf, IsDeskOf, number_of, OfShelf, OfDesk, Operation, start_of, Stepped, Past, call, word_of, MayDecide, SharedState}
-use Rattle.mc_shared.proofs.Words.{Refuses, holds_one, holds_two, Mine, Agrees, HoldsThis, loaded, decided_by, entry_of, HoldsBoth, HoldsShelf, IsAsked, caller_at, StepTaken, finished, told_next}
-use Rattle.mc_shared.proofs.Words.{goes_by_step}
+use Rattle.mc_shared.proofs.Words.{arith, ◌≡◌, ◌+◌, ◌-◌, ◌%◌, ℕ, mod-lt, [], ◌∷◌, Option, Some, None, is_some, is_none, true, false, replicate, refl, sym, ap, ◌∙◌, subst, get, len, key_of}
+use Rattle.mc_shared.proofs.Words.{Plain, ShelfState, ShelfContent, DeskState, IsShelfOf, IsDeskOf, number_of, OfShelf, OfDesk, Operation, start_of, Stepped, Past, call, word_of, MayDecide}
+use Rattle.mc_shared.proofs.Words.{SharedState, Refuses, holds_one, holds_two, Mine, Agrees, HoldsThis, loaded, decided_by, entry_of, HoldsBoth, HoldsShelf, IsAsked, caller_at, StepTaken}
+use Rattle.mc_shared.proofs.Words.{finished, told_next, goes_by_step}
 use Rattle.mc_shared.proofs.Decisions.{applies_step, goes_step}
 use Rattle.mc_shared.proofs.NumberSteps.{counts_step, enough}
 use Rattle.mc_shared.proofs.Held.{at_both, both_stand, may_raise, all_named, last_held, one_given, one_rests, now_free, came_out, refused_both}
@@ -25,8 +25,7 @@ none_there (Some x) none = cc
 
 adds : (g : _) → (c : After-raise_for-word g) → is_some (get c.deref_mut.result.now.content.items (key_of c.args.ask.now.step.now)) ≡ false → c.raise_for-word.result.1 ≡ 1
 adds g c none = c.raise_for-word.ensures.one.0
-    (c.may_come-comes.ensures
-    ∙ none_there (get c.deref-2.result.now.content.items (key_of c.args.ask.now.step.now))
+    (c.may_come-comes.ensures ∙ none_there (get c.deref-2.result.now.content.items (key_of c.args.ask.now.step.now))
     (subst (λ (s : ShelfState). is_some (get s.content.items (key_of c.args.ask.now.step.now)) ≡ false) (c.deref_mut.ensures.value ∙ sym c.deref-2.ensures) none))
 
 pub begin-requires-clause-stands : goal.begin-requires-clause-stands
@@ -199,6 +198,5 @@ returns-in-Err-clause-answered g c =
     let lent = (goal.at.returns-in-Err-clause-answered g c).After-deref_mut-2 in
     refused_both g.K.KeyHash.hash_of c.args.self.now c.args.seat.now (caller_at c.give_shelf.new.seat) ask.at c.deref_mut.result.now.content c.deref_mut-2.result.now ask.step.now ask.moment
     c.begin.result c.in-Err.refused c.requires.asked.own (holds g lent)
-    (c.give_shelf.ensures.free.alive.seated.own ∙ sym c.requires.holds.own)
-    (c.give_shelf.ensures.past ∙ c.give_desk.ensures.past)
+    (c.give_shelf.ensures.free.alive.seated.own ∙ sym c.requires.holds.own) (c.give_shelf.ensures.past ∙ c.give_desk.ensures.past)
     c.in-Err.is c.begin.ensures.spent c.begin.ensures.refused

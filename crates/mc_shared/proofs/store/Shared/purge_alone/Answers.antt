@@ -16,9 +16,7 @@ decide-requires g c =
     record {
       may = subst (λ (s : ShelfState). MayDecide board.table_id board.key.value c.args.seat.now at began (OfShelf s.content) what [] []) (sym c.of.ensures)
           (at_shelf hash_of board.table_id board.key.value c.args.self.now c.self.view_is inv.0 c.args.seat.now at shelf.content (OfShelf shelf.content) what [] []
-          c.requires
-          (changes_nothing began at shelf.content what
-          (λ m part. (
+          c.requires (changes_nothing began at shelf.content what (λ m part. (
             tt,
             c.may_have_dead.ensures.part (search rules) began.hash_of began.shelves at m
                 (subst (λ (s : ShelfState). IsShelfOf began.hash_of began.shelves m at s.content) (sym c.deref.ensures) part),

@@ -1,9 +1,7 @@
 use Rattle.mc_shared.proofs.store.Shared.take_desk_for.Goals as goal
 
 pub give_desk-requires : goal.give_desk-requires
-give_desk-requires g c =
-    let holds = c.requires.holds in
-    (holds.0, holds.1, c.in-Ok.ensures.ok holds.0 holds.1 holds.2)
+give_desk-requires g c = let holds = c.requires.holds in (holds.0, holds.1, c.in-Ok.ensures.ok holds.0 holds.1 holds.2)
 
 pub take_desk-requires-2 : goal.take_desk-requires-2
 take_desk-requires-2 g c =
