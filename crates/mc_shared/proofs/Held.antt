@@ -1,10 +1,10 @@
 -- A seat that holds one bay, or two.
-use Rattle.mc_shared.proofs.Words.{◌≡◌, ℕ, zero, suc, List, [], ◌∷◌, ◌++◌, None, Result, Ok, Err, replicate, refl, sym, ap, ◌∙◌, subst, ◌<◌, ◌-◌, ◌%◌, ◌^◌, arith, rest, Content, place}
-use Rattle.mc_shared.proofs.Words.{OfShelf, OfDesk, Past, Lives, call, SeatView, Mine, Fitted, HasTaken, HoldsThis, holding, without, decided_by, entry_of, loaded, newcomer, met, next_name}
-use Rattle.mc_shared.proofs.Words.{Agrees, Decides, Counts, MayAdd, MayCount, Desk, holds_one, holds_two, CanCome, Refuses, KeyStep, key_of, StepFault, NoMemory, NumbersSpent, Plain}
-use Rattle.mc_shared.proofs.Words.{Outcome, Spent, MayFail, plain, ShelfContent, DeskState, CanStandAt, StandsAt, Reply, Beginning, Operation, Stepped, start_of, shelf_in, AreKeyCounts}
-use Rattle.mc_shared.proofs.Words.{AreCountsBy, len, SharedState, CallerState, HoldsShelf, HoldsBoth, IsAsked, Sitter, IsTableOf, IsAnswered, MayDecide, Rests, StoreState, TableId}
-use Rattle.mc_shared.proofs.Words.{HoldsLast, resting, IsSpent, MayWantMemory, SameSeat, IsSeatOf, IsAlive, IsFree, caller_at, Ask, IsOnKey, IsShelfOf, PlanIsSettled, goes_without_desk}
+use Rattle.mc_shared.proofs.Words.{◌≡◌, ℕ, List, [], ◌∷◌, ◌++◌, None, Result, Ok, Err, replicate, refl, sym, ap, ◌∙◌, subst, ◌<◌, ◌-◌, ◌%◌, ◌^◌, arith, rest, Content, place, OfShelf, OfDesk}
+use Rattle.mc_shared.proofs.Words.{Past, Lives, call, SeatView, Mine, Fitted, HasTaken, holding, decided_by, entry_of, loaded, newcomer, met, next_name, Agrees, Decides, Counts, MayAdd}
+use Rattle.mc_shared.proofs.Words.{MayCount, Desk, holds_one, holds_two, CanCome, Refuses, KeyStep, key_of, StepFault, NoMemory, NumbersSpent, Plain, Outcome, Spent, MayFail, plain}
+use Rattle.mc_shared.proofs.Words.{ShelfContent, DeskState, CanStandAt, StandsAt, Reply, Beginning, Operation, Stepped, start_of, shelf_in, AreKeyCounts, AreCountsBy, len, SharedState}
+use Rattle.mc_shared.proofs.Words.{CallerState, HoldsShelf, HoldsBoth, IsAsked, Sitter, IsTableOf, IsAnswered, MayDecide, Rests, StoreState, TableId, HasDecided, append-nil, HoldsLast}
+use Rattle.mc_shared.proofs.Words.{IsSpent, MayWantMemory, SameSeat, IsSeatOf, IsAlive, caller_at, Ask, IsOnKey, IsShelfOf, PlanIsSettled, goes_without_desk}
 use Rattle.mc_shared.proofs.NamedKept.{lives_start, lives_both}
 use Rattle.mc_shared.proofs.NumberSteps.{may_add, counts_settled}
 use Rattle.mc_shared.proofs.NumberSweeps.{may_count_one, shelf_counted}
@@ -67,18 +67,6 @@ module _ {K : Type 0} (hash_of : K → List ℕ → ℕ) (table : TableId) (bega
         counts = subst (λ (m : Mine). Counts (start_of hash_of began) m.0 what (decided_by m what still surplus).0) (sym h.held) counts;
       }
 
-  -- a seat that rests holds nothing
-  pub now_free : (seat : Sitter) (q : Past) → seat.table_id ≡ shared.table → Lives q → seat.me ≡ resting q → IsFree shared.table shared.began seat
-  now_free seat q own lives rests =
-      let past : seat.me.0.past ≡ q = ap (λ (m : Mine). m.0.past) rests in
-      subst (λ (s : SharedState K). IsFree s.table s.began seat) is record {
-        alive = record {
-          seated = record { own = own ∙ sym (ap (λ (s : SharedState K). s.table) is); fit = fit };
-          lives = subst Lives (sym past) lives;
-        };
-        free = rests ∙ ap resting (sym past);
-      }
-
   -- and a step that its shelf decides alone
   pub at_settled : (seat : Sitter) (ask : Ask) (old new : ShelfContent) (reply : Reply) → HoldsShelf hash_of shared seat ask.at old → IsAsked hash_of shared ask → IsOnKey ask.step.now
       → PlanIsSettled ask.step.now ask.moment ask.hash old reply new
@@ -136,6 +124,27 @@ module _ {K : Type 0} (hash_of : K → List ℕ → ℕ) (table : TableId) (bega
       let h = subst (λ (s : SharedState K). HoldsBoth hash_of s seat at f d) (sym is) holds in
       may_add (start_of hash_of began) at fit.divides hash key hashed own h.inside f d seat.me.0 (ap (λ (m : Mine). m.0.bays) h.held) (ap (λ (m : Mine). m.0.surplus) h.held) small
 
+  -- it holds the shelf alone when the desk went back with a decision and no word shows too many any more
+  pub left_held : (seat now then last : Sitter) (at : ℕ) (f z : ShelfContent) (d : DeskState) (what : Operation) (had surplus : List ℕ) → HoldsBoth hash_of shared seat at f d
+      → SameSeat seat now → now.me ≡ loaded seat.me had → SameSeat now then → HasDecided (start_of hash_of began) now.me what ((at, OfShelf z) ∷ []) surplus then.me
+      → SameSeat then last → last.me ≡ loaded then.me [] → HoldsShelf hash_of shared last at z × (last.me.0.past ≡ call seat.me.0.past (entry_of seat.me.0.past what))
+  left_held seat now then last at f z d what had surplus holds same more same' did same'' lowered =
+      let next : Past = call seat.me.0.past (entry_of seat.me.0.past what) in
+      let did_so = did.0 ∙ ap (λ (m : Mine). decided_by m what ((at, OfShelf z) ∷ []) surplus) (more ∙ ap (λ (m : Mine). loaded m had) holds.held) in
+      let held : last.me ≡ holds_one next at (OfShelf z) = lowered ∙ ap (λ (m : Mine). loaded m []) did_so in
+      let past : last.me.0.past ≡ next = ap (λ (m : Mine). m.0.past) held in
+      let fit : Fitted (start_of hash_of began) (loaded then.me []).0 =
+      record { log = did.2.log; legal = did.2.legal; keeps = did.2.keeps; limits = did.2.limits; fits = did.2.fits } in (
+        record {
+          own = same''.0 ∙ (same'.0 ∙ (same.0 ∙ holds.own));
+          lives = subst Lives (sym past) holds.lives;
+          inside = holds.inside;
+          held = held ∙ ap (λ (p : Past). holds_one p at (OfShelf z)) (sym past);
+          fits = subst (λ (t : SharedState K × Mine). Fitted (start_of hash_of t.0.began) t.1.0) (λ i. (is i, sym lowered i)) fit;
+        },
+        past,
+      )
+
   -- a hold of a shelf may read the words of the shelf's numbers
   pub reads_shelf : (seat : Sitter) (at n : ℕ) (f : ShelfContent) → n ≡ began.settings.shelves → HoldsShelf hash_of shared seat at f
       → IsSeatOf table began seat × (at < n) × ((number : ℕ) → number < 4096 → number % n ≡ at → MayCount (start_of hash_of began) seat.me.0 number)
@@ -154,57 +163,20 @@ module _ {K : Type 0} (hash_of : K → List ℕ → ℕ) (table : TableId) (bega
       subst (λ (s : SharedState K). AreCountsBy (hash_of s.began.hasher) f counts) is
       (shelf_counted (start_of hash_of began) fit.divides seat.me.0.past at f seat.me counts h.held h.fits keys)
 
--- what a hold of a shelf and the desk has after the desk went back with a decision
-pub decided_one : (me now then : Mine) (p : Past) (n : ℕ) (y : Content) (at : ℕ) (x z : Content) (what : Operation) (had surplus : List ℕ)
-    → me ≡ holds_two p n y at x → now ≡ loaded me had → then ≡ decided_by now what ((at, z) ∷ []) surplus
-    → then ≡ loaded (holds_one (call p (entry_of p what)) at z) surplus
-decided_one me now then p n y at x z what had surplus held more did =
-    did ∙ ap (λ (m : Mine). decided_by m what ((at, z) ∷ []) surplus) (more ∙ ap (λ (m : Mine). loaded m had) held)
-
-nothing_behind : (k word : ℕ) → replicate k word ++ [] ≡ replicate k word
-nothing_behind zero word = refl
-nothing_behind (suc k) word = ap (λ (ws : List ℕ). word ∷ ws) (nothing_behind k word)
-
 -- the words that are lowered then
-pub all_named : (now then : Mine) (what : Operation) (still : List (ℕ × Content)) (word k j : ℕ) → then ≡ decided_by now what still (replicate k word) → k ≡ j → then.0.surplus ≡ replicate j word ++ []
-all_named now then what still word k j did same = ap (λ (m : Mine). m.0.surplus) did ∙ (ap (λ (n : ℕ). replicate n word) same ∙ sym (nothing_behind j word))
-
--- and when no word shows too many any more
-pub lowered_one : (then last : Mine) (q : Past) (at : ℕ) (z : Content) (surplus : List ℕ)
-    → then ≡ loaded (holds_one q at z) surplus → last ≡ loaded then [] → last ≡ holds_one q at z
-lowered_one then last q at z surplus held lowered = lowered ∙ ap (λ (m : Mine). loaded m []) held
-
--- so a hold of a shelf and the desk comes to hold the shelf alone
-pub last_held : (me now then last : Mine) (p : Past) (n : ℕ) (y : Content) (at : ℕ) (x z : Content) (what : Operation) (had : List ℕ) (word k j : ℕ)
-    → me ≡ holds_two p n y at x → now ≡ loaded me had → then ≡ decided_by now what ((at, z) ∷ []) (replicate k word) → k ≡ j
-    → ((more : List ℕ) → then.0.surplus ≡ replicate j word ++ more → last ≡ loaded then more) → last ≡ holds_one (call p (entry_of p what)) at z
-last_held me now then last p n y at x z what had word k j held more did same lowers =
-    lowered_one then last (call p (entry_of p what)) at z (replicate k word)
-    (decided_one me now then p n y at x z what had (replicate k word) held more did)
-    (lowers [] (all_named now then what ((at, z) ∷ []) word k j did same))
-
--- it may give the shelf back, and rests then
-pub one_given : (me : Mine) (q : Past) (at : ℕ) (z : Content) → me ≡ holds_one q at z → HoldsThis me at z
-one_given me q at z held = (
-  top_of me.0.bays (at, z) [] (ap (λ (m : Mine). m.0.bays) held),
-  top_of me.1 (place at, None) [] (ap (λ (m : Mine). m.1) held),
-  ap (λ (m : Mine). m.0.surplus) held,
-)
-
-pub one_rests : (me end : Mine) (q : Past) (at : ℕ) (z : Content) → me ≡ holds_one q at z → end ≡ without me → end ≡ resting q
-one_rests me end q at z held given = given ∙ ap without held
+pub all_named : (now then : Mine) (what : Operation) (still : List (ℕ × Content)) (surplus : List ℕ) (word k : ℕ) → then ≡ decided_by now what still surplus → surplus ≡ replicate k word
+    → then.0.surplus ≡ replicate k word ++ []
+all_named now then what still surplus word k did same = ap (λ (m : Mine). m.0.surplus) did ∙ (same ∙ sym (append-nil (replicate k word)))
 
 -- a call was answered
 pub came_out : {E : Type 0} (start : Beginning) (old new : CallerState) (step : KeyStep) (now : ℕ) (reply told : Reply) (may : Beginning → Past → KeyStep → ℕ → E → Type 0)
-    → new.table ≡ old.table → new.past ≡ call old.past (entry_of old.past (Stepped step now told)) → reply ≡ told → Agrees start (call old.past (entry_of old.past (Stepped step now told)))
-    → IsAnswered start old step now may (Ok reply) new
-came_out start old new step now reply told may table past is agrees =
-    let kept = subst (Agrees start) (sym past) agrees in record {
-      same = (table, kept);
-      ok = (past ∙ ap (λ (r : Reply). call old.past (entry_of old.past (Stepped step now r))) (sym is), kept);
-      err = tt;
-      fault = tt;
-    }
+    → new.table ≡ old.table → new.past ≡ call old.past (entry_of old.past (Stepped step now told)) → reply ≡ told → Agrees start new.past → IsAnswered start old step now may (Ok reply) new
+came_out start old new step now reply told may table past is agrees = record {
+  same = (table, agrees);
+  ok = (past ∙ ap (λ (r : Reply). call old.past (entry_of old.past (Stepped step now r))) (sym is), agrees);
+  err = tt;
+  fault = tt;
+}
 
 -- a seat that didn't change holds what it held
 pub stays_held : {K : Type 0} (hash_of : K → List ℕ → ℕ) (shared : SharedState K) (old new : Sitter) (at : ℕ) (f : ShelfContent) → SameSeat old new → new.me ≡ old.me

@@ -14,7 +14,6 @@ pub mod Decisions
 pub mod HitLemmas
 pub mod TellingLemmas
 pub mod Held
-pub mod DeskLemmas
 pub mod Opening
 pub mod Stacked
 pub mod Surveyed

@@ -1,7 +1,7 @@
 -- How many keys of a map pass a test.
-use Rattle.mc_shared.proofs.Words.{◌≡◌, ◌≢◌, ℕ, suc, ◌+◌, ◌≤◌, Bool, true, false, true≢false, cond, List, [], ◌∷◌, length, Option, Some, None, is_some, refl, sym, ap, ◌∙◌, arith, Less}
-use Rattle.mc_shared.proofs.Words.{Equal, Greater, get, len, retain_keys, empty, get-empty, Items, Entry, order, same_maps, get_kept, get_gone, insert, remove, entries, entries_sorted}
-use Rattle.mc_shared.proofs.Words.{entries-from_sorted, from_sorted, get-entries, get-from_sorted, get-remove, is_sorted, len-empty, len-entries, len-insert, empty_of_len, same_key}
+use Rattle.mc_shared.proofs.Words.{◌≡◌, ◌≢◌, ℕ, suc, ◌+◌, ◌-◌, ◌≤◌, Bool, true, false, true≢false, cond, List, [], ◌∷◌, length, Option, Some, None, is_some, refl, sym, ap, ◌∙◌, arith, Less}
+use Rattle.mc_shared.proofs.Words.{Equal, Greater, get, len, retain_keys, empty, get-empty, Items, Entry, order, same_maps, get_kept, remove, entries, entries_sorted, entries-from_sorted}
+use Rattle.mc_shared.proofs.Words.{from_sorted, get-entries, get-from_sorted, get-remove, is_sorted, len-empty, len-entries, len-remove, none-some, empty_of_len, same_key}
 use lib.Dec.{T}
 use Rattle.std.specs.Ordering.{is_eq}
 use Rattle.std.specs.Cmp.{tied_itself}
@@ -31,26 +31,16 @@ nothing_out a key none = same_maps _ _ (λ q.
       | Greater ↦ λ e. refl
     ] refl)
 
-put_back : (a : Items) (key : List ℕ) (item : Entry) → get a key ≡ Some item → insert (remove a key) key item ≡ a
-put_back a key item is = same_maps _ _ (λ q.
-    Rattle.std.specs.FinMap.get-insert nat_list_cmp_total (remove a key) key item q
-    ∙ ap (cond (is_eq (order q key)) (Some item)) (get-remove nat_list_cmp_total a key q)
-    ∙ elim (order q key) as (λ r. order q key ≡ r → cond (is_eq r) (Some item) (cond (is_eq r) None (get a q)) ≡ get a q) [
-      | Less ↦ λ e. refl
-      | Equal ↦ λ e. sym (ap (λ (k : List ℕ). get a k) (same_key q key e) ∙ is)
-      | Greater ↦ λ e. refl
-    ] refl)
-
 -- one key more, where an item stands under it
 len_without : (a : Items) (key : List ℕ) → len a ≡ len (remove a key) + there (get a key)
 len_without a key =
+    let gone = len-remove nat_list_cmp_total a key in
     elim (get a key) as (λ o. get a key ≡ o → len a ≡ len (remove a key) + there o) [
-      | None ↦ λ none. (let same : len (remove a key) ≡ len a = ap (λ (m : Items). len m) (nothing_out a key none) in omega (arith, same))
+      | None ↦ λ none. (let same : len (remove a key) ≡ len a = gone ∙ ap (λ o. cond (is_some o) (len a - 1) (len a)) none in omega (arith, same))
       | Some item ↦ λ is.
-          let back : len (insert (remove a key) key item) ≡ len a = ap (λ (m : Items). len m) (put_back a key item is) in
-          let more : len (insert (remove a key) key item) ≡ len (remove a key) + 1 = len-insert nat_list_cmp_total (remove a key) key item
-          ∙ ap (λ o. cond (is_some o) (len (remove a key)) (len (remove a key) + 1)) (get_gone a key) in
-          omega (arith, back, more)
+          let less : len (remove a key) ≡ len a - 1 = gone ∙ ap (λ o. cond (is_some o) (len a - 1) (len a)) is in
+          let some : len a ≢ 0 = λ zero. none-some item (sym (ap (λ (m : Items). get m key) (empty_of_len a zero) ∙ get-empty order key) ∙ is) in
+          omega (arith, less, some)
     ] refl
 
 -- how many there are, after a change at one key

@@ -1,7 +1,7 @@
 -- Held shelves, and the step that changes them all.
 use Rattle.mc_shared.proofs.Words.{◌≡◌, ◌==◌, Bool, true, false, ℕ, zero, suc, ◌+◌, ◌≤◌, ◌<◌, None, Some, List, [], ◌∷◌, ◌++◌, length, slice_get, sym, refl, ap, ◌∙◌, subst, arith, rest}
-use Rattle.mc_shared.proofs.Words.{empty, moment_named, Plain, flushed, living, Flush, Flushed, ShelfState, DeskState, IsShelfOf, ArePartsOf, Bay, Content, OfShelf, OfDesk, content_of}
-use Rattle.mc_shared.proofs.Words.{place, total, Beginning, Operation, Stepped, after, FitsBay, AllFit, KeepsLimits, holds_bay, Past, KeptBy, SeatView, Slot, Mine, HasTaken, HoldsThis}
+use Rattle.mc_shared.proofs.Words.{empty, moment_named, Plain, flushed, living, Flush, Flushed, ShelfState, DeskState, IsShelfOf, ArePartsOf, Bay, Content, OfShelf, OfDesk, content_of, cond}
+use Rattle.mc_shared.proofs.Words.{eqb, place, total, Beginning, Operation, Stepped, after, FitsBay, AllFit, KeepsLimits, holds_bay, Past, KeptBy, SeatView, Mine, HasTaken, HoldsThis}
 use Rattle.mc_shared.proofs.Words.{without, holding, decided_by, loaded, Fitted, Decides, stacked, holds_all, if◌then◌else◌, take, drop, stacked_on, hollow, Gathered}
 use Rattle.std.proofs.Math.Seq.{take-append_seam}
 use Rattle.mc_shared.proofs.StockedKept.{here, elsewhere}
@@ -26,14 +26,14 @@ has_on n c (x ∷ xs) below low high = mathlib.Core.Logic.dite (native.Mathlib.D
     below_stays (n + 1) c xs ((n, OfShelf x.content) ∷ below) in omega (arith, one, stays))
     (λ ne. has_on (n + 1) c xs ((n, OfShelf x.content) ∷ below) (omega (arith, low, ne)) (omega (arith, high)))
 
--- the same places, whatever lies there
-same_places : (n c : ℕ) (xs ys : List ShelfState) (b d : List (ℕ × Content)) → length xs ≡ length ys → total (holds_bay c) b ≡ total (holds_bay c) d
-    → total (holds_bay c) (stacked_on n xs b) ≡ total (holds_bay c) (stacked_on n ys d)
-same_places n c [] [] b d l e = e
-same_places n c [] (y ∷ ys) b d l e = absurd (omega (arith, l))
-same_places n c (x ∷ xs) [] b d l e = absurd (omega (arith, l))
-same_places n c (x ∷ xs) (y ∷ ys) b d l e =
-    same_places (n + 1) c xs ys ((n, OfShelf x.content) ∷ b) ((n, OfShelf y.content) ∷ d) (omega (arith, l)) (ap (λ k. holds_bay c (n, OfShelf x.content) + k) e)
+-- what is so of held bays by their places is so of others that are held there
+same_on : {A : Type 0} (f : List (ℕ × Content) → A) (more : ℕ → A → A) → ((n : ℕ) (x : Content) (b : List (ℕ × Content)) → f ((n, x) ∷ b) ≡ more n (f b))
+    → (n : ℕ) (xs ys : List ShelfState) (b d : List (ℕ × Content)) → length xs ≡ length ys → f b ≡ f d → f (stacked_on n xs b) ≡ f (stacked_on n ys d)
+same_on f more goes n [] [] b d l e = e
+same_on f more goes n [] (y ∷ ys) b d l e = absurd (omega (arith, l))
+same_on f more goes n (x ∷ xs) [] b d l e = absurd (omega (arith, l))
+same_on f more goes n (x ∷ xs) (y ∷ ys) b d l e = same_on f more goes (n + 1) xs ys ((n, OfShelf x.content) ∷ b) ((n, OfShelf y.content) ∷ d) (omega (arith, l))
+    (goes n (OfShelf x.content) b ∙ ap (more n) e ∙ sym (goes n (OfShelf y.content) d))
 
 -- shelves that all fit, one after another
 below_fit : (began : Beginning) (m : Plain) (n : ℕ) (xs : List ShelfState) (below : List (ℕ × Content)) → AllFit began m (stacked_on n xs below) → AllFit began m below
@@ -96,7 +96,7 @@ pub flushes : (began : Beginning) (xs ys : List ShelfState) (d d' : DeskState) (
     → ((m : Plain) → ArePartsOf began.hash_of m xs began.shelves d → ArePartsOf began.hash_of (flushed delay m now) ys began.shelves d')
     → Decides began ((began.shelves, OfDesk d) ∷ stacked xs) began.shelves (OfDesk d') (Stepped (Flush delay) now Flushed) (stacked ys)
 flushes began xs ys d d' delay now all some same parts = record {
-  places = λ c. same_places 0 c ys xs [] [] same refl;
+  places = λ c. same_on (total (holds_bay c)) (λ n k. cond (eqb c n) 1 0 + k) (λ n x b. refl) 0 ys xs [] [] same refl;
   right = λ m h. (flushed delay m now, refl);
   limits = λ m h keeps. flushed_limits began m delay now keeps;
   given = λ m h. (refl, (parts m (parts_held began m xs d all some h)).account);
@@ -138,18 +138,12 @@ pub held_parts : (began : Beginning) (xs : List ShelfState) (d : DeskState) (v :
 held_parts began xs d v is all some fitted =
     let m : Plain = after began began.plain fitted.log in (m, parts_held began m xs d all some (subst (AllFit began m) is fitted.fits))
 
-hollow_same : (n : ℕ) (xs ys : List ShelfState) (b d : List (ℕ × Content)) → length xs ≡ length ys → hollow b ≡ hollow d → hollow (stacked_on n xs b) ≡ hollow (stacked_on n ys d)
-hollow_same n [] [] b d l e = e
-hollow_same n [] (y ∷ ys) b d l e = absurd (omega (arith, l))
-hollow_same n (x ∷ xs) [] b d l e = absurd (omega (arith, l))
-hollow_same n (x ∷ xs) (y ∷ ys) b d l e = hollow_same (n + 1) xs ys ((n, OfShelf x.content) ∷ b) ((n, OfShelf y.content) ∷ d) (omega (arith, l)) (ap (λ (hs : List (ℕ × Slot)). (place n, None) ∷ hs) e)
-
 -- after the desk has decided, the held shelves have their new content, and words may show too many
 pub decided_all : (m m' : Mine) (p : Past) (xs ys : List ShelfState) (x : Content) (n : ℕ) (what : Operation) (surplus : List ℕ)
     → m ≡ (holding (holds_all p xs).0 n x, (place n, None) ∷ hollow (stacked xs))
     → m' ≡ decided_by m what (stacked ys) surplus → length xs ≡ length ys → m' ≡ loaded (holds_all m'.0.past ys) surplus
 decided_all m m' p xs ys x n what surplus is did same = let eb : m'.0.bays ≡ stacked ys = ap (λ (z : Mine). z.0.bays) did in
-    let es : m'.1 ≡ hollow (stacked ys) = ap (λ (z : Mine). z.1) did ∙ (ap (λ (z : Mine). rest z.1) is ∙ hollow_same 0 xs ys [] [] same refl) in
+    let es : m'.1 ≡ hollow (stacked ys) = ap (λ (z : Mine). z.1) did ∙ (ap (λ (z : Mine). rest z.1) is ∙ same_on hollow (λ n hs. (place n, None) ∷ hs) (λ n x b. refl) 0 xs ys [] [] same refl) in
     let ex : m'.0.surplus ≡ surplus = ap (λ (z : Mine). z.0.surplus) did in
     λ i. (record { past = m'.0.past; bays = eb i; surplus = ex i }, es i)
 

@@ -1,12 +1,11 @@
 -- How a step whose reply is told comes out, by what came of it and what was told.
-use Rattle.mc_shared.proofs.Words.{◌≡◌, ℕ, Result, Ok, Err, IfErr, OnOk, OnErr, subst, Beginning, Past, KeyStep, Reply, CallerState, Agrees, StepFault, NoMemory, NumbersSpent, Refuses}
-use Rattle.mc_shared.proofs.Words.{IsAnswered, MayFailAfter, HasCalled, IsTold, CameOfRead}
+use Rattle.mc_shared.proofs.Words.{◌≡◌, ℕ, Result, Ok, Err, IfErr, OnErr, subst, Beginning, Past, KeyStep, Reply, CallerState, Agrees, StepFault, NoMemory, NumbersSpent, Refuses, IsAnswered}
+use Rattle.mc_shared.proofs.Words.{MayFailAfter, HasCalled, IsTold, IsDelivered}
 use Rattle.std.specs.Bool.{⊤}
 use Rattle.std.proofs.lemmas.Result.{IfOk-at_ok, on_ok_weaker}
 use Rattle.std.specs.Result.{MatchResult}
 use Rattle.mc_protocol.specs.declared.answer.Unanswered.{Unanswered}
 use Rattle.mc_protocol.specs.declared.answer.Unanswered.TheVariants.{NoMemory as NoRoom, NumbersSpent as NoNumbers, Untold}
-use Rattle.mc_shared.specs.declared.telling.Sought.{Sought}
 
 no_fault : {A E : Type 0} {P : Type 0} (x : A) (e : E) → Ok x ≡ Err e → P
 no_fault {A} {E} x e is = absurd (subst (λ (r : Result A E). MatchResult r (λ _. ⊤) (λ _. ⊥)) is tt)
@@ -34,18 +33,6 @@ module _ (start : Beginning) (old new : CallerState) (step : KeyStep) (now : ℕ
   pub fails_from : (mid : CallerState) → mid.past ≡ old.past → MayFailAfter start mid.past step now → MayFailAfter start old.past step now
   fails_from mid past = subst (λ (p : Past). MayFailAfter start p step now) past
 
-  -- and so a read came out
-  pub came_from : {A : Type 0} (told : A → Reply → A → Type 0) (before after : A) (mid : CallerState) (sought so : Sought)
-      → mid.past ≡ old.past → sought ≡ so
-      → CameOfRead told start mid.past step now before sought new.past after → CameOfRead told start old.past step now before so new.past after
-  came_from told before after mid sought so past same =
-      subst (λ (t : Past × Sought). CameOfRead told start t.0 step now before t.1 new.past after) (λ i. (past i, same i))
-
-  -- what takes the reply was told nothing before
-  pub told_from : {A : Type 0} (told : A → Reply → A → Type 0) (before mid after : A) (result : Result (Unit {0}) Unanswered) → mid ≡ before
-      → IsTold told start old step now mid result new after → IsTold told start old step now before result new after
-  told_from {A} told before mid after result is = subst (λ (b : A). IsTold told start old step now b result new after) is
-
   module _ {A : Type 0} (told : A → Reply → A → Type 0) (before after : A) where
     -- a hit was told where it stands, and then taken
     pub hit_told : (result : Unit {0}) → (new.table ≡ old.table) × Agrees start new.past
@@ -71,24 +58,22 @@ module _ (start : Beginning) (old new : CallerState) (step : KeyStep) (now : ℕ
       err = stays.1;
     }
 
-    -- a reply was told when its step was taken, or why it wasn't
-    pub taken_told : (taken : Result Reply StepFault) (result : Result (Unit {0}) Unanswered) → IsAnswered start old step now Refuses taken new
-        → OnOk result ((reply : Reply) × (taken ≡ Ok reply) × told before reply after)
-        → (result ≡ Err Untold → (reply : Reply) × (taken ≡ Ok reply))
-        → (result ≡ Err NoNumbers → taken ≡ Err NumbersSpent) → (result ≡ Err NoRoom → taken ≡ Err NoMemory)
-        → OnErr result (after ≡ before) → IsTold told start old step now before result new after
-    taken_told taken result answered ok untold spent refused err =
-        let called : (reply : Reply) → taken ≡ Ok reply → HasCalled start old.past step now reply new.past =
-        λ reply is. IfOk-at_ok (λ r. HasCalled start old.past step now r new.past) is answered.ok in
-        let stays : (fault : StepFault) → taken ≡ Err fault → new.past ≡ old.past =
-        λ fault is. subst (λ (r : Result Reply StepFault). OnErr r (new.past ≡ old.past)) is answered.err in
-        let why : (fault : StepFault) → taken ≡ Err fault → Refuses start old.past step now fault =
-        λ fault is. subst (λ (r : Result Reply StepFault). IfErr r (Refuses start old.past step now)) is answered.fault in
-        record {
-          same = answered.same;
-          ok = on_ok_weaker result (λ t. (t.0, called t.0 t.1, t.2)) ok;
-          untold = λ is. let reply = untold is in (reply.0, called reply.0 reply.1);
-          spent = λ is. (stays NumbersSpent (spent is), why NumbersSpent (spent is));
-          refused = λ is. (stays NoMemory (refused is), why NoMemory (refused is));
-          err = err;
-        }
+-- a reply was told when its step was taken, or why it wasn't
+pub taken_told : {A : Type 0} {told : A → Reply → A → Type 0} {start : Beginning} {old new : CallerState} {step : KeyStep} {now : ℕ} {before mid after : A} {taken : Result Reply StepFault}
+    {result : Result (Unit {0}) Unanswered} → mid ≡ before → IsAnswered start old step now Refuses taken new → IsDelivered told taken mid result after
+    → IsTold told start old step now before result new after
+taken_told {A} {told} {start} {old} {new} {step} {now} {before} {mid} {after} {taken} {result} same answered delivered =
+    let called : (reply : Reply) → taken ≡ Ok reply → HasCalled start old.past step now reply new.past =
+    λ reply is. IfOk-at_ok (λ r. HasCalled start old.past step now r new.past) is answered.ok in
+    let stays : (fault : StepFault) → taken ≡ Err fault → new.past ≡ old.past =
+    λ fault is. subst (λ (r : Result Reply StepFault). OnErr r (new.past ≡ old.past)) is answered.err in
+    let why : (fault : StepFault) → taken ≡ Err fault → Refuses start old.past step now fault =
+    λ fault is. subst (λ (r : Result Reply StepFault). IfErr r (Refuses start old.past step now)) is answered.fault in
+    subst (λ (b : A). IsTold told start old step now b result new after) same record {
+      same = answered.same;
+      ok = on_ok_weaker result (λ t. (t.0, called t.0 t.1, t.2)) delivered.ok;
+      untold = λ is. let reply = delivered.untold is in (reply.0, called reply.0 reply.1);
+      spent = λ is. let spent = delivered.spent is in (stays NumbersSpent spent, why NumbersSpent spent);
+      refused = λ is. let refused = delivered.refused is in (stays NoMemory refused, why NoMemory refused);
+      err = delivered.err;
+    }

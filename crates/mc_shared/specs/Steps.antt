@@ -96,7 +96,7 @@ abbrev pub decided
     : Beginning → Operation → List (ℕ × Content) → (surplus : List ℕ) → Step Slot → Mine → ℕ → Mine
     → Type 0
 decided began what bays surplus st m n m' =
-    (m' ≡ decided_by m what bays surplus) × Agrees began m'.0.past
+    (m' ≡ decided_by m what bays surplus) × Agrees began m'.0.past × Fitted began m'.0
 
 -- the bay is held from then on with its content, and all that is held fits such a history
 abbrev pub HasTaken : Beginning → Mine → ℕ → Bay → Mine → Type 0
@@ -104,11 +104,12 @@ HasTaken began m b x m' =
     BelongsAt began.shelves b x × (m' ≡ (holding m.0 b (content_of x), (place b, None) ∷ m.1))
     × Fitted began (holding m.0 b (content_of x))
 
--- the last bay taken was given back with a decision, and these bays are still held
+-- the last bay taken was given back with a decision, and these bays are still held, which fit such
+-- a history
 abbrev pub HasDecided
     : Beginning → Mine → Operation → List (ℕ × Content) → (surplus : List ℕ) → Mine → Type 0
 HasDecided began m what still surplus m' =
-    (m' ≡ decided_by m what still surplus) × Agrees began m'.0.past
+    (m' ≡ decided_by m what still surplus) × Agrees began m'.0.past × Fitted began m'.0
 
 -- In any state that fits what is held, the decision is the plain machine's. What is given back and
 -- what is still held fit the state after it, and so does each bay that isn't held.

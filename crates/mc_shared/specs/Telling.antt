@@ -1,5 +1,5 @@
 -- Steps that deliver their reply to an `Answer`.
-use Rattle.std.specs.Prelude.{◌≡◌, ℕ, List, Option, Result, Err, OnOk, OnErr, IfSome, Some, None, get_or, slice_get, true}
+use Rattle.std.specs.Prelude.{◌≡◌, ℕ, List, Option, Result, Ok, Err, OnOk, OnErr, IfSome, Some, None, get_or, slice_get, true}
 use Rattle.std.specs.FinMap.{get}
 use Rattle.mc_protocol.specs.declared.step.KeyStep.{KeyStep}
 use Rattle.mc_protocol.specs.declared.reply.Reply.{Reply}
@@ -7,6 +7,8 @@ use Rattle.mc_protocol.specs.declared.reply.Reply.TheVariants.{Miss}
 use Rattle.mc_protocol.specs.Commands.{key_of}
 use Rattle.mc_protocol.specs.Plain.{Entry, hit_of}
 use Rattle.mc_protocol.specs.Laws.{IsOnKey}
+use Rattle.mc_protocol.specs.declared.step.StepFault.{StepFault}
+use Rattle.mc_protocol.specs.declared.step.StepFault.TheVariants.{NoMemory as OutOfMemory, NumbersSpent as OutOfNumbers}
 use Rattle.mc_shelf.specs.States.{ShelfContent}
 use Rattle.mc_shelf.specs.Plans.{is_gone, stood}
 use Rattle.mc_shared.specs.History.{Beginning}
@@ -54,6 +56,16 @@ CameOfRead told start old step now before (Told place) new after =
 CameOfRead told start old step now before Nothing new after =
     HasCalled start old step now Miss new × (after ≡ before)
 CameOfRead told start old step now before Deferred new after = (new ≡ old) × (after ≡ before)
+
+-- A reply was delivered if its step was taken, or its delivery was refused; otherwise it is returned
+-- why the step wasn't taken. The answer is unchanged if nothing was delivered.
+pub record IsDelivered {A : Type 0} (told : A → Reply → A → Type 0) (taken : Result Reply StepFault)
+    (before : A) (result : Result (Unit {0}) Unanswered) (after : A) : Type 0 where
+  pub ok : OnOk result ((reply : Reply) × (taken ≡ Ok reply) × told before reply after)
+  pub untold : result ≡ Err Untold → (reply : Reply) × (taken ≡ Ok reply)
+  pub spent : result ≡ Err NumbersSpent → taken ≡ Err OutOfNumbers
+  pub refused : result ≡ Err NoMemory → taken ≡ Err OutOfMemory
+  pub err : OnErr result (after ≡ before)
 
 -- The result of a step that delivers its reply, for a caller. If it was delivered, the past has the
 -- step as one more call with that reply. If only the delivery was refused, the past has it with

@@ -1,10 +1,8 @@
 //! Counts of keys by number, and changes of many presence words at once.
-ghost use Rattle.std.specs.Prelude.{◌≡◌, ◌*◌, ◌/◌, ◌-◌, ◌%◌, ◌<◌, ◌++◌, ℕ, List, [], length};
-ghost use Rattle.std.specs.Prelude.{replicate, slice_index};
+ghost use Rattle.std.specs.Prelude.{◌≡◌, ◌*◌, ◌/◌, ◌-◌, ◌%◌, ◌<◌, ℕ, List, [], length, slice_index};
 ghost use Rattle.mc_protocol.specs.Plain.{Plain, flushed};
 ghost use Rattle.mc_shared.specs.Counted.{AreNone, AreCountsOf, AreAllOf, AreCountsOfAll};
 ghost use Rattle.mc_shared.specs.Counted.{AreKeyCounts, AreCountsLeft};
-ghost use Rattle.mc_shared.specs.Presence.{word_of};
 ghost use Rattle.mc_shared.specs.Seats.{SameSeat, SitsAt, shelves_at, start_at};
 ghost use Rattle.mc_shared.specs.Spread.{spread};
 ghost use Rattle.mc_shared.specs.Steps.{loaded, MayCount};
@@ -99,32 +97,6 @@ pub(crate) fn count_words<K: KeyHash + Drop>(
     counts
 }
 
-/// Lowers the word of a number by `count`, in one atomic step.
-///
-/// The surplus must begin with the word, `count` times.
-fn lower_number<K: KeyHash + Drop>(
-    board: &Board<K>,
-    seat: &mut Seat,
-    shelves: usize,
-    number: usize,
-    count: u64,
-)
-    requires seat { SitsAt board.now seat.old }
-    requires shelves { shelves ≡ shelves_at board.now }
-    requires number { number < 4096 }
-    requires named { (more : List ℕ)
-        × (seat.old.me.0.surplus ≡ replicate count (word_of shelves number) ++ more) }
-    ensures seat { SameSeat seat.old seat.new }
-    ensures view { (more : List ℕ)
-        → seat.old.me.0.surplus ≡ replicate count (word_of shelves number) ++ more
-        → seat.new.me ≡ loaded seat.old.me more }
-{
-    if count > 0 {
-        let word = word_in(shelves, number);
-        lower_all(board, seat, word, count as usize);
-    }
-}
-
 /// Lowers the words of all numbers by the keys that were removed.
 ///
 /// It costs a comparison for each number, and one atomic step for each number with removed keys.
@@ -145,6 +117,6 @@ pub(crate) fn lower_words<K: KeyHash + Drop>(
 {
     for number in 0..NUMBERS {
         let gone = before[number].saturating_sub(after[number]);
-        lower_number(board, seat, shelves, number, gone);
+        lower_all(board, seat, shelves, number, gone as usize);
     }
 }

@@ -28,8 +28,8 @@ pub(crate) enum Decision<'a> {
     },
     /// A step that the desk decided, begun at its key's shelf.
     ///
-    /// The shelf is held until the step is finished. `word` and `had` are the key's presence word
-    /// and the number of the shelf's keys that it counts.
+    /// The shelf is held until the step is finished. `had` is the number of the shelf's keys that
+    /// are counted, with one for the key, which has this number.
     Begun {
         step: &'a KeyStep<'a>,
         moment: Moment,
@@ -37,7 +37,7 @@ pub(crate) enum Decision<'a> {
         shelf: &'a Shelf,
         plan: &'a Plan<'a>,
         begun: &'a Begun,
-        word: usize,
+        number: usize,
         had: usize,
     },
     /// A purge that dropped items of a shelf, which is still held. `before` are its counts of keys

@@ -13,7 +13,7 @@ use crate::boxed::Boxed;
 use crate::count::{count_shelf, count_words, lower_words};
 use crate::decision::Decision;
 use crate::rule::Seat;
-use crate::steps::{NUMBERS, decide, give};
+use crate::steps::{NUMBERS, decide};
 use crate::store::{Caller, Shared};
 use mc_hop::KeyHash;
 use mc_shelf::Shelf;
@@ -85,8 +85,7 @@ impl<K: KeyHash + Drop> Shared<K> {
         decide(&self.board, seat, bay, value, &decision);
         let after = count_shelf(&*shelf);
         lower_words(&self.board, seat, bay, &before, &after);
-        let value = Bay::Shelf(Boxed::of(shelf));
-        give(&self.board, seat, at as usize, value);
+        self.give_shelf(seat, shelf, at);
     }
 
     /// Drops the items of a shelf that are dead at a moment.

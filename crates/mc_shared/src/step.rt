@@ -28,7 +28,7 @@ use crate::decision::Decision;
 use crate::fault::TryFault;
 use crate::patience::{Busy, Gate, NoGate, Once, Patience, Waiting};
 use crate::rule::Seat;
-use crate::steps::{decide, give, lower_all, raise_for};
+use crate::steps::{NUMBERS, decide, lower_all, raise_for};
 use crate::store::{Caller, Shared};
 use mc_hop::KeyHash;
 use mc_protocol::{KeyStep, Reply, StepFault};
@@ -275,11 +275,12 @@ impl<K: KeyHash + Drop> Shared<K> {
             brought,
         } = at_desk;
         let bay = self.settings.shelves as usize;
+        let number = (ask.hash % NUMBERS as u64) as usize;
         let before = shelf.len();
         let comes = may_come(&looked, &*shelf, ask);
         match begin(alloc, &mut *shelf, &mut *desk, looked, brought, ask) {
             Ok((mut plan, begun)) => {
-                let (word, came) = raise_for(&self.board, seat, bay, ask.hash, comes);
+                let came = raise_for(&self.board, seat, bay, number, comes);
                 let had = before + came;
                 let decision = Decision::Begun {
                     step: ask.step,
@@ -288,15 +289,14 @@ impl<K: KeyHash + Drop> Shared<K> {
                     shelf: &*shelf,
                     plan: &plan,
                     begun: &begun,
-                    word,
+                    number,
                     had,
                 };
                 let value = Bay::Desk(Boxed::of(desk));
                 decide(&self.board, seat, bay, value, &decision);
                 let reply = shelf.finish(&mut plan, begun, ask.step);
-                lower_all(&self.board, seat, word, had - shelf.len());
-                let value = Bay::Shelf(Boxed::of(shelf));
-                give(&self.board, seat, ask.at as usize, value);
+                lower_all(&self.board, seat, bay, number, had - shelf.len());
+                self.give_shelf(seat, shelf, ask.at);
                 Ok(reply)
             }
             Err(refused) => {

@@ -3,16 +3,15 @@
 //! A step on a word is called at `Brand`, and the proof of the call picks the relation that holds
 //! of it. A pick reads the call's parameters alone, so `free_as` and `load_as` have parameters that
 //! their bodies don't read.
-ghost use Rattle.std.specs.Prelude.{◌≡◌, ◌*◌, ◌/◌, ◌%◌, ◌<◌, ◌≤◌, ℕ, List, ◌++◌};
-ghost use Rattle.std.specs.Prelude.{◌==◌, true, false, IfOk, IfErr, replicate};
+ghost use Rattle.std.specs.Prelude.{◌≡◌, ◌*◌, ◌/◌, ◌%◌, ◌<◌, ◌≤◌, ℕ, List, ◌++◌, ◌==◌, true, false};
+ghost use Rattle.std.specs.Prelude.{IfOk, IfErr, replicate};
 ghost use Rattle.mc_shared.specs.Bays.{content_of, place};
 ghost use Rattle.mc_shared.specs.Decisions.{operation_of, still_of, surplus_of};
 ghost use Rattle.mc_shared.specs.Presence.{word_of, words_with};
-ghost use Rattle.mc_shared.specs.Steps.{without, loaded};
-ghost use Rattle.mc_shared.specs.Steps.{MayAdd, Agrees, Fitted};
-ghost use Rattle.mc_shared.specs.Steps.{HoldsThis, HasTaken, HasDecided, IsBusy};
-ghost use Rattle.mc_shared.specs.Seats.{SameSeat, IsBoard, SitsAt, LivesAt, MayDecideAt};
-ghost use Rattle.mc_shared.specs.Seats.{IsWord, MayPlay, shelves_at, start_at, step_at};
+ghost use Rattle.mc_shared.specs.Steps.{without, loaded, MayAdd, Agrees, Fitted, HoldsThis};
+ghost use Rattle.mc_shared.specs.Steps.{HasTaken, HasDecided, IsBusy};
+ghost use Rattle.mc_shared.specs.Seats.{SameSeat, IsBoard, SitsAt, LivesAt, MayDecideAt, IsWord};
+ghost use Rattle.mc_shared.specs.Seats.{MayPlay, shelves_at, start_at, step_at};
 ghost use prog.Atomic.{either};
 
 use crate::bay::Bay;
@@ -111,7 +110,7 @@ pub(crate) fn decide<K: KeyHash + Drop>(
     value: Bay,
     decision: &Decision<'_>,
 )
-    requires may { MayDecideAt board.now seat.old bay
+    requires { MayDecideAt board.now seat.old bay
         (start_at K.hash_of board.now) (content_of value)
         (operation_of decision.now) (still_of decision.now)
         (surplus_of (start_at K.hash_of board.now) decision.now) }
@@ -127,7 +126,7 @@ pub(crate) fn decide<K: KeyHash + Drop>(
 
 /// Loads a word and changes nothing. So there is a history that keeps the caller's past.
 pub fn reload<K: KeyHash + Drop>(board: &Board<K>, seat: &mut Seat)
-    requires seat { SitsAt board.now seat.old }
+    requires { SitsAt board.now seat.old }
     ensures seat { SameSeat seat.old seat.new }
     ensures view { (seat.new.me ≡ seat.old.me) × Agrees
         (start_at K.hash_of board.now) seat.old.me.0.past }
@@ -135,45 +134,52 @@ pub fn reload<K: KeyHash + Drop>(board: &Board<K>, seat: &mut Seat)
     board.shared.load::<Brand>(seat, 0);
 }
 
-/// Adds one to the word of a key if it is inserted. Returns the word, and how many it added.
+/// Adds one to the word of a number if a key with it is inserted. Returns how many it added.
 pub(crate) fn raise_for<K: KeyHash + Drop>(
     board: &Board<K>,
     seat: &mut Seat,
     shelves: usize,
-    hash: u64,
+    number: usize,
     comes: bool,
-) -> (usize, usize)
+) -> usize
     requires seat { SitsAt board.now seat.old }
     requires shelves { shelves ≡ shelves_at board.now }
-    requires may { MayAdd (start_at K.hash_of board.now) seat.old.me.0 (hash % 4096) }
+    requires may { MayAdd (start_at K.hash_of board.now) seat.old.me.0 number }
     ensures seat { SameSeat seat.old seat.new }
-    ensures word { result.0 ≡ word_of shelves (hash % 4096) }
-    ensures view { seat.new.me ≡ loaded seat.old.me (replicate result.1 result.0) }
-    ensures one { (comes ≡ true → result.1 ≡ 1) × (result.1 ≤ 1) }
-    ensures none { comes ≡ false → result.1 ≡ 0 }
+    ensures view { seat.new.me ≡ loaded seat.old.me (replicate result (word_of shelves number)) }
+    ensures one { (comes ≡ true → result ≡ 1) × (result ≤ 1) }
+    ensures none { comes ≡ false → result ≡ 0 }
 {
-    let number = (hash % NUMBERS as u64) as usize;
-    let word = word_in(shelves, number);
     if comes {
+        let word = word_in(shelves, number);
         board.shared.fetch_add::<Brand>(seat, word, 1);
-        return (word, 1);
+        return 1;
     }
-    (word, 0)
+    0
 }
 
-/// Subtracts `count` from a word in one atomic step, or in none if it is 0.
+/// Subtracts `count` from the word of a number in one atomic step, or in none if it is 0.
 ///
 /// The surplus must begin with the word, `count` times.
-pub fn lower_all<K: KeyHash + Drop>(board: &Board<K>, seat: &mut Seat, word: usize, count: usize)
+pub fn lower_all<K: KeyHash + Drop>(
+    board: &Board<K>,
+    seat: &mut Seat,
+    shelves: usize,
+    number: usize,
+    count: usize,
+)
     requires seat { SitsAt board.now seat.old }
-    requires word { (number : ℕ) × (number < 4096)
-        × (word ≡ word_of (shelves_at board.now) number) }
-    requires named { (more : List ℕ) × (seat.old.me.0.surplus ≡ replicate count word ++ more) }
+    requires shelves { shelves ≡ shelves_at board.now }
+    requires number { number < 4096 }
+    requires named { (more : List ℕ)
+        × (seat.old.me.0.surplus ≡ replicate count (word_of shelves number) ++ more) }
     ensures seat { SameSeat seat.old seat.new }
-    ensures view { (more : List ℕ) → seat.old.me.0.surplus ≡ replicate count word ++ more
+    ensures view { (more : List ℕ)
+        → seat.old.me.0.surplus ≡ replicate count (word_of shelves number) ++ more
         → seat.new.me ≡ loaded seat.old.me more }
 {
     if count > 0 {
+        let word = word_in(shelves, number);
         board.shared.fetch_sub::<Brand>(seat, word, count as u64);
     }
 }

@@ -4,13 +4,12 @@
 //! of a large block are handed as shared memory, where they can be lent, so that the answer may keep
 //! them for as long as it wants. A block of one part with fewer than 32768 bytes is handed in place,
 //! to be copied.
-ghost use Rattle.std.specs.Prelude.{◌≡◌, [], true, false, Ok, Err, Some, IfOk, OnOk, OnErr};
-ghost use Rattle.std.specs.Prelude.{◌<◌, ◌≤◌, get_or, length, slice_get};
+ghost use Rattle.std.specs.Prelude.{◌≡◌, [], true, false, Some, IfOk, OnOk, OnErr};
+ghost use Rattle.std.specs.Prelude.{◌<◌, get_or, slice_get};
 ghost use Rattle.std.specs.List.{concat};
 ghost use Rattle.std.specs.FinMap.{get};
 ghost use Rattle.mc_protocol.specs.Commands.{key_of};
 ghost use Rattle.mc_protocol.specs.Plain.{hit_of, item_need};
-ghost use Rattle.mc_protocol.specs.declared.reply.Reply.{Reply as Told};
 ghost use Rattle.mc_shelf.specs.States.{IsHash, parts_of};
 ghost use Rattle.mc_shelf.specs.Hits.{is_read};
 ghost use Rattle.mc_shelf.specs.Plans.{IsKnown, is_gone, stood};
@@ -19,7 +18,8 @@ ghost use Rattle.mc_shared.specs.Steps.{Agrees};
 ghost use Rattle.mc_shared.specs.Store.{HasCalled, MayFailAfter};
 ghost use Rattle.mc_shared.specs.Seats.{IsFree};
 ghost use Rattle.mc_shared.specs.Holds.{HoldsShelf, IsAsked};
-ghost use Rattle.mc_shared.specs.Telling.{AreLentParts, CameOfRead, IsLentPart, IsSought, IsTold, ItemStands};
+ghost use Rattle.mc_shared.specs.Telling.{AreLentParts, CameOfRead, IsDelivered, IsLentPart};
+ghost use Rattle.mc_shared.specs.Telling.{IsSought, IsTold, ItemStands};
 
 use crate::ask::Ask;
 use crate::bay::Bay;
@@ -96,9 +96,7 @@ fn shown<'a>(hit: &'a Hit<'_>, lent: &'a Option<Lent>, at: usize) -> Bytes<'a>
 fn part_at<'a>(hit: &'a Hit<'_>, lents: &'a [Option<Lent>; MOST_PARTS], at: usize) -> Bytes<'a>
     requires place { at < 8 }
     requires lent { AreLentParts (parts_of hit.now.key hit.now.item) lents.now }
-    ensures value { result ≡ get_or (parts_of hit.now.key hit.now.item) at [] }
-    ensures joined { concat (parts_of hit.now.key hit.now.item) ≡ hit.now.item.block }
-    ensures few { length (parts_of hit.now.key hit.now.item) ≤ 8 }
+    ensures { result ≡ get_or (parts_of hit.now.key hit.now.item) at [] }
 {
     if at < hit.parts() {
         shown(hit, &lents[at], at)
@@ -114,6 +112,8 @@ fn parts_of<'a>(hit: &'a Hit<'_>, lents: &'a [Option<Lent>; MOST_PARTS]) -> [Byt
     requires { AreLentParts (parts_of hit.now.key hit.now.item) lents.now }
     ensures { concat result ≡ hit.now.item.block }
 {
+    // for the proof: how many parts there are, and that they make up the block
+    let _count = hit.parts();
     [
         part_at(hit, lents, 0),
         part_at(hit, lents, 1),
@@ -187,12 +187,7 @@ fn tell_hit<A: Answer>(shelf: &Shelf, ask: &Ask<'_>, answer: &mut A) -> Result<S
 /// Delivers the reply of a step that was taken, or returns why the step wasn't taken.
 #[inline]
 fn tell<A: Answer>(taken: Result<Reply, StepFault>, answer: &mut A) -> Result<(), Unanswered>
-    ensures told { OnOk result ((reply : Told) × (taken ≡ Ok reply)
-        × A.told answer.old reply answer.new) }
-    ensures untold { result ≡ Err Unanswered.Untold → (reply : Told) × (taken ≡ Ok reply) }
-    ensures spent { result ≡ Err Unanswered.NumbersSpent → taken ≡ Err StepFault.NumbersSpent }
-    ensures refused { result ≡ Err Unanswered.NoMemory → taken ≡ Err StepFault.NoMemory }
-    ensures err { OnErr result (answer.new ≡ answer.old) }
+    ensures { IsDelivered A.told taken answer.old result answer.new }
 {
     match taken {
         Ok(reply) => match answer.reply(&reply) {

@@ -2,8 +2,8 @@ use Rattle.mc_shared.proofs.Words.{rules, arith, ◌≡◌, ◌+◌, ◌-◌, �
 use Rattle.mc_shared.proofs.SpreadLemmas.{spread_next, spread_end}
 use Rattle.mc_shared.proofs.count.lower_words.Goals as goal
 
-pub lower_number-requires-clause-named : goal.lower_number-requires-clause-named
-lower_number-requires-clause-named g c =
+pub lower_all-requires-clause-named : goal.lower_all-requires-clause-named
+lower_all-requires-clause-named g c =
     let shelves = c.args.shelves in
     let number = c.loop-number.number in
     let gone : ℕ → ℕ = λ n. slice_index c.args.before.now n - slice_index c.args.after.now n in
@@ -21,10 +21,10 @@ loop-number-preserved g c =
     let low : number < 4096 = search rules in
     let is : c.saturating_sub-gone.result ≡ gone number = search rules in
     let more = spread shelves gone (number + 1) (4096 - (number + 1)) in (
-      c.lower_number.ensures.seat.0 ∙ inv.0,
-      c.lower_number.ensures.seat.1 ∙ inv.1,
+      c.lower_all.ensures.seat.0 ∙ inv.0,
+      c.lower_all.ensures.seat.1 ∙ inv.1,
       omega (arith, low),
-      c.lower_number.ensures.view more (ap (λ m. m.0.surplus) inv.3 ∙ (spread_next shelves gone number low ∙ ap (λ (k : ℕ). replicate k (word_of shelves number) ++ more) (sym is)))
+      c.lower_all.ensures.view more (ap (λ m. m.0.surplus) inv.3 ∙ (spread_next shelves gone number low ∙ ap (λ (k : ℕ). replicate k (word_of shelves number) ++ more) (sym is)))
           ∙ ap (λ m. loaded m more) inv.3,
     )
 

@@ -4,7 +4,7 @@ use Rattle.mc_shared.proofs.StepsKept.{decides_bay}
 use Rattle.mc_shared.proofs.steps.decide.Goals as goal
 
 pub free_as-requires : goal.free_as-requires
-free_as-requires g c = let board = c.args.board.now.shared in let now = c.exchange.ensures.3 in let x = c.requires.may.held.0.0 in let began = start_of g.K.KeyHash.hash_of board.key.value in
+free_as-requires g c = let board = c.args.board.now.shared in let now = c.exchange.ensures.3 in let x = c.requires.held.0.0 in let began = start_of g.K.KeyHash.hash_of board.key.value in
     let what = operation_of c.args.decision.now in let still = still_of c.args.decision.now in let surplus = surplus_of began c.args.decision.now in (
       search rules,
       c.place_of-place.ensures.inside,
@@ -12,9 +12,9 @@ free_as-requires g c = let board = c.args.board.now.shared in let now = c.exchan
           (λ n. either (eqb n 1) 0 n) (decided began what still surplus (step board.table_id.slots k 1 0 none) c.exchange.new.seat.me))
           (sym c.place_of-place.ensures.place)
           (decides_bay began _ _ c.args.bay x c.args.value what still surplus _
-          (ap (λ m. m.0.bays) now ∙ (c.requires.may.held.0.1 ∙ ap (λ m. (c.args.bay, x) ∷ rest m.0.bays) (sym now)))
+          (ap (λ m. m.0.bays) now ∙ (c.requires.held.0.1 ∙ ap (λ m. (c.args.bay, x) ∷ rest m.0.bays) (sym now)))
           (ap (λ m. m.1) now ∙ (λ i. (c.place_of-place.ensures.place i, Some c.args.value) ∷ rest (sym now i).1))
-          (subst (λ (m : Mine). Decides began m.0.bays c.args.bay (content_of c.args.value) what still) (sym now) c.requires.may.right)
-          (subst (λ (m : Mine). Counts began m.0 what (decided_by m what still surplus).0) (sym now) c.requires.may.counts)
-          (subst (λ (m : Mine). Lives m.0.past) (sym now) c.requires.may.alive.lives)),
+          (subst (λ (m : Mine). Decides began m.0.bays c.args.bay (content_of c.args.value) what still) (sym now) c.requires.right)
+          (subst (λ (m : Mine). Counts began m.0 what (decided_by m what still surplus).0) (sym now) c.requires.counts)
+          (subst (λ (m : Mine). Lives m.0.past) (sym now) c.requires.alive.lives)),
     )

@@ -1,6 +1,6 @@
 use Rattle.mc_shared.proofs.Words.{ap, sym, ◌∙◌, subst, IsClass, pages_of, out_of, IsAccountAfter, DeskState, Past, start_of}
 use Rattle.mc_slab.specs.declared.stock.Account.{Account}
-use Rattle.mc_shared.proofs.DeskLemmas.{account_after}
+use Rattle.mc_shared.proofs.Surveyed.{account_after}
 use Rattle.mc_shared.proofs.store.Shared.account.Goals as goal
 
 pub give_desk-requires : goal.give_desk-requires

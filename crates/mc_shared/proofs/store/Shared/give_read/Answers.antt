@@ -5,20 +5,13 @@ use Rattle.mc_shared.proofs.store.Shared.give_read.Goals as goal
 
 pub decide-requires : goal.decide-requires
 decide-requires g c =
-    let hash_of = g.K.KeyHash.hash_of in
     let board = c.self.inside.board.shared in
-    let began = start_of hash_of board.key.value in
-    let seat = c.args.seat.now in
     let ask = c.args.ask.now in
     let step = ask.step.now in
-    let here = c.deref_mut.ensures.value in
     let old = c.deref_mut.result.now.content in
-    let new = c.settle_read.new.self.content in
+    let holds = subst (λ (s : ShelfState). HoldsShelf g.K.KeyHash.hash_of c.args.self.now c.args.seat.now ask.at s.content) (sym c.deref_mut.ensures.value) c.requires.holds in
     let told = c.deref_mut.ensures.value ∙ sym (c.of-before.ensures ∙ c.deref.ensures) in
-    record {
-      may = subst
-          (λ (t : ShelfState × ShelfState). MayDecide board.table_id board.key.value seat ask.at began (OfShelf t.0.content)
-          (Stepped step ask.moment (hit_of (stood t.1.content step ask.moment))) [] []) (λ i. (sym c.of.ensures i, told i))
-          (at_settled hash_of board.table_id board.key.value c.args.self.now c.self.view_is c.self.invariant.0 seat ask old new (hit_of (stood old step ask.moment))
-          (subst (λ (s : ShelfState). HoldsShelf hash_of c.args.self.now seat ask.at s.content) (sym here) c.requires.holds) c.requires.asked (read_on_key step c.requires.read) c.settle_read.ensures);
-    }
+    subst (λ (t : ShelfState × ShelfState). MayDecide board.table_id board.key.value c.args.seat.now ask.at (start_of g.K.KeyHash.hash_of board.key.value) (OfShelf t.0.content)
+    (Stepped step ask.moment (hit_of (stood t.1.content step ask.moment))) [] []) (λ i. (sym c.of.ensures i, told i))
+    (at_settled g.K.KeyHash.hash_of board.table_id board.key.value c.args.self.now c.self.view_is c.self.invariant.0 c.args.seat.now ask old c.settle_read.new.self.content
+    (hit_of (stood old step ask.moment)) holds c.requires.asked (read_on_key step c.requires.read) c.settle_read.ensures)

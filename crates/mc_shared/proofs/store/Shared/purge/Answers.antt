@@ -1,14 +1,13 @@
 use Rattle.mc_shared.proofs.Words.{arith, ◌≡◌, ℕ, ◌-◌, List, [], ◌∷◌, slice_index, refl, sym, ap, ◌∙◌, subst, Plain, keys_with, ShelfState, DeskState, Content, OfShelf, OfDesk, AreCountsBy}
-use Rattle.mc_shared.proofs.Words.{start_of, after, Purged, AllFit, MayDecide, SharedState, spread, HoldsBoth, Past, call, Agrees, HoldsThis, Mine, entry_of, loaded, holds_one, AreHashes}
-use Rattle.mc_shared.proofs.Words.{AreCountsOf}
+use Rattle.mc_shared.proofs.Words.{start_of, after, Purged, AllFit, MayDecide, SharedState, spread, HoldsBoth, HoldsShelf, Past, call, Mine, entry_of, loaded, AreHashes, AreCountsOf}
 use Rattle.mc_shelf.specs.Sweeps.{BeginsPurge}
 use Rattle.mc_shared.proofs.Decisions.{applies, part_held}
-use Rattle.mc_shared.proofs.Held.{at_both, decided_one, lowered_one, now_free, one_given, one_rests}
+use Rattle.mc_shared.proofs.Held.{at_both, left_held}
 use Rattle.mc_shared.proofs.WordLemmas.{words_apart}
 use Rattle.mc_shared.proofs.SpreadLemmas.{spread_alike}
 use Rattle.mc_shared.proofs.NumberSweeps.{counts_swept}
 use Rattle.mc_shared.proofs.store.Shared.purge.Goals as goal
-use Rattle.mc_shared.proofs.store.Shared.purge.Goals.{After-decide, After-deref_mut-3, After-lower_words}
+use Rattle.mc_shared.proofs.store.Shared.purge.Goals.{After-deref_mut-3, After-lower_words}
 
 -- the shelf was held as it stood before
 pub wait_for_desk-desk-requires : goal.wait_for_desk-desk-requires
@@ -18,10 +17,14 @@ begins : (g : _) → (c : After-deref_mut-3 g) → BeginsPurge c.args.now c.args
 begins g c = subst (λ (t : ShelfState × ShelfState). BeginsPurge c.args.now t.0.content c.begin_purge-purging.result t.1.content)
     (λ i. (c.deref_mut.ensures.value i, sym c.deref_mut-2.ensures.value i)) c.begin_purge-purging.ensures.begins
 
+here : (g : _) → (c : After-deref_mut-3 g)
+    → HoldsBoth g.K.KeyHash.hash_of c.args.self.now c.wait_for_desk-desk.new.seat c.args.at c.args.shelf.value.content c.wait_for_desk-desk.result.value
+here g c = c.wait_for_desk-desk.ensures.holds c.args.at c.args.shelf.value.content (c.counts-before.ensures.counts c.args.shelf.value.content c.requires).0
+
 holds : (g : _) → (c : After-deref_mut-3 g)
     → HoldsBoth g.K.KeyHash.hash_of c.args.self.now c.wait_for_desk-desk.new.seat c.args.at c.args.shelf.value.content c.deref_mut-3.result.now
 holds g c = subst (λ (d : DeskState). HoldsBoth g.K.KeyHash.hash_of c.args.self.now c.wait_for_desk-desk.new.seat c.args.at c.args.shelf.value.content d)
-    (sym c.deref_mut-3.ensures.value) (c.wait_for_desk-desk.ensures.holds c.args.at c.args.shelf.value.content (c.counts-before.ensures.counts c.args.shelf.value.content c.requires).0)
+    (sym c.deref_mut-3.ensures.value) (here g c)
 
 pub end_purge-requires : goal.end_purge-requires
 end_purge-requires g c =
@@ -52,18 +55,16 @@ decide-requires g c =
     let fit : AllFit began some bays = subst (AllFit began some) (ap (λ (m : Mine). m.0.bays) here.held) here.fits.fits in
     let counted = subst (λ (s : SharedState g.row.K.Denot). AreCountsBy (hash_of s.began.hasher) old c.counts-before.result) (sym c.self.view_is)
     (c.counts-before.ensures.counts old c.requires).1 in
-    record {
-      may = subst (λ (t : DeskState × ShelfState). MayDecide board.table_id board.key.value seat c.self.inside.settings.shelves began (OfDesk t.0) what ((at, OfShelf t.1.content) ∷ [])
-          (spread began.shelves (λ n. slice_index c.counts-before.result n - keys_with began.hash_of n t.1.content.items) 0 4096)) (λ i. (sym c.of.ensures i, sym c.deref.ensures i))
-          (at_both hash_of board.table_id board.key.value c.args.self.now c.self.view_is inv.0 seat seat at c.self.inside.settings.shelves old from (OfDesk to) what
-          ((at, OfShelf new) ∷ []) [] (spread began.shelves (λ n. slice_index c.counts-before.result n - keys_with began.hash_of n new.items) 0 4096)
-          (ap (λ s. s.shelves) inv.1) h (refl, refl) (h.held ∙ sym (ap (λ (m : Mine). loaded m []) h.held))
-          (applies began at old new from to what (λ m part desk. tt)
-          (λ m part desk. c.end_purge.ensures.goes old began.hash_of began.shelves at m (begins g lent) part desk))
-          (counts_swept began at inv.0.divides c.args.now old new (λ n k low high. words_apart began.shelves n k inv.0.divides low high)
-          (λ n. slice_index c.counts-before.result n) counted.counted _ _ [] refl refl refl some fit
-          (λ m fits. (fits.1.0.1, (to, c.end_purge.ensures.goes old began.hash_of began.shelves at m (begins g lent) fits.1.0.1 fits.0.1)))));
-    }
+    subst (λ (t : DeskState × ShelfState). MayDecide board.table_id board.key.value seat c.self.inside.settings.shelves began (OfDesk t.0) what ((at, OfShelf t.1.content) ∷ [])
+    (spread began.shelves (λ n. slice_index c.counts-before.result n - keys_with began.hash_of n t.1.content.items) 0 4096)) (λ i. (sym c.of.ensures i, sym c.deref.ensures i))
+    (at_both hash_of board.table_id board.key.value c.args.self.now c.self.view_is inv.0 seat seat at c.self.inside.settings.shelves old from (OfDesk to) what
+    ((at, OfShelf new) ∷ []) [] (spread began.shelves (λ n. slice_index c.counts-before.result n - keys_with began.hash_of n new.items) 0 4096)
+    (ap (λ s. s.shelves) inv.1) h (refl, refl) (h.held ∙ sym (ap (λ (m : Mine). loaded m []) h.held))
+    (applies began at old new from to what (λ m part desk. tt)
+    (λ m part desk. c.end_purge.ensures.goes old began.hash_of began.shelves at m (begins g lent) part desk))
+    (counts_swept began at inv.0.divides c.args.now old new (λ n k low high. words_apart began.shelves n k inv.0.divides low high)
+    (λ n. slice_index c.counts-before.result n) counted.counted _ _ [] refl refl refl some fit
+    (λ m fits. (fits.1.0.1, (to, c.end_purge.ensures.goes old began.hash_of began.shelves at m (begins g lent) fits.1.0.1 fits.0.1)))))
 
 pub lower_words-requires-clause-named : goal.lower_words-requires-clause-named
 lower_words-requires-clause-named g c =
@@ -88,56 +89,32 @@ lower_words-requires-clause-named g c =
     (λ n low high. seen n ∙ ap (λ (k : ℕ). before n - k) (sym (counted.counted began.hash_of hashes n (omega (arith, high)))))
     ∙ ap (λ (k : ℕ). spread k (λ n. before n - after_it n) 0 4096) (ap (λ s. s.shelves) c.self.invariant.1))
 
--- what the seat is, from the decision on
-taken : (g : _) → (c : After-decide g)
-    → HoldsBoth g.K.KeyHash.hash_of (record { table = c.self.inside.board.shared.table_id; began = c.self.inside.board.shared.key.value }) c.wait_for_desk-desk.new.seat c.args.at
-    c.args.shelf.value.content c.wait_for_desk-desk.result.value
-taken g c = subst
-    (λ (s : SharedState g.row.K.Denot). HoldsBoth g.K.KeyHash.hash_of s c.wait_for_desk-desk.new.seat c.args.at c.args.shelf.value.content c.wait_for_desk-desk.result.value)
-    (sym c.self.view_is) (c.wait_for_desk-desk.ensures.holds c.args.at c.args.shelf.value.content (c.counts-before.ensures.counts c.args.shelf.value.content c.requires).0)
-
 pub lower_words-requires-clause-seat : goal.lower_words-requires-clause-seat
 lower_words-requires-clause-seat g c =
-    record { own = c.decide.ensures.seat.0 ∙ (taken g (goal.at.lower_words-requires-clause-seat g c).After-decide).own; fit = c.self.invariant.0 }
+    let own = (here g (goal.at.lower_words-requires-clause-seat g c).After-deref_mut-3).own in
+    record { own = c.decide.ensures.seat.0 ∙ (own ∙ sym (ap (λ (s : SharedState g.row.K.Denot). s.table) c.self.view_is)); fit = c.self.invariant.0 }
 
-pub give-requires-clause-seat : goal.give-requires-clause-seat
-give-requires-clause-seat g c =
-    record { own = c.lower_words.ensures.seat.0 ∙ (c.decide.ensures.seat.0 ∙ (taken g (goal.at.give-requires-clause-seat g c).After-decide).own); fit = c.self.invariant.0 }
-
-abbrev past : (g : _) → After-lower_words g → Past
-past g c = call c.wait_for_desk-desk.new.seat.me.0.past (entry_of c.wait_for_desk-desk.new.seat.me.0.past (Purged c.args.at c.args.now))
-
-last : (g : _) → (c : After-lower_words g) → c.lower_words.new.seat.me ≡ holds_one (past g c) c.args.at (OfShelf c.deref.result.now.content)
-last g c =
-    let seat = c.wait_for_desk-desk.new.seat in
-    let here = c.wait_for_desk-desk.ensures.holds c.args.at c.args.shelf.value.content (c.counts-before.ensures.counts c.args.shelf.value.content c.requires).0 in
-    let then = decided_one seat.me seat.me c.decide.new.seat.me seat.me.0.past c.args.self.now.began.settings.shelves (OfDesk c.wait_for_desk-desk.result.value) c.args.at
-    (OfShelf c.args.shelf.value.content) (OfShelf c.deref.result.now.content) (Purged c.args.at c.args.now) [] _ here.held
-    (here.held ∙ sym (ap (λ (m : Mine). loaded m []) here.held)) c.decide.ensures.view.0 in
-    lowered_one c.decide.new.seat.me c.lower_words.new.seat.me (past g c) c.args.at (OfShelf c.deref.result.now.content) _ then c.lower_words.ensures.view
-
-pub give-requires-clause-held : goal.give-requires-clause-held
-give-requires-clause-held g c =
-    let lowered = (goal.at.give-requires-clause-held g c).After-lower_words in
-    subst (λ (f : ShelfState). HoldsThis c.lower_words.new.seat.me c.args.at (OfShelf f.content)) (c.deref.ensures ∙ sym c.of-2.ensures)
-    (one_given c.lower_words.new.seat.me (past g lowered) c.args.at (OfShelf c.deref.result.now.content) (last g lowered))
-
-pub returns-clause-free : goal.returns-clause-free
-returns-clause-free g c =
-    let lowered = (goal.at.returns-clause-free g c).After-lower_words in
+-- what is held then
+alone : (g : _) → (c : After-lower_words g)
+    → HoldsBoth g.K.KeyHash.hash_of c.args.self.now c.wait_for_desk-desk.new.seat c.args.at c.args.shelf.value.content c.wait_for_desk-desk.result.value
+    → HoldsShelf g.K.KeyHash.hash_of c.args.self.now c.lower_words.new.seat c.args.at c.deref.result.now.content × (c.lower_words.new.seat.me.0.past
+    ≡ call c.wait_for_desk-desk.new.seat.me.0.past (entry_of c.wait_for_desk-desk.new.seat.me.0.past (Purged c.args.at c.args.now)))
+alone g c here =
     let board = c.self.inside.board.shared in
-    let holds = c.wait_for_desk-desk.ensures.holds c.args.at c.args.shelf.value.content (c.counts-before.ensures.counts c.args.shelf.value.content c.requires).0 in
-    now_free g.K.KeyHash.hash_of board.table_id board.key.value c.args.self.now c.self.view_is c.self.invariant.0 c.give.new.seat (past g lowered)
-    (c.give.ensures.seat.0 ∙ (c.lower_words.ensures.seat.0 ∙ (c.decide.ensures.seat.0 ∙ holds.own))) holds.lives
-    (one_rests c.lower_words.new.seat.me c.give.new.seat.me (past g lowered) c.args.at (OfShelf c.deref.result.now.content) (last g lowered) c.give.ensures.view.0)
+    let seat = c.wait_for_desk-desk.new.seat in
+    left_held g.K.KeyHash.hash_of board.table_id board.key.value c.args.self.now c.self.view_is c.self.invariant.0 seat seat c.decide.new.seat c.lower_words.new.seat c.args.at
+    c.args.shelf.value.content c.deref.result.now.content c.wait_for_desk-desk.result.value (Purged c.args.at c.args.now) [] _ here
+    (refl, refl) (here.held ∙ sym (ap (λ (m : Mine). loaded m []) here.held)) c.decide.ensures.seat c.decide.ensures.view c.lower_words.ensures.seat c.lower_words.ensures.view
+
+pub give_shelf-requires : goal.give_shelf-requires
+give_shelf-requires g c =
+    let at = goal.at.give_shelf-requires g c in
+    subst (λ (s : ShelfState). HoldsShelf g.K.KeyHash.hash_of c.args.self.now c.lower_words.new.seat c.args.at s.content) c.deref.ensures
+    (alone g at.After-lower_words (here g at.After-deref_mut-3)).0
 
 pub returns-clause-purged : goal.returns-clause-purged
 returns-clause-purged g c =
-    let lowered = (goal.at.returns-clause-purged g c).After-lower_words in
-    let rests = one_rests c.lower_words.new.seat.me c.give.new.seat.me (past g lowered) c.args.at (OfShelf c.deref.result.now.content) (last g lowered) c.give.ensures.view.0 in
+    let at = goal.at.returns-clause-purged g c in
     let was = c.wait_for_desk-desk.ensures.past ∙ c.counts-before.ensures.past in
-    let agreed = ap (λ (m : Mine). m.0.past) c.decide.ensures.view.0 ∙ sym (ap (λ (m : Mine). m.0.past) rests) in
-    record {
-      past = ap (λ (m : Mine). m.0.past) rests ∙ ap (λ (p : Past). call p (entry_of p (Purged c.args.at c.args.now))) was;
-      agrees = subst (λ (t : SharedState g.row.K.Denot × Past). Agrees (start_of g.K.KeyHash.hash_of t.0.began) t.1) (λ i. (c.self.view_is i, agreed i)) c.decide.ensures.view.1;
-    }
+    let past = c.give_shelf.ensures.past ∙ (alone g at.After-lower_words (here g at.After-deref_mut-3)).1 in
+    record { past = past ∙ ap (λ (p : Past). call p (entry_of p (Purged c.args.at c.args.now))) was; agrees = c.give_shelf.ensures.agrees }
