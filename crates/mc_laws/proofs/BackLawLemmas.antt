@@ -1,12 +1,12 @@
 -- No hit is older than one before it.
 use Rattle.std.proofs.Common.{◌≡◌, ℕ, suc, ◌<◌, List, ◌∷◌, ◌++◌, sym, refl, ap, ◌∙◌, subst, arith}
-use Rattle.mc_shared.proofs.Words.{get, KeyStep, Read, ReadTouch, Reply, key_of, Plain, Answered, plain, Beginning, Operation, Stepped, HistoryEntry, next, IsRight}
+use Rattle.mc_shared.proofs.Words.{get, KeyStep, Read, ReadTouch, Reply, key_of, Plain, Answered, plain, Beginning, Operation, Stepped, HistoryEntry, IsRight}
 use Rattle.mc_shared.proofs.Words.{after, IsLegal, Past, Agrees}
 use Rattle.mc_laws.specs.Laws.{StandsInLog, StandsBefore, CallerKnew, HasItem, Wrote, Found, hit, IsHit, IsNoOlder, HasDrawnNumbers}
 use Rattle.mc_laws.proofs.KeyLawLemmas.{some_is, hit_shows}
 use Rattle.mc_laws.proofs.OrderLawLemmas.{knew_before}
 use Rattle.mc_laws.proofs.ReadLawLemmas.{OthersStay, legal_parts, after_parts}
-use Rattle.mc_laws.proofs.CasLawLemmas.{never_falls, drawn_stay, written_numbers, shown, all_hold}
+use Rattle.mc_laws.proofs.CasLawLemmas.{drawn_stay, shown, all_hold, rises_past}
 
 -- the item that a hit tells is under the key
 told_by : (m new : Plain) (step : KeyStep) (now : ℕ) (key : List ℕ) (found : Found) (reply : Reply) → plain m step now ≡ Answered reply new → key_of step ≡ key → reply ≡ hit found
@@ -51,18 +51,11 @@ pub hits_round_a_write : OthersStay → (began : Beginning) (log : List HistoryE
     → was.unique < is.unique
 hits_round_a_write stay began log first second write key was is drawn legal places first_hits second_hits stands wrote =
     let front : List HistoryEntry = places.before ++ first ∷ places.between in
-    let m0 : Plain = after began began.plain places.before in
-    let m1 : Plain = next began m0 first.what in
-    let m2 : Plain = after began began.plain front in
     let whole = legal_parts began began.plain front (second ∷ places.rest) (subst (IsLegal began began.plain) places.is legal) in
     let parts = legal_parts began began.plain places.before (first ∷ places.between) whole.0 in
-    let shows = hit_has m0 first.what key was parts.1.0 first_hits in
-    let low = drawn_stay stay began places.before drawn parts.0 key shows.0 shows.1 in
+    let shows = hit_has (after began began.plain places.before) first.what key was parts.1.0 first_hits in
+    let tells = hit_has (after began began.plain front) second.what key is whole.1.0 second_hits in
+    let rises = rises_past stay began log first second write key shows.0 tells.0 drawn legal places stands wrote shows.1 tells.1 in
     let number = shows.3 in
-    let up = never_falls began key m0 first.what parts.1.0 in
-    let at_second : m2 ≡ after began m1 (stands.0 ++ write ∷ stands.1) = after_parts began began.plain places.before (first ∷ places.between) ∙ ap (after began m1) stands.2 in
-    let tells = hit_has m2 second.what key is whole.1.0 second_hits in
-    let least = written_numbers stay began key m1 stands.0 stands.1 write (subst (IsLegal began m1) stands.2 parts.1.1) wrote tells.0
-    (sym (ap (λ (s : Plain). get s.items key) at_second) ∙ tells.1) in
     let its = tells.3 in
-    omega (arith, low, number, up, least, its)
+    omega (arith, rises, number, its)

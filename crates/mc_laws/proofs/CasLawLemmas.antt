@@ -147,6 +147,24 @@ pub drawn_stay : OthersStay → (began : Beginning) (log : List HistoryEntry) �
 drawn_stay stay began log drawn legal key =
     (all_hold began key stay 0 (λ a f. f.unique < a) (λ a b f le lt. omega (arith, le, lt)) (λ a f least lt. lt) began.plain log legal (omega arith, drawn key)).1
 
+-- an item that is under a key behind a write has a greater number than one that was under it before
+pub rises_past : OthersStay → (began : Beginning) (log : List HistoryEntry) (first second write : HistoryEntry) (key : List ℕ) (was is : Item) → HasDrawnNumbers began.plain
+    → IsLegal began began.plain log → (places : StandsBefore log first second) → StandsInLog places.between write → Wrote key write.what
+    → get (after began began.plain places.before).items key ≡ Some was → get (after began began.plain (places.before ++ first ∷ places.between)).items key ≡ Some is → was.unique < is.unique
+rises_past stay began log first second write key was is drawn legal places stands wrote at_first at_second =
+    let front : List HistoryEntry = places.before ++ first ∷ places.between in
+    let m0 : Plain = after began began.plain places.before in
+    let m1 : Plain = next began m0 first.what in
+    let whole = legal_parts began began.plain front (second ∷ places.rest) (subst (IsLegal began began.plain) places.is legal) in
+    let parts = legal_parts began began.plain places.before (first ∷ places.between) whole.0 in
+    let low = drawn_stay stay began places.before drawn parts.0 key was at_first in
+    let up = never_falls began key m0 first.what parts.1.0 in
+    let there : after began began.plain front ≡ after began m1 (stands.0 ++ write ∷ stands.1) =
+    after_parts began began.plain places.before (first ∷ places.between) ∙ ap (after began m1) stands.2 in
+    let least = written_numbers stay began key m1 stands.0 stands.1 write (subst (IsLegal began m1) stands.2 parts.1.1) wrote is
+    (sym (ap (λ (s : Plain). get s.items key) there) ∙ at_second) in
+    omega (arith, low, up, least)
+
 -- ---- a cas that stored met its number
 abbrev Met : Plain → List ℕ → ℕ → Outcome → Type 0
 Met m key n (Answered Stored new) = (i : Item) × (get m.items key ≡ Some i) × (i.unique ≡ n)
@@ -178,20 +196,13 @@ pub cas_is_of_read : OthersStay → (began : Beginning) (log : List HistoryEntry
 cas_is_of_read stay began log read cas other step then now flags unique more exptime block brought drawn legal places told met_is stands wrote =
     let key : List ℕ = key_of step in
     let front : List HistoryEntry = places.before ++ read ∷ places.between in
-    let m0 : Plain = after began began.plain places.before in
-    let m1 : Plain = next began m0 read.what in
-    let m4 : Plain = after began began.plain front in
     let whole = legal_parts began began.plain front (cas ∷ places.rest) (subst (IsLegal began began.plain) places.is legal) in
     let parts = legal_parts began began.plain places.before (read ∷ places.between) whole.0 in
-    let right = subst (IsRight m0) told parts.1.0 in
-    let shows = hit_shows flags unique block m0 right.0 step then right.1 in
-    let low = drawn_stay stay began places.before drawn parts.0 key shows.0 shows.1 in
+    let right = subst (IsRight (after began began.plain places.before)) told parts.1.0 in
+    let shows = hit_shows flags unique block (after began began.plain places.before) right.0 step then right.1 in
+    let cas_right = subst (IsRight (after began began.plain front)) met_is whole.1.0 in
+    let met_item = cas_met key more exptime brought unique now (after began began.plain front) cas_right.0 cas_right.1 in
+    let rises = rises_past stay began log read cas other key shows.0 met_item.0 drawn legal places stands wrote shows.1 met_item.1 in
     let number = shows.3 in
-    let up = never_falls began key m0 read.what parts.1.0 in
-    let behind = subst (IsLegal began m1) stands.2 parts.1.1 in
-    let at_cas : m4 ≡ after began m1 (stands.0 ++ other ∷ stands.1) = after_parts began began.plain places.before (read ∷ places.between) ∙ ap (after began m1) stands.2 in
-    let cas_right = subst (IsRight m4) met_is whole.1.0 in
-    let met_item = cas_met key more exptime brought unique now m4 cas_right.0 cas_right.1 in
-    let least = written_numbers stay began key m1 stands.0 stands.1 other behind wrote met_item.0 (sym (ap (λ (s : Plain). get s.items key) at_cas) ∙ met_item.1) in
     let its = met_item.2 in
-    omega (arith, low, number, up, least, its)
+    omega (arith, rises, number, its)

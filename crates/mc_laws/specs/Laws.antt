@@ -1,5 +1,5 @@
 -- Definitions for the laws of a shared store.
-use Rattle.std.specs.Prelude.{◌≡◌, ℕ, ◌*◌, ◌<◌, ◌≤◌, ◌⊎◌, true, List, [], ◌∷◌, ◌++◌, Option, Some, None}
+use Rattle.std.specs.Prelude.{◌≡◌, ℕ, ℤ, ◌*◌, ◌<◌, ◌≤◌, ◌⊎◌, true, List, [], ◌∷◌, ◌++◌, Option, Some, None}
 use Rattle.std.specs.FinMap.{get}
 use Rattle.mc_time.specs.Death.{expiry_of}
 use Rattle.mc_protocol.specs.declared.step.Verb.TheVariants.{Append, Prepend}
@@ -122,24 +122,24 @@ pub record ReadsLatest (began : Beginning) (log : List HistoryEntry) (p : Past) 
   pub latest : (e : HistoryEntry) → Has p e → MayChange began key e.what
       → (e ≡ last) ⊎ StandsInLog is_told.places.before e
 
+-- the item with this content, stored at a moment and with a unique number
+abbrev item_with : (flags : ℕ) → ℤ → (block : List ℕ) → (now unique : ℕ) → Item
+item_with flags exptime block now unique = record {
+  flags = flags;
+  expiry = expiry_of exptime now;
+  block = block;
+  unique = unique;
+  updated = now;
+}
+
 -- the item that a step stores as it was given, at a moment and with a unique number
 abbrev pub item_given : KeyStep → (now unique : ℕ) → Option Item
 item_given (Store Append key flags exptime block) now unique = None
 item_given (Store Prepend key flags exptime block) now unique = None
-item_given (Store verb key flags exptime block) now unique = Some (record {
-  flags = flags;
-  expiry = expiry_of exptime now;
-  block = block;
-  unique = unique;
-  updated = now;
-})
-item_given (Cas key flags exptime block known) now unique = Some (record {
-  flags = flags;
-  expiry = expiry_of exptime now;
-  block = block;
-  unique = unique;
-  updated = now;
-})
+item_given (Store verb key flags exptime block) now unique =
+    Some (item_with flags exptime block now unique)
+item_given (Cas key flags exptime block known) now unique =
+    Some (item_with flags exptime block now unique)
 item_given step now unique = None
 
 -- A write is before a read of its key, and the read returns the item that the write stored as it
