@@ -3,7 +3,7 @@ use Rattle.std.specs.Prelude.{ℕ, ◌-◌, List, [], ◌∷◌, replicate, slic
 use Rattle.std.specs.FinMap.{len}
 use Rattle.mc_protocol.specs.declared.step.KeyStep.TheVariants.{Flush}
 use Rattle.mc_protocol.specs.declared.reply.Reply.TheVariants.{Flushed as AllFlushed}
-use Rattle.mc_shelf.specs.Numbers.{keys_with}
+use Rattle.mc_shelf.specs.Numbers.{keys_with, numbers}
 use Rattle.mc_protocol.specs.Plain.{hit_of}
 use Rattle.mc_shelf.specs.Plans.{finished, stood, told_next}
 use Rattle.mc_shared.specs.Bays.{Content, OfShelf}
@@ -46,8 +46,8 @@ surplus_of start (Begun step moment at shelf plan begun number had) =
     (word_of start.shelves number)
 surplus_of start (Purged at moment shelf before) =
     spread start.shelves (λ n. slice_index before.now n
-    - keys_with start.hash_of n shelf.now.content.items) 0 4096
+    - keys_with start.hash_of n shelf.now.content.items) 0 numbers
 surplus_of start (NoneDead at moment) = []
 surplus_of start (Flushed delay moment shelves before) =
     spread start.shelves
-    (λ n. slice_index before.now n - keys_in start.hash_of n shelves.now.items) 0 4096
+    (λ n. slice_index before.now n - keys_in start.hash_of n shelves.now.items) 0 numbers

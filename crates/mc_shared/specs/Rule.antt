@@ -13,7 +13,7 @@ use Rattle.mc_shared.specs.History.{Beginning, start_of, Name, HistoryEntry, aft
 use Rattle.mc_shared.specs.Past.{held, callers, makes, numbered, Ordered, Sound, Lives}
 use Rattle.mc_shared.specs.Past as past
 use Rattle.mc_shared.specs.View.{SeatView}
-use Rattle.mc_shelf.specs.Numbers.{keys_with}
+use Rattle.mc_shelf.specs.Numbers.{keys_with, numbers}
 use Rattle.mc_shared.specs.Presence.{word_of, words_with}
 
 -- the content of bay b fits the state
@@ -45,7 +45,7 @@ named word v = total (λ x. cond (eqb word x) 1 0) v.surplus
 -- the word is that of a number whose shelf the view holds
 pub record IsHeldWord (start : Beginning) (v : SeatView) (word : ℕ) : Type 0 where
   pub number : ℕ
-  pub below : number < 4096
+  pub below : number < numbers
   pub is : word ≡ word_of start.shelves number
   pub held : 1 ≤ times (number % start.shelves) v
 
@@ -81,25 +81,25 @@ pub record Stocked (start : Beginning) (m : Plain) (words : List ℕ)
 -- shelf has equally many numbers
 pub record Present (start : Beginning) (m : Plain) (words : List ℕ) (views : List SeatView) : Type 0
   where
-    pub divides : 4096 / start.shelves * start.shelves ≡ 4096
-    pub counts : (number : ℕ) → number < 4096 → slice_index words (word_of start.shelves number)
+    pub divides : numbers / start.shelves * start.shelves ≡ numbers
+    pub counts : (number : ℕ) → number < numbers → slice_index words (word_of start.shelves number)
         ≡ keys_with start.hash_of number m.items + total (named (word_of start.shelves number)) views
     pub owned : (id : ℕ) (v : SeatView) (word : ℕ) → get_elem? views id ≡ some v → 1 ≤ named word v
         → IsHeldWord start v word
 
 -- the words of a new table: a bay's word is 0, and a number's word counts its keys
 pub record AreFirst (start : Beginning) (words : List ℕ) : Type 0 where
-  pub divides : 4096 / start.shelves * start.shelves ≡ 4096
+  pub divides : numbers / start.shelves * start.shelves ≡ numbers
   pub long : length words ≡ words_with start.shelves
   pub free : (b : ℕ) → b < start.shelves + 1 → slice_index words (place b) ≡ 0
-  pub counts : (number : ℕ) → number < 4096 → slice_index words (word_of start.shelves number)
+  pub counts : (number : ℕ) → number < numbers → slice_index words (word_of start.shelves number)
       ≡ keys_with start.hash_of number start.plain.items
 
 -- the words of a table that is being filled: those of the numbers below one are set to their counts
 pub record AreFilled (shelves : ℕ) (words counts : List ℕ) (number : ℕ) : Type 0 where
   pub long : length words ≡ words_with shelves
   pub free : (b : ℕ) → b < shelves + 1 → slice_index words (place b) ≡ 0
-  pub counts_set : (n : ℕ) → n < number → n < 4096
+  pub counts_set : (n : ℕ) → n < number → n < numbers
       → slice_index words (word_of shelves n) ≡ slice_index counts n
 
 pub record Kept (start : Beginning) (s : State (Option Bay) SeatView) : Type 0 where

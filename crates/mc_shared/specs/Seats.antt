@@ -19,6 +19,7 @@ use Rattle.mc_shared.specs.Rule.{KeptFrom}
 use Rattle.mc_shared.specs.Steps.{Slot, Mine, HoldsLast, Decides, Counts, decided_by, Agrees}
 use Rattle.mc_shared.specs.Store.{resting, HasCalled}
 use Rattle.mc_shared.specs.Shown.{SharedState, CallerState}
+use Rattle.mc_shelf.specs.Numbers.{numbers}
 
 abbrev pub Sitter : Type 0
 Sitter = Seat Slot SeatView
@@ -36,7 +37,7 @@ Rests m = (m.1 ≡ []) × (m.0.bays ≡ []) × Lives m.0.past × (m.0.surplus �
 pub record IsTableOf {K : Type 0} (table : TableId) (began : StoreState K) : Type 0 where
   pub wide : table.words ≡ words_with began.settings.shelves
   pub bays : place (began.settings.shelves + 1) ≤ table.words
-  pub divides : 4096 / began.settings.shelves * began.settings.shelves ≡ 4096
+  pub divides : numbers / began.settings.shelves * began.settings.shelves ≡ numbers
 
 -- a seat of this table, which is a table for the store
 pub record IsSeatOf {K : Type 0} (table : TableId) (began : StoreState K) (seat : Sitter) : Type 0

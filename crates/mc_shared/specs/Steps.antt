@@ -3,7 +3,7 @@ use Rattle.std.specs.Prelude.{◌≡◌, ◌≢◌, ℕ, ◌+◌, ◌%◌, ◌^�
 use Rattle.mc_protocol.specs.Plain.{Plain}
 use Rattle.mc_protocol.specs.declared.step.KeyStep.TheVariants.{Read}
 use Rattle.mc_protocol.specs.declared.reply.Reply.TheVariants.{Miss}
-use Rattle.mc_shelf.specs.Numbers.{keys_with}
+use Rattle.mc_shelf.specs.Numbers.{keys_with, numbers}
 use Rattle.atomic_table.specs.Table.{Me, Step, rest}
 use Rattle.mc_shared.specs.declared.bay.Bay.{Bay}
 use Rattle.mc_shared.specs.declared.bay.Bay.TheVariants.{Shelf, Desk}
@@ -127,7 +127,7 @@ pub record Decides (start : Beginning) (bays : List (ℕ × Content)) (b : ℕ) 
 -- In any state that fits what is held, the words count the keys after the decision, with those
 -- counted too many before and after it; each such word is of a shelf that is still held.
 pub record Counts (start : Beginning) (v : SeatView) (what : Operation) (w : SeatView) : Type 0 where
-  pub weighs : (m : Plain) → AllFit start m v.bays → (number : ℕ) → number < 4096
+  pub weighs : (m : Plain) → AllFit start m v.bays → (number : ℕ) → number < numbers
       → keys_with start.hash_of number m.items + named (word_of start.shelves number) v
       ≡ keys_with start.hash_of number (next start m what).items
       + named (word_of start.shelves number) w
@@ -136,7 +136,7 @@ pub record Counts (start : Beginning) (v : SeatView) (what : Operation) (w : Sea
 -- A seat holds a number's shelf, and no word counts too many. So the number's word is the count of
 -- its keys, and stays so.
 pub record MayCount (start : Beginning) (v : SeatView) (number : ℕ) : Type 0 where
-  pub below : number < 4096
+  pub below : number < numbers
   pub inside : number % start.shelves < start.shelves
   pub held : 1 ≤ times (number % start.shelves) v
   pub bare : v.surplus ≡ []

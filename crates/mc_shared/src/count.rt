@@ -1,6 +1,7 @@
 //! Counts of keys by number, and changes of many presence words at once.
 ghost use Rattle.std.specs.Prelude.{◌≡◌, ◌*◌, ◌/◌, ◌-◌, ◌%◌, ◌<◌, ℕ, List, [], length, slice_index};
 ghost use Rattle.mc_protocol.specs.Plain.{Plain, flushed};
+ghost use Rattle.mc_shelf.specs.Numbers.{numbers};
 ghost use Rattle.mc_shared.specs.Counted.{AreNone, AreCountsOf, AreAllOf, AreCountsOfAll};
 ghost use Rattle.mc_shared.specs.Counted.{AreKeyCounts, AreCountsLeft};
 ghost use Rattle.mc_shared.specs.Seats.{SameSeat, SitsAt, shelves_at, start_at};
@@ -9,9 +10,9 @@ ghost use Rattle.mc_shared.specs.Steps.{loaded, MayCount};
 
 use crate::boxed::Boxed;
 use crate::rule::{Board, Seat};
-use crate::steps::{NUMBERS, lower_all, word_in};
+use crate::steps::{lower_all, word_in};
 use mc_hop::KeyHash;
-use mc_shelf::Shelf;
+use mc_shelf::{NUMBERS, Shelf};
 use std::marker::Brand;
 
 /// Returns 0 for each number.
@@ -80,9 +81,9 @@ pub(crate) fn count_words<K: KeyHash + Drop>(
 ) -> [u64; NUMBERS]
     requires seat { SitsAt board.now seat.old }
     requires shelves { shelves ≡ shelves_at board.now }
-    requires step { 4096 / step * step ≡ 4096 }
+    requires step { numbers / step * step ≡ numbers }
     requires inside { at < step }
-    requires may { (number : ℕ) → number < 4096 → number % step ≡ at → MayCount
+    requires may { (number : ℕ) → number < numbers → number % step ≡ at → MayCount
         (start_at K.hash_of board.now) seat.old.me.0 number }
     ensures seat { SameSeat seat.old seat.new }
     ensures same { seat.new.me ≡ seat.old.me }
@@ -109,9 +110,9 @@ pub(crate) fn lower_words<K: KeyHash + Drop>(
 )
     requires seat { SitsAt board.now seat.old }
     requires shelves { shelves ≡ shelves_at board.now }
-    requires many { (length before.now ≡ 4096) × (length after.now ≡ 4096) }
+    requires many { (length before.now ≡ numbers) × (length after.now ≡ numbers) }
     requires named { seat.old.me.0.surplus ≡ spread shelves
-        (λ n. slice_index before.now n - slice_index after.now n) 0 4096 }
+        (λ n. slice_index before.now n - slice_index after.now n) 0 numbers }
     ensures seat { SameSeat seat.old seat.new }
     ensures view { seat.new.me ≡ loaded seat.old.me [] }
 {

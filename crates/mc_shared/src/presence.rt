@@ -8,9 +8,10 @@ ghost use Rattle.mc_protocol.specs.declared.reply.Reply.{Reply as Told};
 ghost use Rattle.mc_shared.specs.History.{start_of};
 ghost use Rattle.mc_shared.specs.Store.{HasCalled, IsShown};
 
-use crate::steps::{NUMBERS, load_as, word_in};
+use crate::steps::{load_as, word_in};
 use crate::store::{Caller, Shared};
 use mc_hop::KeyHash;
+use mc_shelf::NUMBERS;
 use mc_time::Moment;
 use std::marker::Brand;
 

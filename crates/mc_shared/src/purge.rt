@@ -13,10 +13,10 @@ use crate::boxed::Boxed;
 use crate::count::{count_shelf, count_words, lower_words};
 use crate::decision::Decision;
 use crate::rule::Seat;
-use crate::steps::{NUMBERS, decide};
+use crate::steps::decide;
 use crate::store::{Caller, Shared};
 use mc_hop::KeyHash;
-use mc_shelf::Shelf;
+use mc_shelf::{NUMBERS, Shelf};
 use mc_time::Moment;
 use std::sync::Wait;
 

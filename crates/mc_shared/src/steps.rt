@@ -5,6 +5,7 @@
 //! their bodies don't read.
 ghost use Rattle.std.specs.Prelude.{◌≡◌, ◌*◌, ◌/◌, ◌%◌, ◌<◌, ◌≤◌, ℕ, List, ◌++◌, ◌==◌, true, false};
 ghost use Rattle.std.specs.Prelude.{IfOk, IfErr, replicate};
+ghost use Rattle.mc_shelf.specs.Numbers.{numbers};
 ghost use Rattle.mc_shared.specs.Bays.{content_of, place};
 ghost use Rattle.mc_shared.specs.Decisions.{operation_of, still_of, surplus_of};
 ghost use Rattle.mc_shared.specs.Presence.{word_of, words_with};
@@ -20,14 +21,12 @@ use crate::rule::{Board, Seat};
 use crate::view::View;
 use atomic_table::Play;
 use mc_hop::KeyHash;
+use mc_shelf::NUMBERS;
 use mc_time::Moment;
 use std::marker::Brand;
 
 /// Words and slots from one bay to the next, so that no two bays share a cache line.
 pub(crate) const APART: usize = 8;
-
-/// The number of numbers that keys have.
-pub(crate) const NUMBERS: usize = 4096;
 
 /// Returns the place of a bay in the table.
 pub(crate) fn place_of<K: KeyHash + Drop>(board: &Board<K>, bay: usize) -> usize
@@ -44,8 +43,8 @@ pub(crate) fn place_of<K: KeyHash + Drop>(board: &Board<K>, bay: usize) -> usize
 
 /// Returns the place of a number's word in a table with this many shelves.
 pub(crate) fn word_in(shelves: usize, number: usize) -> usize
-    requires divides { 4096 / shelves * shelves ≡ 4096 }
-    requires number { number < 4096 }
+    requires divides { numbers / shelves * shelves ≡ numbers }
+    requires number { number < numbers }
     ensures word { result ≡ word_of shelves number }
     ensures inside { result < words_with shelves }
 {
@@ -170,7 +169,7 @@ pub fn lower_all<K: KeyHash + Drop>(
 )
     requires seat { SitsAt board.now seat.old }
     requires shelves { shelves ≡ shelves_at board.now }
-    requires number { number < 4096 }
+    requires number { number < numbers }
     requires named { (more : List ℕ)
         × (seat.old.me.0.surplus ≡ replicate count (word_of shelves number) ++ more) }
     ensures seat { SameSeat seat.old seat.new }

@@ -7,6 +7,7 @@ ghost use Rattle.std.specs.Prelude.{◌≡◌, ◌*◌, ◌/◌, ◌<◌, ℕ, L
 ghost use Rattle.std.specs.Prelude.{map, replicate, OnOk, Some, IfOk};
 ghost use Rattle.mc_protocol.specs.Plain.{Plain, opening};
 ghost use Rattle.mc_shelf.specs.States.{ShelfState};
+ghost use Rattle.mc_shelf.specs.Numbers.{numbers};
 ghost use Rattle.mc_shared.specs.Counted.{AreAllOf};
 ghost use Rattle.mc_shared.specs.History.{Beginning, start_of, shelf_in};
 ghost use Rattle.mc_shared.specs.Past.{start, spent, made, both};
@@ -20,10 +21,10 @@ use crate::boxed::Boxed;
 use crate::count::count_shelves;
 use crate::plays::{Fork, Meet};
 use crate::rule::{Board, Seat};
-use crate::steps::{APART, NUMBERS, reload, word_in};
+use crate::steps::{APART, reload, word_in};
 use atomic_table::Table;
 use mc_hop::KeyHash;
-use mc_shelf::{Desk, Settings, Shelf, Store, StoreParts};
+use mc_shelf::{Desk, NUMBERS, Settings, Shelf, Store, StoreParts};
 use std::alloc::{AllocError, Global};
 use std::marker::Model;
 use std::snapshot::Snapshot;
@@ -190,7 +191,7 @@ impl<K: KeyHash + Drop> Shared<K> {
 
 /// Returns the words of a table with this many shelves, each 0.
 fn no_words(alloc: Global, count: usize) -> Result<Vec<u64>, AllocError>
-    requires { 4096 / count * count ≡ 4096 }
+    requires { numbers / count * count ≡ numbers }
     ensures { IfOk result (λ v. v.items ≡ replicate (words_with count) 0) }
 {
     vec![in alloc; 0; (count + 1) * APART + count * (NUMBERS / count + APART)]
@@ -198,7 +199,7 @@ fn no_words(alloc: Global, count: usize) -> Result<Vec<u64>, AllocError>
 
 /// Returns the first words of a table: each bay is free, and a number's word counts its keys.
 fn first_words(alloc: Global, shelves: &[Shelf], count: usize) -> Result<Vec<u64>, AllocError>
-    requires divides { 4096 / count * count ≡ 4096 }
+    requires divides { numbers / count * count ≡ numbers }
     requires parts { (hash_of : List ℕ → ℕ) × (state : Plain) × AreAllOf hash_of state shelves.now }
     ensures { IfOk result (λ v. (start : Beginning) → start.shelves ≡ count →
         AreAllOf start.hash_of start.plain shelves.now → AreFirst start v.items) }
