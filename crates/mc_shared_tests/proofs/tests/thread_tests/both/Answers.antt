@@ -1,7 +1,7 @@
 use denote.Param.Send.{sendable}
 use Rattle.std.proofs.Crossing as crossing
 use Rattle.mc_shared.proofs.Sent.{Lent, tuple_send, lent, heap_lent, shared_lent, caller_send}
-use Rattle.mc_shared_tests.specs.contracts.thread_tests.Errand as errand
+use Rattle.mc_shared_tests.specs.contracts.tests.thread_tests.Errand as errand
 use Rattle.mc_shared_tests.proofs.tests.thread_tests.Errand.TheSendSync as errands
 use Rattle.mc_shared_tests.proofs.tests.thread_tests.Came.TheSendSync as came
 use Rattle.mc_shared_tests.proofs.tests.thread_tests.both.Goals as goal

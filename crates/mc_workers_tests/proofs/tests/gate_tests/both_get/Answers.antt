@@ -6,7 +6,7 @@ use Rattle.mc_shared.proofs.Sent.{Lent, tuple_send, lent, heap_lent, shared_lent
 use Rattle.mc_workers_tests.specs.contracts.held.Seen as seen
 use Rattle.mc_workers_tests.proofs.held.Seen.TheSendSync as seens
 use Rattle.mc_guests.proofs.guests.WorkEnd.TheSendSync as ends
-use Rattle.mc_workers_tests.specs.contracts.gate_tests.HoldsShelf as gate
+use Rattle.mc_workers_tests.specs.contracts.tests.gate_tests.HoldsShelf as gate
 use Rattle.mc_workers_tests.proofs.tests.gate_tests.HoldsShelf.TheSendSync as gates
 use Rattle.mc_workers_tests.proofs.tests.gate_tests.both_get.Goals as goal
 
