@@ -68,16 +68,7 @@ module _ {K : Type 0} {hash_of : K → List ℕ → ℕ} where
   told_until {old = old} {mid = mid} {new = new} {events = events} {event = event} {refused = refused} told here session after =
       let settings = after.settings ∙ told.settings in let hasher = after.hasher ∙ told.hasher in
       let moves = chain.join EventMoves (take refused.at events) (event ∷ []) old.left mid.left new.left told.moves (chain.alone EventMoves event mid.left new.left after.moves) in
-      record {
-        settings = settings;
-        hasher = hasher;
-        event = event;
-        here = here;
-        session = session;
-        moves = moves;
-        told = λ p stands.
-            let (q, runs, there) = told.told p stands in (q, runs, after.told q there);
-      }
+      record { settings = settings; hasher = hasher; event = event; here = here; session = session; moves = moves; told = λ p stands. let q = told.told p stands in (q.0, q.1, after.told q.0 q.2) }
 
   -- the one event is refused, and so it is told
   pub told_refused : {old new : WorldState K} {event : Event} {refused : Refused} → refused.at ≡ 0 → refused.session ≡ named event → ToldRefused hash_of refused.decided old event new

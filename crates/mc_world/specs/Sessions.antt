@@ -108,13 +108,8 @@ sessions_ended (Some n) sessions = at_session sessions n ended
 
 -- the open session that an event gives a turn decides its step
 abbrev pub DecidedIn : {K : Type 0} → WorldState K → Event → Plain → Type 0
-DecidedIn old Open state = ⊥
-DecidedIn old (Piece n piece) state = ⊥
 DecidedIn old (Turn n) state = DecidedOf in_plain n old.moment old.sessions old.state state
-DecidedIn old (Clock now) state = ⊥
-DecidedIn old (Grow shelf) state = ⊥
-DecidedIn old (Purge shelf) state = ⊥
-DecidedIn old (Close n) state = ⊥
+DecidedIn old other state = ⊥
 
 -- the event takes memory: it opens a session, brings a piece to one that is open, or gives one a
 -- turn that is due

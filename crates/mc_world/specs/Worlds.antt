@@ -62,14 +62,7 @@ coded_world {K} coded_hasher =
     (coded× coded_plain
     (coded× coded_ℕ (coded× (coded_list coded_session) (coded_list coded_ℕ))))))
     (λ w. (w.settings, (w.hasher, (w.state, (w.moment, (w.sessions, w.left))))))
-    (λ p. record {
-      settings = p.0;
-      hasher = p.1.0;
-      state = p.1.1.0;
-      moment = p.1.1.1.0;
-      sessions = p.1.1.1.1.0;
-      left = p.1.1.1.1.1;
-    })
+    (λ p. record { settings = p.0; hasher = p.1.0; state = p.1.1.0; moment = p.1.1.1.0; sessions = p.1.1.1.1.0; left = p.1.1.1.1.1 })
     (λ _. refl)
 
 -- the plain machine takes a step with this reply
@@ -232,14 +225,9 @@ pub record NextStep (old : PlainWorld) (connection : Connection) (state : Plain)
 
 -- the step of the open connection that an event gives a turn
 abbrev pub EventDecides : PlainWorld → Event → Plain → Type 0
-EventDecides old Open state = ⊥
-EventDecides old (Piece n piece) state = ⊥
 EventDecides old (Turn n) state = (connection : Connection)
     × (open_connection n old.connections ≡ Some connection) × NextStep old connection state
-EventDecides old (Clock now) state = ⊥
-EventDecides old (Grow shelf) state = ⊥
-EventDecides old (Purge shelf) state = ⊥
-EventDecides old (Close n) state = ⊥
+EventDecides old other state = ⊥
 
 -- the event takes memory: it opens a session, brings a piece to one that is open, or gives one a
 -- turn that is due
