@@ -11,15 +11,5 @@
 #![tactic(auto)]
 
 #[cfg(test)]
-mod acts;
-#[cfg(test)]
-mod runs;
-#[cfg(test)]
-mod set_ups;
-#[cfg(test)]
 mod tests;
-#[cfg(test)]
-mod texts;
-#[cfg(test)]
-mod told;
 mod worlds;

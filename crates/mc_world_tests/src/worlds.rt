@@ -8,6 +8,18 @@ use mc_time::Moment;
 use mc_world::World;
 use std::alloc::{AllocError, Global};
 
+/// Makes a call again if memory is refused.
+macro_rules! twice {
+    ($call:expr) => {
+        match $call {
+            Err(_) => $call,
+            made => made,
+        }
+    };
+}
+
+pub(crate) use twice;
+
 /// Returns a world at 1000 whose store has these settings.
 pub(crate) fn world_with<K: KeyHash + Drop>(
     alloc: Global,
@@ -46,8 +58,5 @@ pub(crate) fn retried_world<K: KeyHash + Drop + Copy>(
 ) -> Result<World<K>, AllocError>
     requires { (1 ≤ pages) × (pages ≤ 65536) }
 {
-    match world_of(alloc, hasher, pages) {
-        Err(_) => world_of(alloc, hasher, pages),
-        made => made,
-    }
+    twice!(world_of(alloc, hasher, pages))
 }

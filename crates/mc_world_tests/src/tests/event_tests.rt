@@ -3,11 +3,11 @@
 //! Each function does little, and what owns a world does less: a proof takes about the square of a
 //! function's length.
 
-use crate::acts::{Act, run_acts};
-use crate::runs::{opened_twice, opened_with};
-use crate::set_ups::{EACH, SHELF_OF_A, SHELF_OF_B, SOME};
-use crate::texts::{HIT, MISS};
-use crate::told::{answers, is_refused, is_told, second_finds};
+use crate::tests::acts::{Act, run_acts};
+use crate::tests::runs::opened_twice;
+use crate::tests::set_ups::{EACH, SHELF_OF_A, SHELF_OF_B, SOME};
+use crate::tests::texts::{HIT, MISS};
+use crate::tests::told::Tested;
 use crate::worlds::world_with;
 use mc_hop::Fnv;
 use mc_protocol::Bytes;
@@ -38,35 +38,20 @@ fn standing(world: &World<Fnv>, session: u32) -> &'static str {
     }
 }
 
-/// Checks the standing of a session.
-fn stands(rt: &impl Abort, world: &World<Fnv>, session: u32, want: &str) {
-    let stands = standing(world, session);
-    assert!(rt; stands == want, "session {session} is {stands}");
-}
-
 /// Runs the events of a row, and compares its session's output and standing.
-fn row_is_told(
-    rt: &impl Abort,
-    alloc: Global,
-    world: &mut World<Fnv>,
-    row: &Row,
-) -> Result<(), Fail> {
+fn row_is_told<R: Abort>(tested: &mut Tested<'_, R, Fnv>, row: &Row) -> Result<(), Fail> {
     let (acts, session, output, want) = *row;
-    run_acts(world, alloc, acts)?;
-    is_told(rt, world, session, output.as_bytes());
-    stands(rt, world, session, want);
+    run_acts(tested, acts)?;
+    tested.is_told(session, output.as_bytes());
+    let stands = standing(&tested.world, session);
+    assert!(tested.rt; stands == want, "session {session} is {stands}");
     Ok(())
 }
 
 /// Runs the events of rows in order, and compares their sessions' outputs and standings.
-fn rows_are_told_in(
-    rt: &impl Abort,
-    alloc: Global,
-    world: &mut World<Fnv>,
-    rows: &[Row],
-) -> Result<(), Fail> {
+fn rows_are_told_in<R: Abort>(tested: &mut Tested<'_, R, Fnv>, rows: &[Row]) -> Result<(), Fail> {
     for row in rows {
-        row_is_told(rt, alloc, world, row)?;
+        row_is_told(tested, row)?;
     }
     Ok(())
 }
@@ -78,8 +63,8 @@ fn rows_are_told_with(
     settings: Settings,
     rows: &[Row],
 ) -> Result<(), Fail> {
-    let mut world = world_with(alloc, Fnv, settings)?;
-    rows_are_told_in(rt, alloc, &mut world, rows)
+    let mut tested = Tested::of(rt, alloc, world_with(alloc, Fnv, settings)?);
+    rows_are_told_in(&mut tested, rows)
 }
 
 /// The same, with 64 shelves.
@@ -101,23 +86,13 @@ fn a_session_is_there_once_it_is_opened(rt: HostRuntime) -> Result<(), Fail> {
         (&[Act::Piece(1, "version\r\n")], 1, "", "neither"),
         (&[Act::Open, Act::Turn(1)], 1, "", "idle"),
         (
-            &[
-                Act::Piece(1, "ver"),
-                Act::Turn(1),
-                Act::Piece(1, "sion\r\n"),
-                Act::Turn(1),
-                Act::Turn(1),
-            ],
+            &[Act::Asks(1, "ver"), Act::Asks(1, "sion\r\n"), Act::Turn(1)],
             1,
             VERSION,
             "idle",
         ),
         (
-            &[
-                Act::Piece(1, "quit\r\nversion\r\n"),
-                Act::Turn(1),
-                Act::Turn(1),
-            ],
+            &[Act::Asks(1, "quit\r\nversion\r\n"), Act::Turn(1)],
             1,
             VERSION,
             "closed",
@@ -135,13 +110,11 @@ fn a_closed_session_keeps_its_output(rt: HostRuntime) -> Result<(), Fail> {
             &[
                 Act::Open,
                 Act::Open,
-                Act::Piece(2, "version\r\nversion\r\n"),
-                Act::Turn(2),
+                Act::Asks(2, "version\r\nversion\r\n"),
                 Act::Turn(1),
                 Act::Close(2),
                 Act::Turn(2),
-                Act::Piece(2, "version\r\n"),
-                Act::Turn(2),
+                Act::Asks(2, "version\r\n"),
             ],
             2,
             VERSION,
@@ -159,13 +132,10 @@ fn keys_of_a_get_are_asked_at_their_turns(rt: HostRuntime) -> Result<(), Fail> {
             &[
                 Act::Open,
                 Act::Open,
-                Act::Piece(2, "set a 0 0 1\r\n1\r\nset b 0 0 1\r\n1\r\n"),
+                Act::Asks(2, "set a 0 0 1\r\n1\r\nset b 0 0 1\r\n1\r\n"),
                 Act::Turn(2),
-                Act::Turn(2),
-                Act::Piece(1, "get a b\r\n"),
-                Act::Turn(1),
-                Act::Piece(2, "set a 0 0 1\r\n2\r\nset b 0 0 1\r\n2\r\n"),
-                Act::Turn(2),
+                Act::Asks(1, "get a b\r\n"),
+                Act::Asks(2, "set a 0 0 1\r\n2\r\nset b 0 0 1\r\n2\r\n"),
                 Act::Turn(2),
                 Act::Turn(1),
             ],
@@ -184,11 +154,9 @@ fn a_dead_item_is_dropped_where_it_is_asked_for(rt: HostRuntime) -> Result<(), F
         (
             &[
                 Act::Open,
-                Act::Piece(1, "set a 0 10 1\r\nx\r\n"),
-                Act::Turn(1),
+                Act::Asks(1, "set a 0 10 1\r\nx\r\n"),
                 Act::Clock(1010),
-                Act::Piece(1, "get a\r\n"),
-                Act::Turn(1),
+                Act::Asks(1, "get a\r\n"),
             ],
             1,
             "STORED\r\nEND\r\n",
@@ -197,10 +165,8 @@ fn a_dead_item_is_dropped_where_it_is_asked_for(rt: HostRuntime) -> Result<(), F
         (
             &[
                 Act::Clock(1000),
-                Act::Piece(1, "get a\r\n"),
-                Act::Turn(1),
-                Act::Piece(1, "set a 0 10 1\r\nx\r\n"),
-                Act::Turn(1),
+                Act::Asks(1, "get a\r\n"),
+                Act::Asks(1, "set a 0 10 1\r\nx\r\n"),
             ],
             1,
             "STORED\r\nEND\r\nEND\r\nSTORED\r\n",
@@ -210,8 +176,7 @@ fn a_dead_item_is_dropped_where_it_is_asked_for(rt: HostRuntime) -> Result<(), F
             &[
                 Act::Clock(1010),
                 Act::Clock(1000),
-                Act::Piece(1, "get a\r\n"),
-                Act::Turn(1),
+                Act::Asks(1, "get a\r\n"),
             ],
             1,
             "STORED\r\nEND\r\nEND\r\nSTORED\r\nVALUE a 0 1\r\nx\r\nEND\r\n",
@@ -225,11 +190,7 @@ fn a_dead_item_is_dropped_where_it_is_asked_for(rt: HostRuntime) -> Result<(), F
 fn a_purge_drops_what_is_dead_on_its_shelf(rt: HostRuntime) -> Result<(), Fail> {
     static ROWS: [Row; 3] = [
         (
-            &[
-                Act::Open,
-                Act::Piece(1, "set a 0 10 1\r\nx\r\n"),
-                Act::Turn(1),
-            ],
+            &[Act::Open, Act::Asks(1, "set a 0 10 1\r\nx\r\n")],
             1,
             "STORED\r\n",
             "idle",
@@ -241,8 +202,7 @@ fn a_purge_drops_what_is_dead_on_its_shelf(rt: HostRuntime) -> Result<(), Fail> 
                 Act::Purge(SHELF_OF_B),
                 Act::Purge(64),
                 Act::Clock(1000),
-                Act::Piece(1, "get a\r\n"),
-                Act::Turn(1),
+                Act::Asks(1, "get a\r\n"),
             ],
             1,
             "STORED\r\nVALUE a 0 1\r\nx\r\nEND\r\n",
@@ -253,8 +213,7 @@ fn a_purge_drops_what_is_dead_on_its_shelf(rt: HostRuntime) -> Result<(), Fail> 
                 Act::Clock(1010),
                 Act::Purge(SHELF_OF_A),
                 Act::Clock(1000),
-                Act::Piece(1, "get a\r\n"),
-                Act::Turn(1),
+                Act::Asks(1, "get a\r\n"),
             ],
             1,
             "STORED\r\nVALUE a 0 1\r\nx\r\nEND\r\nEND\r\n",
@@ -265,33 +224,21 @@ fn a_purge_drops_what_is_dead_on_its_shelf(rt: HostRuntime) -> Result<(), Fail> 
 }
 
 /// Sends commands by session 1 of a world, and compares the replies.
-fn asked_are_answered(
-    rt: &impl Abort,
-    alloc: Global,
-    world: &mut World<Fnv>,
+fn asked_are_answered<R: Abort>(
+    tested: &mut Tested<'_, R, Fnv>,
     rows: &[Asked],
 ) -> Result<(), Fail> {
     for (moment, input, output) in rows {
-        answers(rt, alloc, world, *moment, input, output)?;
+        tested.answers(*moment, input, output)?;
     }
     Ok(())
 }
 
-/// The same, in a new world whose store has these settings.
-fn new_world_answers(
-    rt: &impl Abort,
-    alloc: Global,
-    settings: Settings,
-    rows: &[Asked],
-) -> Result<(), Fail> {
-    let mut world = opened_with(alloc, Fnv, settings)?;
-    asked_are_answered(rt, alloc, &mut world, rows)
-}
-
-/// The same, with each number of shelves.
+/// The same, in a new world with each number of shelves.
 fn new_worlds_answer(rt: &impl Abort, alloc: Global, rows: &[Asked]) -> Result<(), Fail> {
     for settings in &EACH {
-        new_world_answers(rt, alloc, *settings, rows)?;
+        let mut tested = Tested::opened(rt, alloc, Fnv, *settings)?;
+        asked_are_answered(&mut tested, rows)?;
     }
     Ok(())
 }
@@ -327,19 +274,16 @@ fn a_flush_comes_at_its_moment(rt: HostRuntime) -> Result<(), Fail> {
 
 /// Sets and gets `a` by session 1. After an error it is closed. Returns what another session must
 /// find.
-fn first_sets(rt: &impl Abort, alloc: Global, world: &mut World<Fnv>) -> &'static [u8] {
-    let events = [
-        Event::Piece(1, Bytes::of(b"set a 0 0 1\r\nx\r\nget a\r\n")),
-        Event::Turn(1),
-        Event::Turn(1),
-    ];
-    match world.run(alloc, &events) {
+fn first_sets<R: Abort>(tested: &mut Tested<'_, R, Fnv>) -> &'static [u8] {
+    let set = Event::Piece(1, Bytes::of(b"set a 0 0 1\r\nx\r\nget a\r\n"));
+    let events = [set, Event::Turn(1), Event::Turn(1)];
+    match tested.world.run(tested.alloc, &events) {
         Ok(()) => {
-            is_told(rt, world, 1, b"STORED\r\nVALUE a 0 1\r\nx\r\nEND\r\n");
+            tested.is_told(1, b"STORED\r\nVALUE a 0 1\r\nx\r\nEND\r\n");
             HIT
         }
         Err(refused) => {
-            is_refused(rt, world, 1, &refused);
+            tested.is_refused(1, &refused);
             if refused.decided || refused.at == 2 {
                 HIT
             } else {
@@ -349,13 +293,9 @@ fn first_sets(rt: &impl Abort, alloc: Global, world: &mut World<Fnv>) -> &'stati
     }
 }
 
-fn goes_on(rt: &impl Abort, alloc: Global, world: &mut World<Fnv>) -> Result<(), Fail> {
-    let found = first_sets(rt, alloc, world);
-    second_finds(rt, alloc, world, found)
-}
-
 #[test]
 fn a_world_goes_on_after_a_refusal(rt: HostRuntime) -> Result<(), Fail> {
-    let mut world = opened_twice(rt.alloc())?;
-    goes_on(&rt, rt.alloc(), &mut world)
+    let mut tested = Tested::of(&rt, rt.alloc(), opened_twice(rt.alloc())?);
+    let found = first_sets(&mut tested);
+    tested.second_finds(found)
 }

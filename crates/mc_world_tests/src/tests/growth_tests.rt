@@ -1,84 +1,22 @@
 //! Keys of one hash, and what an event of growth moves. If memory is refused a test ends early.
 
-use crate::runs::opened_with;
-use crate::set_ups::{EACH, SOME_SMALL};
-use crate::texts::{get_of, hit_of, set_of};
-use crate::told::{answers, answers_and_grows};
+use crate::tests::keys::keys_are_apart;
+use crate::tests::set_ups::{EACH, SOME_SMALL};
+use crate::tests::texts::set_of;
+use crate::tests::told::Tested;
 use mc_hop::Constant;
 use mc_protocol::Bytes;
-use mc_shelf::{Settings, Store};
+use mc_shelf::Store;
 use mc_time::Moment;
-use mc_world::{Event, World, WorldParts};
+use mc_world::{Event, WorldParts};
 use std::alloc::{AllocError, Global};
-use std::process::Abort;
 use std::test::Fail;
-
-fn key_is_set(
-    rt: &impl Abort,
-    alloc: Global,
-    world: &mut World<Constant>,
-    number: u32,
-) -> Result<(), Fail> {
-    let set = set_of(alloc, number)?;
-    answers_and_grows(rt, alloc, world, &set, "STORED\r\n")
-}
-
-fn key_is_found(
-    rt: &impl Abort,
-    alloc: Global,
-    world: &mut World<Constant>,
-    number: u32,
-) -> Result<(), Fail> {
-    let get = get_of(alloc, number)?;
-    let hit = hit_of(alloc, number)?;
-    answers(rt, alloc, world, 1000, &get, &hit)
-}
-
-fn forty_keys_are_set(
-    rt: &impl Abort,
-    alloc: Global,
-    world: &mut World<Constant>,
-) -> Result<(), Fail> {
-    for number in 1..41 {
-        key_is_set(rt, alloc, world, number)?;
-    }
-    Ok(())
-}
-
-fn forty_keys_are_found(
-    rt: &impl Abort,
-    alloc: Global,
-    world: &mut World<Constant>,
-) -> Result<(), Fail> {
-    for number in 1..41 {
-        key_is_found(rt, alloc, world, number)?;
-    }
-    Ok(())
-}
-
-fn forty_keys_are_apart(
-    rt: &impl Abort,
-    alloc: Global,
-    world: &mut World<Constant>,
-) -> Result<(), Fail> {
-    forty_keys_are_set(rt, alloc, world)?;
-    forty_keys_are_found(rt, alloc, world)
-}
-
-/// The same, in a new world whose store has these settings.
-fn forty_keys_are_apart_with(
-    rt: &impl Abort,
-    alloc: Global,
-    settings: Settings,
-) -> Result<(), Fail> {
-    let mut world = opened_with(alloc, Constant(0), settings)?;
-    forty_keys_are_apart(rt, alloc, &mut world)
-}
 
 #[test]
 fn keys_of_one_hash_are_apart(rt: HostRuntime) -> Result<(), Fail> {
     for settings in &EACH {
-        forty_keys_are_apart_with(&rt, rt.alloc(), *settings)?;
+        let mut tested = Tested::opened(&rt, rt.alloc(), Constant(0), *settings)?;
+        keys_are_apart(&mut tested, 40)?;
     }
     Ok(())
 }

@@ -3,9 +3,12 @@
 //!
 //! If memory is refused a test ends early.
 
-use crate::runs::{after, opened, run, take_turns};
-use crate::set_ups::SOME;
-use crate::told::{answers, answers_and_grows, is_told};
+ghost use Rattle.std.specs.Prelude.{◌≤◌};
+
+use crate::tests::keys::keys_are_apart;
+use crate::tests::runs::after;
+use crate::tests::set_ups::SOME;
+use crate::tests::told::Tested;
 use mc_hop::{Constant, Fnv};
 use mc_protocol::Bytes;
 use mc_time::Moment;
@@ -31,161 +34,68 @@ fn unique_numbers_end(rt: HostRuntime) -> Result<(), Fail> {
     let output =
         "STORED\r\nVALUE a 0 1 18446744073709551614\r\nx\r\nEND\r\nSERVER_ERROR out of unique numbers\r\n\
         CLIENT_ERROR cannot increment or decrement non-numeric value\r\nNOT_STORED\r\nVALUE a 0 1\r\nx\r\nEND\r\nDELETED\r\n";
-    let mut world = world_of_one_number(rt.alloc())?;
-    answers(&rt, rt.alloc(), &mut world, 1000, input, output)
-}
-
-fn key_is_set(
-    rt: &impl Abort,
-    alloc: Global,
-    world: &mut World<Constant>,
-    key: u32,
-) -> Result<(), Fail> {
-    let set = format!(in alloc; "set k{key:03} 0 0 3\r\n{key:03}\r\n")?;
-    answers_and_grows(rt, alloc, world, &set, "STORED\r\n")
-}
-
-fn key_is_deleted(
-    rt: &impl Abort,
-    alloc: Global,
-    world: &mut World<Constant>,
-    key: u32,
-) -> Result<(), Fail> {
-    let delete = format!(in alloc; "delete k{key:03}\r\n")?;
-    answers_and_grows(rt, alloc, world, &delete, "DELETED\r\n")
-}
-
-/// Returns the reply to a get of a key, if every third key was deleted.
-fn found(alloc: Global, key: u32) -> Result<String, AllocError> {
-    if key % 3 == 0 {
-        format!(in alloc; "END\r\n")
-    } else {
-        format!(in alloc; "VALUE k{key:03} 0 3\r\n{key:03}\r\nEND\r\n")
-    }
-}
-
-fn key_is_found(
-    rt: &impl Abort,
-    alloc: Global,
-    world: &mut World<Constant>,
-    key: u32,
-) -> Result<(), Fail> {
-    let get = format!(in alloc; "get k{key:03}\r\n")?;
-    let found = found(alloc, key)?;
-    answers_and_grows(rt, alloc, world, &get, &found)
-}
-
-fn keys_are_set(rt: &impl Abort, alloc: Global, world: &mut World<Constant>) -> Result<(), Fail> {
-    for key in 1..301 {
-        key_is_set(rt, alloc, world, key)?;
-    }
-    Ok(())
-}
-
-fn thirds_are_deleted(
-    rt: &impl Abort,
-    alloc: Global,
-    world: &mut World<Constant>,
-) -> Result<(), Fail> {
-    for third in 1..101 {
-        key_is_deleted(rt, alloc, world, 3 * third)?;
-    }
-    Ok(())
-}
-
-fn keys_are_found(rt: &impl Abort, alloc: Global, world: &mut World<Constant>) -> Result<(), Fail> {
-    for key in 1..301 {
-        key_is_found(rt, alloc, world, key)?;
-    }
-    Ok(())
-}
-
-/// Sets the keys, deletes each third, and finds the others.
-fn keys_are_apart(rt: &impl Abort, alloc: Global, world: &mut World<Constant>) -> Result<(), Fail> {
-    keys_are_set(rt, alloc, world)?;
-    thirds_are_deleted(rt, alloc, world)?;
-    keys_are_found(rt, alloc, world)
+    let mut tested = Tested::of(&rt, rt.alloc(), world_of_one_number(rt.alloc())?);
+    tested.answers(1000, input, output)
 }
 
 #[test]
 fn three_hundred_keys_have_one_hash(rt: HostRuntime) -> Result<(), Fail> {
-    let mut world = opened(rt.alloc(), Constant(0))?;
-    keys_are_apart(&rt, rt.alloc(), &mut world)
+    let mut tested = Tested::opened(&rt, rt.alloc(), Constant(0), SOME)?;
+    keys_are_apart(&mut tested, 300)
 }
 
 /// Brings a piece and then an empty one, with a turn after each.
-fn bring(alloc: Global, world: &mut World<Fnv>, piece: &[u8]) -> Result<(), AllocError> {
-    let events = [
+fn bring<R: Abort>(tested: &mut Tested<'_, R, Fnv>, piece: &[u8]) -> Result<(), AllocError> {
+    tested.run(&[
         Event::Piece(1, Bytes::of(piece)),
         Event::Turn(1),
         Event::Piece(1, Bytes::of(b"")),
         Event::Turn(1),
-    ];
-    run(world, alloc, &events)
+    ])
 }
 
-/// Brings each byte as a piece.
-fn bring_each(alloc: Global, world: &mut World<Fnv>, input: &[u8]) -> Result<(), AllocError> {
-    let mut rest = input;
-    for _byte in 0..input.len() {
-        let (piece, left) = rest.split_at(rest.len().min(1));
-        bring(alloc, world, piece)?;
-        rest = left;
+/// Brings some bytes, so many a piece, with an empty piece and a turn after each.
+fn bring_pieces<R: Abort>(
+    tested: &mut Tested<'_, R, Fnv>,
+    input: &[u8],
+    length: usize,
+) -> Result<(), AllocError>
+    requires { 1 ≤ length }
+{
+    for piece in input.chunks(length) {
+        bring(tested, piece)?;
     }
     Ok(())
 }
 
-/// Takes the turns left, compares all output of session 1, and returns whether it is closed.
-fn tells(
-    rt: &impl Abort,
-    alloc: Global,
-    world: &mut World<Fnv>,
-    output: &[u8],
-) -> Result<bool, Fail> {
-    take_turns(alloc, world, 10)?;
-    is_told(rt, world, 1, output);
-    Ok(world.is_closed(1))
-}
-
-/// Compares the output of a session that reads this whole, and returns whether it is closed.
-fn tells_whole_in(
-    rt: &impl Abort,
-    alloc: Global,
-    world: &mut World<Fnv>,
+/// Compares the output of session 1 that reads this in pieces of a length, and returns whether it
+/// is closed.
+fn tells_in_pieces_of<R: Abort>(
+    tested: &mut Tested<'_, R, Fnv>,
     input: &[u8],
+    length: usize,
     output: &[u8],
-) -> Result<bool, Fail> {
-    bring(alloc, world, input)?;
-    tells(rt, alloc, world, output)
+) -> Result<bool, Fail>
+    requires { 1 ≤ length }
+{
+    bring_pieces(tested, input, length)?;
+    tested.take_turns(10)?;
+    tested.is_told(1, output);
+    Ok(tested.world.is_closed(1))
 }
 
 /// The same, in a new world.
-fn tells_whole(rt: &impl Abort, alloc: Global, input: &[u8], output: &[u8]) -> Result<bool, Fail> {
-    let mut world = opened(alloc, Fnv)?;
-    tells_whole_in(rt, alloc, &mut world, input, output)
-}
-
-/// The same for pieces of one byte, with an empty piece and a turn after each.
-fn tells_bytewise_in(
-    rt: &impl Abort,
-    alloc: Global,
-    world: &mut World<Fnv>,
-    input: &[u8],
-    output: &[u8],
-) -> Result<bool, Fail> {
-    bring_each(alloc, world, input)?;
-    tells(rt, alloc, world, output)
-}
-
-/// The same, in a new world.
-fn tells_bytewise(
+fn tells_in_pieces(
     rt: &impl Abort,
     alloc: Global,
     input: &[u8],
+    length: usize,
     output: &[u8],
-) -> Result<bool, Fail> {
-    let mut world = opened(alloc, Fnv)?;
-    tells_bytewise_in(rt, alloc, &mut world, input, output)
+) -> Result<bool, Fail>
+    requires { 1 ≤ length }
+{
+    let mut tested = Tested::opened(rt, alloc, Fnv, SOME)?;
+    tells_in_pieces_of(&mut tested, input, length, output)
 }
 
 /// Checks that a session has the same output byte by byte as whole, and is closed alike.
@@ -195,8 +105,8 @@ fn tells_in_any_pieces(
     input: &[u8],
     output: &[u8],
 ) -> Result<(), Fail> {
-    let whole = tells_whole(rt, alloc, input, output)?;
-    let bytewise = tells_bytewise(rt, alloc, input, output)?;
+    let whole = tells_in_pieces(rt, alloc, input, usize::MAX, output)?;
+    let bytewise = tells_in_pieces(rt, alloc, input, 1, output)?;
     assert!(rt; bytewise == whole);
     Ok(())
 }
@@ -242,9 +152,8 @@ fn long_keys(alloc: Global) -> Result<Vec<u8>, AllocError> {
 
 #[test]
 fn long_keys_come_byte_by_byte(rt: HostRuntime) -> Result<(), Fail> {
-    let input = long_keys(rt.alloc())?;
     let output = b"STORED\r\nCLIENT_ERROR bad command line format\r\nERROR\r\n";
-    tells_in_any_pieces(&rt, rt.alloc(), &input, output)
+    tells_in_any_pieces(&rt, rt.alloc(), &long_keys(rt.alloc())?, output)
 }
 
 /// Returns a line of 65536 letters, and 65537 letters of the next.
@@ -257,7 +166,6 @@ fn long_lines(alloc: Global) -> Result<Vec<u8>, AllocError> {
 
 #[test]
 fn long_lines_come_byte_by_byte(rt: HostRuntime) -> Result<(), Fail> {
-    let input = long_lines(rt.alloc())?;
     let output = b"ERROR\r\nCLIENT_ERROR line too long\r\n";
-    tells_in_any_pieces(&rt, rt.alloc(), &input, output)
+    tells_in_any_pieces(&rt, rt.alloc(), &long_lines(rt.alloc())?, output)
 }

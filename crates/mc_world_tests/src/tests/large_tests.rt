@@ -1,12 +1,10 @@
 //! Items of several pages, in worlds whose stores have few. If memory is refused a test ends early.
 
-use crate::runs::{ask, opened_with};
-use crate::set_ups::{EIGHT_LARGE, THREE_LARGE, TWO_LARGE};
-use crate::texts::NO_CHUNK;
-use crate::told::{is_told, tells};
+use crate::tests::set_ups::{EIGHT_LARGE, THREE_LARGE, TWO_LARGE};
+use crate::tests::texts::{NO_CHUNK, around};
+use crate::tests::told::Tested;
 use mc_hop::Fnv;
 use mc_shelf::Settings;
-use mc_world::World;
 use std::alloc::{AllocError, Global};
 use std::process::Abort;
 use std::test::Fail;
@@ -27,11 +25,8 @@ type Row = (Asks, &'static str);
 
 /// Returns a line that sets a key, and a block of this length.
 fn set_of(alloc: Global, key: char, length: u32, exptime: i32) -> Result<Vec<u8>, AllocError> {
-    let mut text = format!(in alloc; "set {key} 0 {exptime} {length}\r\n")?.into_bytes();
-    let line = text.len();
-    text.resize(line + length as usize, b'x')?;
-    text.extend_from_slice(b"\r\n")?;
-    Ok(text)
+    let line = format!(in alloc; "set {key} 0 {exptime} {length}\r\n")?;
+    around(alloc, line.as_bytes(), (b'x', length as usize), b"\r\n")
 }
 
 /// Returns the bytes of a command.
@@ -42,87 +37,63 @@ fn bytes_of(alloc: Global, asks: Asks) -> Result<Vec<u8>, AllocError> {
     }
 }
 
-fn row_is_told(
-    rt: &impl Abort,
-    alloc: Global,
-    world: &mut World<Fnv>,
-    row: &Row,
-) -> Result<(), Fail> {
+fn row_is_told<R: Abort>(tested: &mut Tested<'_, R, Fnv>, row: &Row) -> Result<(), Fail> {
     let (asks, output) = *row;
-    let bytes = bytes_of(alloc, asks)?;
-    ask(alloc, world, 1000, &bytes)?;
-    tells(rt, world, output);
+    let bytes = bytes_of(tested.alloc, asks)?;
+    tested.ask(1000, &bytes)?;
+    tested.tells(output);
     Ok(())
 }
 
-fn rows_are_told(
-    rt: &impl Abort,
-    alloc: Global,
-    world: &mut World<Fnv>,
-    rows: &[Row],
-) -> Result<(), Fail> {
+/// Checks the replies to session 1.
+fn are_told_in<R: Abort>(tested: &mut Tested<'_, R, Fnv>, rows: &[Row]) -> Result<(), Fail> {
     for row in rows {
-        row_is_told(rt, alloc, world, row)?;
+        row_is_told(tested, row)?;
     }
     Ok(())
 }
 
-/// Checks the replies to session 1 in a new world whose store has these settings.
+/// The same, in a new world whose store has these settings.
 fn are_told(rt: &impl Abort, alloc: Global, settings: Settings, rows: &[Row]) -> Result<(), Fail> {
-    let mut world = opened_with(alloc, Fnv, settings)?;
-    rows_are_told(rt, alloc, &mut world, rows)
-}
-
-/// Returns a front, a letter 100000 times, and an end.
-fn text_of(alloc: Global, front: &[u8], letter: u8, end: &[u8]) -> Result<Vec<u8>, AllocError> {
-    let mut text = Vec::new(alloc);
-    text.extend_from_slice(front)?;
-    text.resize(front.len().saturating_add(100000), letter)?;
-    text.extend_from_slice(end)?;
-    Ok(text)
+    let mut tested = Tested::opened(rt, alloc, Fnv, settings)?;
+    are_told_in(&mut tested, rows)
 }
 
 /// Brings a text to session 1 in pieces of 8192 bytes.
-fn ask_in_pieces(alloc: Global, world: &mut World<Fnv>, text: &[u8]) -> Result<(), AllocError> {
+fn ask_in_pieces<R: Abort>(tested: &mut Tested<'_, R, Fnv>, text: &[u8]) -> Result<(), AllocError> {
     for piece in text.chunks(8192) {
-        ask(alloc, world, 1000, piece)?;
+        tested.ask(1000, piece)?;
     }
     Ok(())
 }
 
 /// Sets `k` to a letter 100000 times, in pieces.
-fn sets(rt: &impl Abort, alloc: Global, world: &mut World<Fnv>, letter: u8) -> Result<(), Fail> {
-    let set = text_of(alloc, b"set k 0 0 100000\r\n", letter, b"\r\n")?;
-    ask_in_pieces(alloc, world, set.as_slice())?;
-    tells(rt, world, "STORED\r\n");
+fn sets<R: Abort>(tested: &mut Tested<'_, R, Fnv>, letter: u8) -> Result<(), Fail> {
+    let set = around(
+        tested.alloc,
+        b"set k 0 0 100000\r\n",
+        (letter, 100000),
+        b"\r\n",
+    )?;
+    ask_in_pieces(tested, set.as_slice())?;
+    tested.tells("STORED\r\n");
     Ok(())
 }
 
-/// Checks the output of session 1, which is then written.
-fn is_told_and_sent(rt: &impl Abort, world: &mut World<Fnv>, output: &[u8]) {
-    is_told(rt, world, 1, output);
-    let written = world.out(1).len();
-    world.sent(1, written);
-}
-
 /// Gets a letter 100000 times for `k`.
-fn gets(rt: &impl Abort, alloc: Global, world: &mut World<Fnv>, letter: u8) -> Result<(), Fail> {
-    let hit = text_of(alloc, b"VALUE k 0 100000\r\n", letter, b"\r\nEND\r\n")?;
-    ask(alloc, world, 1000, b"get k\r\n")?;
-    is_told_and_sent(rt, world, hit.as_slice());
+fn gets<R: Abort>(tested: &mut Tested<'_, R, Fnv>, letter: u8) -> Result<(), Fail> {
+    let value = b"VALUE k 0 100000\r\n";
+    let hit = around(tested.alloc, value, (letter, 100000), b"\r\nEND\r\n")?;
+    tested.ask(1000, b"get k\r\n")?;
+    tested.is_told_and_sent(hit.as_slice());
     Ok(())
 }
 
 /// Sets `k` to each letter, and gets it.
-fn sets_and_gets(
-    rt: &impl Abort,
-    alloc: Global,
-    world: &mut World<Fnv>,
-    letters: &[u8],
-) -> Result<(), Fail> {
+fn sets_and_gets<R: Abort>(tested: &mut Tested<'_, R, Fnv>, letters: &[u8]) -> Result<(), Fail> {
     for letter in letters {
-        sets(rt, alloc, world, *letter)?;
-        gets(rt, alloc, world, *letter)?;
+        sets(tested, *letter)?;
+        gets(tested, *letter)?;
     }
     Ok(())
 }
@@ -130,8 +101,8 @@ fn sets_and_gets(
 /// The second block's memory becomes the item's, and the first one's that of the third.
 #[test]
 fn a_block_that_comes_in_pieces_is_set_over_others(rt: HostRuntime) -> Result<(), Fail> {
-    let mut world = opened_with(rt.alloc(), Fnv, TWO_LARGE)?;
-    sets_and_gets(&rt, rt.alloc(), &mut world, b"xyz")
+    let mut tested = Tested::opened(&rt, rt.alloc(), Fnv, TWO_LARGE)?;
+    sets_and_gets(&mut tested, b"xyz")
 }
 
 #[test]

@@ -6,8 +6,8 @@
 
 ghost use Rattle.std.specs.Prelude.{◌≤◌};
 
-use crate::texts::{get_of, hit_of, set_of};
-use crate::worlds::retried_world;
+use crate::tests::texts::{around, get_of, hit_of, large_set, set_of};
+use crate::worlds::{retried_world, twice};
 use mc_hop::{Constant, Fnv, KeyHash};
 use mc_protocol::Bytes;
 use mc_world::{Event, Refused, World};
@@ -18,118 +18,132 @@ use std::test::Fail;
 /// The reply to a step without a chunk.
 const NO_CHUNK: &[u8] = b"SERVER_ERROR out of memory storing object\r\n";
 
+/// A command, and its reply.
+type Row<'a> = (&'a [u8], &'a [u8]);
+
 /// A world, and the session that sends commands.
 #[derive(Drop)]
-struct Asker<K: KeyHash + Drop> {
+struct Asker<'a, R: Abort, K: KeyHash + Drop> {
+    rt: &'a R,
+    alloc: Global,
     world: World<K>,
     session: u32,
 }
 
-impl<K: KeyHash + Drop> Asker<K> {
+impl<'a, R: Abort, K: KeyHash + Drop> Asker<'a, R, K> {
     /// Sends commands to that world by its first session.
-    fn of(rt: &impl Abort, alloc: Global, world: World<K>) -> Asker<K> {
-        let mut asker = Asker { world, session: 0 };
-        asker.open_next(rt, alloc);
+    fn of(rt: &'a R, alloc: Global, world: World<K>) -> Asker<'a, R, K> {
+        let mut asker = Asker {
+            rt,
+            alloc,
+            world,
+            session: 0,
+        };
+        asker.open_next();
         asker
     }
 
     /// Opens the next session, and sends commands by it. It tries again if memory is refused.
-    fn open_next(&mut self, rt: &impl Abort, alloc: Global) {
+    fn open_next(&mut self) {
         let opened = self.world.session_count();
-        if self.world.run(alloc, &[Event::Open]).is_err() {
-            self.open_again(rt, alloc, opened);
+        if self.world.run(self.alloc, &[Event::Open]).is_err() {
+            self.open_again(opened);
         }
         self.session = self.session.wrapping_add(1);
     }
 
     /// Opens a session that was refused once. As many as before are there.
-    fn open_again(&mut self, rt: &impl Abort, alloc: Global, opened: usize) {
+    fn open_again(&mut self, opened: usize) {
         let has = self.world.session_count();
-        assert!(rt; has == opened, "a refused session is there");
-        let again = self.world.run(alloc, &[Event::Open]);
-        assert!(rt; again.is_ok(), "a second refusal");
+        assert!(self.rt; has == opened, "a refused session is there");
+        let again = self.world.run(self.alloc, &[Event::Open]);
+        assert!(self.rt; again.is_ok(), "a second refusal");
     }
 
     /// Sends a command, and takes its turn.
-    fn send(&mut self, alloc: Global, command: &[u8]) -> Result<(), Refused> {
+    fn send(&mut self, command: &[u8]) -> Result<(), Refused> {
         let piece = Event::Piece(self.session, Bytes::of(command));
-        self.world.run(alloc, &[piece, Event::Turn(self.session)])
+        let turn = Event::Turn(self.session);
+        self.world.run(self.alloc, &[piece, turn])
     }
 
     /// Checks the session's output, which is then written.
-    fn is_told(&mut self, rt: &impl Abort, text: &[u8]) {
+    fn is_told(&mut self, text: &[u8]) {
         let out = self.world.out(self.session);
-        assert!(rt; out == text, "another text");
+        assert!(self.rt; out == text, "another text");
         let written = out.len();
         self.world.sent(self.session, written);
     }
 
     /// Checks that the session was refused, and is closed without a text. Then opens another one.
-    fn is_refused(&mut self, rt: &impl Abort, alloc: Global, refused: &Refused) {
-        assert!(rt; refused.session == Some(self.session), "another session");
-        assert!(rt; self.world.is_closed(self.session), "it is open");
-        assert!(rt;
-            self.world.out(self.session).is_empty(),
+    fn is_refused(&mut self, refused: &Refused) {
+        let session = self.session;
+        assert!(self.rt; refused.session == Some(session), "another session");
+        assert!(self.rt; self.world.is_closed(session), "it is open");
+        assert!(self.rt;
+            self.world.out(session).is_empty(),
             "a refused turn has a text"
         );
-        self.open_next(rt, alloc);
+        self.open_next();
     }
 
     /// Sends a command, and returns whether its step was taken.
-    fn stands(&mut self, rt: &impl Abort, alloc: Global, command: &[u8], text: &[u8]) -> bool {
-        match self.send(alloc, command) {
+    fn stands(&mut self, command: &[u8], text: &[u8]) -> bool {
+        match self.send(command) {
             Ok(()) => {
-                self.is_told(rt, text);
+                self.is_told(text);
                 true
             }
             Err(refused) => {
-                self.is_refused(rt, alloc, &refused);
+                self.is_refused(&refused);
                 refused.decided
             }
         }
     }
 
     /// Sends a command until it has this reply, or its step is taken without a text.
-    fn answers(&mut self, rt: &impl Abort, alloc: Global, command: &[u8], text: &[u8]) {
-        if !self.stands(rt, alloc, command, text) {
-            let stands = self.stands(rt, alloc, command, text);
-            assert!(rt; stands, "a second refusal");
+    fn answers(&mut self, command: &[u8], text: &[u8]) {
+        if !self.stands(command, text) {
+            let stands = self.stands(command, text);
+            assert!(self.rt; stands, "a second refusal");
         }
     }
 
     /// Sends a command that reads, until it has the expected reply.
-    fn reads(&mut self, rt: &impl Abort, alloc: Global, read: (&[u8], &[u8])) {
+    fn reads(&mut self, read: Row<'_>) {
         let session = self.session;
         let (command, text) = read;
-        self.answers(rt, alloc, command, text);
+        self.answers(command, text);
         if self.session != session {
-            self.answers(rt, alloc, command, text);
+            self.answers(command, text);
         }
     }
 
     /// Sends commands in order, and then one that reads, until it has the expected reply.
-    fn rows(
-        &mut self,
-        rt: &impl Abort,
-        alloc: Global,
-        rows: &[(&[u8], &[u8])],
-        read: (&[u8], &[u8]),
-    ) {
+    fn rows(&mut self, rows: &[Row<'_>], read: Row<'_>) {
         for (command, text) in rows {
-            self.answers(rt, alloc, command, text);
+            self.answers(command, text);
         }
-        self.reads(rt, alloc, read);
+        self.reads(read);
     }
 
-    /// Moves entries of the first shelf, which takes no memory.
-    fn grow(&mut self, rt: &impl Abort, alloc: Global) {
-        let grown = self.world.run(alloc, &[Event::Grow(0)]);
-        assert!(rt; grown.is_ok(), "growth took memory");
+    /// Sets the key of a number, and moves entries of its shelf, which takes no memory.
+    fn sets_key(&mut self, number: u32) -> Result<(), AllocError> {
+        let set = set_of(self.alloc, number)?;
+        self.answers(set.as_bytes(), b"STORED\r\n");
+        let grown = self.world.run(self.alloc, &[Event::Grow(0)]);
+        assert!(self.rt; grown.is_ok(), "growth took memory");
+        Ok(())
+    }
+
+    /// Finds the key of a number.
+    fn finds_key(&mut self, number: u32) -> Result<(), AllocError> {
+        let get = get_of(self.alloc, number)?;
+        let hit = hit_of(self.alloc, number)?;
+        self.reads((get.as_bytes(), hit.as_bytes()));
+        Ok(())
     }
 }
-
-/// A command, and its reply.
-type Row<'a> = (&'a [u8], &'a [u8]);
 
 /// Checks the replies to these in a new world with this many pages, and then to one that reads.
 fn are_answered(
@@ -142,7 +156,7 @@ fn are_answered(
     requires { (1 ≤ pages) × (pages ≤ 65536) }
 {
     let mut asker = Asker::of(rt, alloc, retried_world(alloc, Fnv, pages)?);
-    asker.rows(rt, alloc, rows, read);
+    asker.rows(rows, read);
     Ok(())
 }
 
@@ -189,28 +203,6 @@ fn a_number_that_leaves_its_class_finds_no_chunk(rt: HostRuntime) -> Result<(), 
     are_answered(&rt, rt.alloc(), 1, &ROWS, READ)
 }
 
-/// Returns three parts; the middle one is a letter 600000 times. It allocates twice if memory is
-/// refused.
-fn around(alloc: Global, front: &[u8], letter: u8, behind: &[u8]) -> Result<Vec<u8>, AllocError> {
-    match around_once(alloc, front, letter, behind) {
-        Err(_) => around_once(alloc, front, letter, behind),
-        made => made,
-    }
-}
-
-fn around_once(
-    alloc: Global,
-    front: &[u8],
-    letter: u8,
-    behind: &[u8],
-) -> Result<Vec<u8>, AllocError> {
-    let mut bytes = Vec::new(alloc);
-    bytes.extend_from_slice(front)?;
-    bytes.resize(front.len().saturating_add(600000), letter)?;
-    bytes.extend_from_slice(behind)?;
-    Ok(bytes)
-}
-
 /// Checks that a world of one page stores the first of these items.
 ///
 /// Then there is no room for a small item nor for the second, and a get finds the first.
@@ -232,74 +224,36 @@ fn first_is_held<'a>(
 #[test]
 fn one_page_holds_one_large_item(rt: HostRuntime) -> Result<(), Fail> {
     let alloc = rt.alloc();
-    let first = around(alloc, b"set b 0 0 600000\r\n", b'x', b"\r\n")?;
-    let second = around(alloc, b"set b 0 0 600000\r\n", b'z', b"\r\n")?;
-    let hit = around(alloc, b"VALUE b 0 600000\r\n", b'x', b"\r\nEND\r\n")?;
+    let first = twice!(large_set(alloc, 'b', 0, b'x'))?;
+    let second = twice!(large_set(alloc, 'b', 0, b'z'))?;
+    let value = b"VALUE b 0 600000\r\n";
+    let hit = twice!(around(alloc, value, (b'x', 600000), b"\r\nEND\r\n"))?;
     first_is_held(&rt, alloc, &first, &second, &hit)
 }
 
-/// Sets the key of a number, and grows its shelf.
-fn set_key(
-    rt: &impl Abort,
-    alloc: Global,
-    asker: &mut Asker<Constant>,
-    number: u32,
-) -> Result<(), AllocError> {
-    let set = set_of(alloc, number)?;
-    asker.answers(rt, alloc, set.as_bytes(), b"STORED\r\n");
-    asker.grow(rt, alloc);
-    Ok(())
-}
-
-/// Finds the key of a number.
-fn find_key(
-    rt: &impl Abort,
-    alloc: Global,
-    asker: &mut Asker<Constant>,
-    number: u32,
-) -> Result<(), AllocError> {
-    let get = get_of(alloc, number)?;
-    let hit = hit_of(alloc, number)?;
-    asker.reads(rt, alloc, (get.as_bytes(), hit.as_bytes()));
-    Ok(())
-}
-
-fn set_forty_keys(
-    rt: &impl Abort,
-    alloc: Global,
-    asker: &mut Asker<Constant>,
-) -> Result<(), AllocError> {
+fn sets_forty_keys<R: Abort>(asker: &mut Asker<'_, R, Constant>) -> Result<(), AllocError> {
     for number in 1..41 {
-        set_key(rt, alloc, asker, number)?;
+        asker.sets_key(number)?;
     }
     Ok(())
 }
 
-fn find_forty_keys(
-    rt: &impl Abort,
-    alloc: Global,
-    asker: &mut Asker<Constant>,
-) -> Result<(), AllocError> {
+fn finds_forty_keys<R: Abort>(asker: &mut Asker<'_, R, Constant>) -> Result<(), AllocError> {
     for number in 1..41 {
-        find_key(rt, alloc, asker, number)?;
+        asker.finds_key(number)?;
     }
     Ok(())
 }
 
 /// Sets forty keys, and then finds them.
-fn forty_keys_are_apart(
-    rt: &impl Abort,
-    alloc: Global,
-    asker: &mut Asker<Constant>,
-) -> Result<(), Fail> {
-    set_forty_keys(rt, alloc, asker)?;
-    find_forty_keys(rt, alloc, asker)?;
+fn forty_keys_are_apart<R: Abort>(asker: &mut Asker<'_, R, Constant>) -> Result<(), Fail> {
+    sets_forty_keys(asker)?;
+    finds_forty_keys(asker)?;
     Ok(())
 }
 
 #[test]
 fn keys_of_one_hash_are_apart_while_tables_grow(rt: HostRuntime) -> Result<(), Fail> {
     let world = retried_world(rt.alloc(), Constant(0), 64)?;
-    let mut asker = Asker::of(&rt, rt.alloc(), world);
-    forty_keys_are_apart(&rt, rt.alloc(), &mut asker)
+    forty_keys_are_apart(&mut Asker::of(&rt, rt.alloc(), world))
 }

@@ -1,11 +1,12 @@
 //! Whole runs of a world's sessions. A test may refuse one allocation.
 
+use crate::tests::told::Tested;
 use crate::worlds::world;
 use mc_hop::Fnv;
 use mc_session::ServeFault;
 use mc_testing::{Drip, SESSIONS, Sip};
 use mc_time::{Fixed, Moment};
-use mc_world::{World, serve_one};
+use mc_world::serve_one;
 use std::alloc::{AllocError, Global};
 use std::io::ErrorKind;
 use std::process::Abort;
@@ -14,107 +15,89 @@ use std::test::Fail;
 /// More calls than any test makes.
 const NEVER: usize = 10000;
 
-/// Serves a session over a reader and this writer, and returns how it ends.
-fn serve(
-    alloc: Global,
-    world: &mut World<Fnv>,
-    input: &[u8],
-    reads: usize,
-    writer: &mut Sip,
-) -> Result<Result<(), ServeFault>, AllocError> {
-    if world.session_count() >= 65535 {
-        return Err(AllocError);
-    }
-    let mut reader = Drip::failing(input, reads, ErrorKind::Other);
-    let clock = Fixed(Moment::from_seconds(1000));
-    Ok(serve_one(alloc, &mut reader, writer, world, &clock))
-}
+/// How a session ended, and what it wrote.
+type Ended = (Result<(), ServeFault>, Vec<u8>);
 
-/// Serves a session over a reader and a writer, and returns how it ends and what it wrote.
-fn run(
-    alloc: Global,
-    world: &mut World<Fnv>,
+/// Serves a session over a reader and a writer, which fail after so many bytes.
+fn run<R: Abort>(
+    tested: &mut Tested<'_, R, Fnv>,
     input: &[u8],
     reads: usize,
     writes: usize,
-) -> Result<(Result<(), ServeFault>, Vec<u8>), AllocError> {
-    let mut writer = Sip::failing(alloc, 1000, writes, ErrorKind::Other)?;
-    let ended = serve(alloc, world, input, reads, &mut writer)?;
+) -> Result<Ended, AllocError> {
+    if tested.world.session_count() >= 65535 {
+        return Err(AllocError);
+    }
+    let mut writer = Sip::failing(tested.alloc, 1000, writes, ErrorKind::Other)?;
+    let mut reader = Drip::failing(input, reads, ErrorKind::Other);
+    let clock = Fixed(Moment::from_seconds(1000));
+    let world = &mut tested.world;
+    let ended = serve_one(tested.alloc, &mut reader, &mut writer, world, &clock);
     Ok((ended, writer.into_taken()))
 }
 
 /// The same for a run with enough memory: a refusal ends the test.
-fn run_with_memory(
-    alloc: Global,
-    world: &mut World<Fnv>,
+fn run_with_memory<R: Abort>(
+    tested: &mut Tested<'_, R, Fnv>,
     input: &[u8],
     reads: usize,
     writes: usize,
-) -> Result<(Result<(), ServeFault>, Vec<u8>), AllocError> {
-    match run(alloc, world, input, reads, writes)? {
+) -> Result<Ended, AllocError> {
+    match run(tested, input, reads, writes)? {
         (Err(ServeFault::NoMemory), _) => Err(AllocError),
         ended => Ok(ended),
     }
 }
 
 /// Returns the output of a world's session that is served whole.
-fn served(
-    rt: &impl Abort,
-    alloc: Global,
-    world: &mut World<Fnv>,
-    input: &[u8],
-) -> Result<Vec<u8>, Fail> {
-    let (ended, out) = run_with_memory(alloc, world, input, NEVER, NEVER)?;
-    assert!(rt; ended.is_ok());
+fn served<R: Abort>(tested: &mut Tested<'_, R, Fnv>, input: &[u8]) -> Result<Vec<u8>, Fail> {
+    let (ended, out) = run_with_memory(tested, input, NEVER, NEVER)?;
+    assert!(tested.rt; ended.is_ok());
     Ok(out)
 }
 
 /// Serves another session of that world.
-fn next_is_served(rt: &impl Abort, alloc: Global, world: &mut World<Fnv>) -> Result<(), Fail> {
-    let text = served(rt, alloc, world, b"version\r\n")?;
-    assert!(rt; text.as_slice() == b"VERSION 1.6.0\r\n".as_slice());
+fn next_is_served<R: Abort>(tested: &mut Tested<'_, R, Fnv>) -> Result<(), Fail> {
+    let text = served(tested, b"version\r\n")?;
+    assert!(tested.rt; text.as_slice() == b"VERSION 1.6.0\r\n".as_slice());
     Ok(())
 }
 
 /// Checks a session that succeeded: it is closed, and all of its output is written.
 ///
 /// After a refusal it is closed, if it was opened, and the world serves the next one.
-fn is_left_well(
-    rt: &impl Abort,
-    alloc: Global,
-    world: &mut World<Fnv>,
+fn is_left_well<R: Abort>(
+    tested: &mut Tested<'_, R, Fnv>,
     ended: Result<(), ServeFault>,
 ) -> Result<(), Fail> {
     if ended.is_ok() {
-        assert!(rt; world.is_closed(1) && world.out(1).is_empty());
+        assert!(tested.rt; tested.world.is_closed(1) && tested.world.out(1).is_empty());
         return Ok(());
     }
-    assert!(rt; matches!(ended, Err(ServeFault::NoMemory)));
-    assert!(rt; world.session_count() == 0 || world.is_closed(1));
-    next_is_served(rt, alloc, world)
+    assert!(tested.rt; matches!(ended, Err(ServeFault::NoMemory)));
+    assert!(tested.rt; tested.world.session_count() == 0 || tested.world.is_closed(1));
+    next_is_served(tested)
 }
 
 /// Returns whether the first run of a world succeeded, and its output.
 ///
 /// It is `None` if memory for the reader or the writer was refused.
-fn first_of(
-    rt: &impl Abort,
-    alloc: Global,
-    world: &mut World<Fnv>,
+fn first_of<R: Abort>(
+    tested: &mut Tested<'_, R, Fnv>,
     input: &[u8],
 ) -> Result<Option<(bool, Vec<u8>)>, Fail> {
-    let Ok((ended, part)) = run(alloc, world, input, NEVER, NEVER) else {
+    let Ok((ended, part)) = run(tested, input, NEVER, NEVER) else {
         return Ok(None);
     };
     let is_whole = ended.is_ok();
-    is_left_well(rt, alloc, world, ended)?;
+    is_left_well(tested, ended)?;
     Ok(Some((is_whole, part)))
 }
 
 /// The same for a new world; `None` if there is none.
 fn first(rt: &impl Abort, alloc: Global, input: &[u8]) -> Result<Option<(bool, Vec<u8>)>, Fail> {
     match world(alloc, Fnv) {
-        Ok(mut world) => first_of(rt, alloc, &mut world, input),
+        Ok(world) => first_of(&mut Tested::of(rt, alloc, world), input),
         Err(_) => Ok(None),
     }
 }
@@ -149,8 +132,8 @@ fn begins_with(rt: &impl Abort, text: &[u8], front: &[u8]) {
 
 /// Returns the output of a run without a refusal.
 fn again(rt: &impl Abort, alloc: Global, input: &[u8]) -> Result<Vec<u8>, Fail> {
-    let mut world = world(alloc, Fnv)?;
-    served(rt, alloc, &mut world, input)
+    let mut tested = Tested::of(rt, alloc, world(alloc, Fnv)?);
+    served(&mut tested, input)
 }
 
 /// Checks the output for an input.
@@ -175,40 +158,28 @@ fn rows_are_written(rt: HostRuntime) -> Result<(), Fail> {
 
 /// Serves a session whose read fails after some bytes, and which is then closed. Returns its
 /// output.
-fn read_fails(
-    rt: &impl Abort,
-    alloc: Global,
-    world: &mut World<Fnv>,
+fn read_fails<R: Abort>(
+    tested: &mut Tested<'_, R, Fnv>,
     input: &[u8],
     reads: usize,
 ) -> Result<Vec<u8>, Fail> {
-    let (ended, out) = run_with_memory(alloc, world, input, reads, NEVER)?;
+    let (ended, out) = run_with_memory(tested, input, reads, NEVER)?;
     // A closed session reads no further.
-    assert!(rt; matches!(ended, Ok(()) | Err(ServeFault::Read)));
-    assert!(rt; world.is_closed(1));
+    assert!(tested.rt; matches!(ended, Ok(()) | Err(ServeFault::Read)));
+    assert!(tested.rt; tested.world.is_closed(1));
     Ok(out)
 }
 
-/// The same, in a new world.
-fn written_until_read_fails(
-    rt: &impl Abort,
-    alloc: Global,
-    input: &[u8],
-    reads: usize,
-) -> Result<Vec<u8>, Fail> {
-    let mut world = world(alloc, Fnv)?;
-    read_fails(rt, alloc, &mut world, input, reads)
-}
-
-/// Checks that a front of the input is answered if the read after it fails.
+/// Checks that a front of the input is answered in a new world if the read after it fails.
 fn front_is_answered(
     rt: &impl Abort,
     alloc: Global,
     input: &[u8],
     reads: usize,
 ) -> Result<(), Fail> {
+    let mut tested = Tested::of(rt, alloc, world(alloc, Fnv)?);
+    let out = read_fails(&mut tested, input, reads)?;
     let (came, _) = input.split_at(reads.min(input.len()));
-    let out = written_until_read_fails(rt, alloc, input, reads)?;
     let want = written(rt, alloc, came)?;
     is_written(rt, out.as_slice(), want.as_slice(), reads);
     Ok(())
@@ -239,16 +210,10 @@ fn a_failed_read_leaves_what_came_before_answered(rt: HostRuntime) -> Result<(),
 
 /// Serves a session whose write fails after some bytes, and which is then closed. Returns what it
 /// wrote.
-fn write_fails(
-    rt: &impl Abort,
-    alloc: Global,
-    world: &mut World<Fnv>,
-    writes: usize,
-) -> Result<Vec<u8>, Fail> {
+fn write_fails<R: Abort>(tested: &mut Tested<'_, R, Fnv>, writes: usize) -> Result<Vec<u8>, Fail> {
     let input = b"set a 5 0 3\r\nabc\r\nget a\r\nquit\r\n";
-    let (ended, out) = run_with_memory(alloc, world, input, NEVER, writes)?;
-    assert!(rt; matches!(ended, Err(ServeFault::Write)));
-    assert!(rt; world.is_closed(1));
+    let (ended, out) = run_with_memory(tested, input, NEVER, writes)?;
+    assert!(tested.rt; matches!(ended, Err(ServeFault::Write)) && tested.world.is_closed(1));
     Ok(out)
 }
 
@@ -274,64 +239,54 @@ fn is_front(rt: &impl Abort, written: &[u8], writes: usize, output: &[u8]) {
 }
 
 /// Checks that a write that fails after some bytes leaves the rest in its session's output.
-fn rest_is_left_in(
-    rt: &impl Abort,
-    alloc: Global,
-    world: &mut World<Fnv>,
+fn rest_is_left<R: Abort>(
+    tested: &mut Tested<'_, R, Fnv>,
     writes: usize,
     output: &[u8],
 ) -> Result<(), Fail> {
-    let written = write_fails(rt, alloc, world, writes)?;
-    goes_on(rt, written, world.out(1), writes, output)
-}
-
-/// The same, in a new world.
-fn rest_is_left(rt: &impl Abort, alloc: Global, writes: usize, output: &[u8]) -> Result<(), Fail> {
-    let mut world = world(alloc, Fnv)?;
-    rest_is_left_in(rt, alloc, &mut world, writes, output)
+    let written = write_fails(tested, writes)?;
+    goes_on(tested.rt, written, tested.world.out(1), writes, output)
 }
 
 #[test]
 fn a_failed_write_leaves_the_rest_in_the_output(rt: HostRuntime) -> Result<(), Fail> {
     let output = b"STORED\r\nVALUE a 5 3\r\nabc\r\nEND\r\n";
     for writes in 0..output.len() {
-        rest_is_left(&rt, rt.alloc(), writes, output)?;
+        let mut tested = Tested::of(&rt, rt.alloc(), world(rt.alloc(), Fnv)?);
+        rest_is_left(&mut tested, writes, output)?;
     }
     Ok(())
 }
 
 /// Checks the output of the next session of a world.
-fn session_writes(
-    rt: &impl Abort,
-    alloc: Global,
-    world: &mut World<Fnv>,
+fn session_writes<R: Abort>(
+    tested: &mut Tested<'_, R, Fnv>,
     row: (&str, &str),
 ) -> Result<(), Fail> {
     let (input, output) = row;
-    let out = served(rt, alloc, world, input.as_bytes())?;
-    is_output(rt, &out, input, output);
+    let out = served(tested, input.as_bytes())?;
+    is_output(tested.rt, &out, input, output);
     Ok(())
 }
 
 /// Checks that three sessions were opened, are closed, and have no output left.
-fn three_are_closed(rt: &impl Abort, world: &World<Fnv>) {
-    assert!(rt; world.session_count() == 3);
+fn three_are_closed<R: Abort>(tested: &Tested<'_, R, Fnv>) {
+    let world = &tested.world;
+    assert!(tested.rt; world.session_count() == 3);
     for session in 1..4 {
-        assert!(rt; world.is_closed(session) && world.out(session).is_empty());
+        assert!(tested.rt; world.is_closed(session) && world.out(session).is_empty());
     }
 }
 
 /// Checks that three sessions of a world write their rows' output, and are closed.
-fn three_write(
-    rt: &impl Abort,
-    alloc: Global,
-    world: &mut World<Fnv>,
+fn three_write<R: Abort>(
+    tested: &mut Tested<'_, R, Fnv>,
     rows: &[(&'static str, &'static str); 3],
 ) -> Result<(), Fail> {
     for row in rows {
-        session_writes(rt, alloc, world, *row)?;
+        session_writes(tested, *row)?;
     }
-    three_are_closed(rt, world);
+    three_are_closed(tested);
     Ok(())
 }
 
@@ -342,6 +297,6 @@ fn a_second_session_finds_what_the_first_stored(rt: HostRuntime) -> Result<(), F
         ("get a\r\n", "VALUE a 7 3\r\nabc\r\nEND\r\n"),
         ("delete a\r\nget a\r\n", "DELETED\r\nEND\r\n"),
     ];
-    let mut world = world(rt.alloc(), Fnv)?;
-    three_write(&rt, rt.alloc(), &mut world, &ROWS)
+    let mut tested = Tested::of(&rt, rt.alloc(), world(rt.alloc(), Fnv)?);
+    three_write(&mut tested, &ROWS)
 }
