@@ -154,29 +154,31 @@ impl<'a> HeldLink<'a> {
     }
 }
 
+/// Makes the next call: it fails, gives nothing, is an empty read or write, or goes on.
+macro_rules! next_call {
+    ($calls:expr, $kind:ident, $goes_on:expr) => {
+        match $calls.next() {
+            Call::Fails => Err(LinkFault),
+            Call::GivesNone => Ok($kind::Later),
+            Call::IsEmpty => Ok($kind::Bytes(0)),
+            Call::GoesOn => $goes_on,
+        }
+    };
+}
+
 impl<'a> Link for HeldLink<'a> {
     ghost shown = { λ s. s };
 
     fn try_read(&mut self, piece: &mut [u8]) -> Result<Got, LinkFault> {
         self.was_read = true;
         self.requested = piece.len();
-        match self.calls.next() {
-            Call::Fails => Err(LinkFault),
-            Call::GivesNone => Ok(Got::Later),
-            Call::IsEmpty => Ok(Got::Bytes(0)),
-            Call::GoesOn => self.give(piece),
-        }
+        next_call!(self.calls, Got, self.give(piece))
     }
 
     fn try_write(&mut self, bytes: &[u8]) -> Result<Took, LinkFault> {
         self.was_read = false;
         self.requested = bytes.len();
-        match self.calls.next() {
-            Call::Fails => Err(LinkFault),
-            Call::GivesNone => Ok(Took::Later),
-            Call::IsEmpty => Ok(Took::Bytes(0)),
-            Call::GoesOn => self.take(bytes),
-        }
+        next_call!(self.calls, Took, self.take(bytes))
     }
 
     fn faults(&self) -> u64 {

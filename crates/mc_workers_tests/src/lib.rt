@@ -8,11 +8,9 @@
 //! They are a crate of their own, so that the library isn't proved a second time with them. No
 //! program uses this crate.
 //!
-//! Begin with `src/held.rt`, `src/serving.rt` and `src/tests/worker_tests.rt`.
+//! Begin with `src/held.rt`, `src/tests/serving.rt` and `src/tests/worker_tests.rt`.
 #![tactic(auto)]
 
 mod held;
-#[cfg(test)]
-mod serving;
 #[cfg(test)]
 mod tests;

@@ -3,11 +3,11 @@
 ghost use Rattle.std.specs.Prelude.{◌≡◌};
 
 use crate::held::{HeldLink, Seen};
-use crate::serving::HeldLinks;
+use crate::tests::serving::HeldLinks;
 use mc_guests::{Outcome, Tally};
 use mc_hop::Fnv;
 use mc_protocol::{Answer, Bytes, KeyStep, Reply, Steps, Verb};
-use mc_shared::{Caller, NoGate, Shared};
+use mc_shared::{NoGate, Shared};
 use mc_shelf::{Settings, Store};
 use mc_testing::{Ask, filled_block, step_of};
 use mc_time::{Fixed, Moment};
@@ -230,29 +230,7 @@ fn a_tally_hears_of_no_step_that_is_not_taken(rt: HostRuntime) -> Result<(), Fai
     Ok(())
 }
 
-/// Lets a worker with this tally serve a link.
-fn work_heard<R: Wait>(
-    rt: &R,
-    alloc: Global,
-    shared: &Shared<Fnv>,
-    caller: Caller,
-    link: HeldLink<'_>,
-    heard: &Heard,
-)
-    requires { caller.table ≡ shared.now.table }
-{
-    let clock = Fixed(Moment::from_seconds_at_most(1000));
-    let worker = Worker {
-        gate: &NoGate,
-        tally: heard,
-        clock: &clock,
-        first: 0,
-        share: usize::MAX,
-    };
-    let _ = worker.work(rt, alloc, shared, caller, &mut HeldLinks::one(link));
-}
-
-/// Returns the reports of the steps of one link.
+/// Returns the reports of the steps of one link that a worker serves.
 fn heard_of_link<R: Wait>(
     rt: &R,
     alloc: Global,
@@ -261,9 +239,17 @@ fn heard_of_link<R: Wait>(
 ) -> Result<Hearing, AllocError> {
     let seen = Seen::nothing();
     let heard = Heard::nothing();
-    let link = HeldLink::new(alloc, input, output, &seen);
+    let clock = Fixed(Moment::from_seconds_at_most(1000));
+    let worker = Worker {
+        gate: &NoGate,
+        tally: &heard,
+        clock: &clock,
+        first: 0,
+        share: usize::MAX,
+    };
+    let mut links = HeldLinks::one(HeldLink::new(alloc, input, output, &seen));
     let (shared, caller) = Shared::new(alloc, SETTINGS, Fnv)?;
-    work_heard(rt, alloc, &shared, caller, link, &heard);
+    let _ = worker.work(rt, alloc, &shared, caller, &mut links);
     Ok(heard.hearing.get())
 }
 

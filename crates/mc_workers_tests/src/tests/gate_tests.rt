@@ -3,7 +3,7 @@
 ghost use Rattle.std.specs.Prelude.{◌≡◌, IfOk};
 
 use crate::held::{HeldLink, Seen};
-use crate::serving::serves;
+use crate::tests::serving::serves;
 use mc_guests::WorkEnd;
 use mc_hop::Fnv;
 use mc_shared::{Caller, Gate, NoGate, Shared};

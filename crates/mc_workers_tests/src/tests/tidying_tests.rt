@@ -4,7 +4,7 @@ ghost use Rattle.std.specs.Prelude.{◌≡◌, ◌≤◌, length};
 ghost use Rattle.mc_protocol.specs.Commands.{key_of};
 
 use crate::held::{HeldLink, Seen};
-use crate::serving::HeldLinks;
+use crate::tests::serving::HeldLinks;
 use mc_guests::NoTally;
 use mc_hop::Fnv;
 use mc_protocol::{KeyStep, Verb};
@@ -68,12 +68,12 @@ fn tidied<R: Wait>(
     alloc: Global,
     shared: &Shared<Fnv>,
     caller: Caller,
-    first: u32,
-    tidyings: u32,
+    turns: (u32, u32),
 ) -> Caller
     requires { caller.table ≡ shared.now.table }
     ensures { result.table ≡ shared.now.table }
 {
+    let (first, tidyings) = turns;
     let has_risen = AtomicU64::new(0);
     let seen = Seen::nothing();
     let link = HeldLink::new(alloc, b"version\r\n", b"VERSION 1.6.0\r\n", &seen);
@@ -119,16 +119,15 @@ fn told_of_second<R: Wait>(
     alloc: Global,
     shared: &Shared<Fnv>,
     caller: Caller,
-    turns: (u32, u32),
     block: &[u8],
+    turns: (u32, u32),
 ) -> &'static str
     requires { caller.table ≡ shared.now.table }
 {
-    let (first, tidyings) = turns;
     let mut caller = caller;
     let set_b = step_of(b"b", Ask::Store(Verb::Set, 10, block));
     let _ = told_at(rt, alloc, shared, &mut caller, &set_b, 1000);
-    let mut caller = tidied(rt, alloc, shared, caller, first, tidyings);
+    let mut caller = tidied(rt, alloc, shared, caller, turns);
     let set_c = step_of(b"c", Ask::Store(Verb::Set, 0, block));
     told_at(rt, alloc, shared, &mut caller, &set_c, 1010)
 }
@@ -138,11 +137,11 @@ fn told_in_new_store<R: Wait>(
     rt: &R,
     alloc: Global,
     settings: Settings,
-    turns: (u32, u32),
     block: &[u8],
+    turns: (u32, u32),
 ) -> Result<&'static str, AllocError> {
     let (shared, caller) = Shared::new(alloc, settings, Fnv)?;
-    Ok(told_of_second(rt, alloc, &shared, caller, turns, block))
+    Ok(told_of_second(rt, alloc, &shared, caller, block, turns))
 }
 
 /// Returns the reply to a set of `c` after some tidyings that begin with this shelf.
@@ -158,7 +157,7 @@ fn told_after<R: Wait>(
         return Ok("no such store");
     };
     let large = filled_block(alloc, 600000)?;
-    told_in_new_store(rt, alloc, settings, turns, large.as_slice())
+    told_in_new_store(rt, alloc, settings, large.as_slice(), turns)
 }
 
 /// Returns the replies before and after the tidying in which the shelf of `b` has its turn.

@@ -3,7 +3,7 @@
 ghost use Rattle.std.specs.Prelude.{◌≡◌};
 
 use crate::held::{HeldLink, Seen};
-use crate::serving::{HeldLinks, serves};
+use crate::tests::serving::{HeldLinks, serves};
 use mc_guests::WorkEnd;
 use mc_hop::Fnv;
 use mc_protocol::{Reply, StepFault};
@@ -143,39 +143,27 @@ const SECOND: (&[u8], &[u8]) = (
     b"NOT_STORED\r\nSTORED\r\nSTORED\r\nSTORED\r\nVALUE c 7 3\r\nabc\r\nEND\r\n",
 );
 
-/// Serves two links, the first of which fails at a call, and returns the caller.
-fn serves_both<R: Wait>(
-    rt: &R,
-    alloc: Global,
-    shared: &Shared<Fnv>,
-    caller: Caller,
-    call: u64,
-    seen: &[Seen; 2],
-) -> (Caller, WorkEnd)
-    requires { caller.table ≡ shared.now.table }
-    ensures { result.0.table ≡ shared.now.table }
-{
-    let clock = Fixed(Moment::from_seconds_at_most(1000));
+/// Returns two links, the first of which fails at a call.
+fn both_links<'a>(alloc: Global, call: u64, seen: &'a [Seen; 2]) -> HeldLinks<'a> {
     let first = HeldLink::new(alloc, FIRST.0, FIRST.1, &seen[0]).failing_at(call);
     let second = HeldLink::new(alloc, SECOND.0, SECOND.1, &seen[1]);
-    let mut links = HeldLinks::two(first, second);
-    work(rt, alloc, shared, caller, &mut links, &NoGate, &clock)
+    HeldLinks::two(first, second)
 }
 
-/// Serves both, and returns how they ended, and the result of a read of `a` by the returned caller.
+/// Serves links, and returns how they ended, and the result of a read of `a` by the returned
+/// caller.
 fn ended_and_found<R: Wait>(
     rt: &R,
     alloc: Global,
     shared: &Shared<Fnv>,
     caller: Caller,
-    call: u64,
-    seen: &[Seen; 2],
+    links: &mut HeldLinks<'_>,
 ) -> (WorkEnd, Found)
     requires { caller.table ≡ shared.now.table }
 {
-    let (mut caller, end) = serves_both(rt, alloc, shared, caller, call, seen);
-    let read = step_of(b"a", Ask::Get);
     let now = Moment::from_seconds_at_most(1000);
+    let (mut caller, end) = work(rt, alloc, shared, caller, links, &NoGate, &Fixed(now));
+    let read = step_of(b"a", Ask::Get);
     let found = found_by(&shared.step(rt, alloc, &mut caller, &read, now));
     (end, found)
 }
@@ -184,7 +172,8 @@ fn ended_and_found<R: Wait>(
 fn served_with_fault<R: Wait>(rt: &R, alloc: Global, call: u64) -> Result<Faulty, AllocError> {
     let seen = [Seen::nothing(), Seen::nothing()];
     let (shared, caller) = Shared::new(alloc, SETTINGS, Fnv)?;
-    let (end, found) = ended_and_found(rt, alloc, &shared, caller, call, &seen);
+    let mut links = both_links(alloc, call, &seen);
+    let (end, found) = ended_and_found(rt, alloc, &shared, caller, &mut links);
     Ok(Faulty {
         end,
         first: seen[0].right_and_wrong(),
