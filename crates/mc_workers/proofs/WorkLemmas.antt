@@ -1,6 +1,6 @@
 -- What a round does to the store that it is lent, and to a caller's past.
 use Rattle.std.specs.Prelude.{MatchOption, slice_get}
-use Rattle.std.proofs.Common.{◌≡◌, inl, inr, ℕ, zero, ◌<◌, ◌%◌, arith, List, Option, Some, None, refl, sym, ap, ◌∙◌, subst}
+use Rattle.std.proofs.Common.{◌≡◌, inl, inr, ℕ, ◌<◌, ◌%◌, arith, List, Option, Some, None, refl, sym, ap, ◌∙◌, subst}
 use Rattle.mc_protocol.specs.Commands.{steps}
 use Rattle.mc_protocol.specs.Commands.{Command}
 use Rattle.mc_protocol.specs.declared.step.KeyStep.{KeyStep}
@@ -12,7 +12,8 @@ use Rattle.mc_session.specs.Turns.{Answers, AnswersStep}
 use Rattle.mc_shared.specs.History.{Beginning, Operation, Purged}
 use Rattle.mc_shared.specs.Past.{Past}
 use Rattle.mc_shared.specs.Asking.{AskingState, AsksOnce, moment_of, Further, nothing, more, GoesFurther}
-use Rattle.mc_workers.specs.Tending.{Tidied, none, and_one}
+use Rattle.mc_workers.specs.Tending.{Tidied, TidiesNext}
+use Rattle.mc_guests.specs.Repeats.{Repeats, none_yet, one_more}
 use Rattle.mc_guests.specs.Guests.{GuestState}
 use Rattle.mc_guests.specs.Visits.{Does, Visited}
 use Rattle.mc_guests.specs.Asks.{MayAsk, NamesKey, MakesRound, nobody, asks, visits}
@@ -103,17 +104,24 @@ module _ (may_give : ℕ → Type 0) where
 
   -- purges are further calls
   pub goes_tidied : {K : Type 0} (hash_of : K → List ℕ → ℕ) (now : ℕ) → may_give now
-      → (n turn next : ℕ) (old new : AskingState K) → Tidied hash_of now n turn next old new → GoesFurther may_give old new
-  goes_tidied hash_of now gives total turn next old new none = goes_none old
-  goes_tidied hash_of now gives total turn next old new (and_one {n = n} {shelf = shelf} {between = between} tidied call) =
-      goes_both old between new (goes_tidied hash_of now gives n turn shelf old between tidied)
-      (goes_once _ (Purged shelf now) between new gives call)
+      → (count : ℕ) (old new : ℕ × AskingState K) → Repeats (TidiesNext hash_of now) count old new → GoesFurther may_give old.1 new.1
+  goes_tidied hash_of now gives total old new none_yet = goes_none old.1
+  goes_tidied hash_of now gives total old new (one_more {count = count} {mid = mid} tidied one) =
+      goes_both old.1 mid.1 new.1 (goes_tidied hash_of now gives count old mid tidied) (goes_once _ (Purged mid.0 now) mid.1 new.1 gives one.0)
+
+-- at that moment
+abbrev pub at : ℕ → ℕ → Type 0
+at now moment = moment ≡ now
+
+-- what holds of two states holds of those that are the same
+pub of_same : {S : Type 0} (Holds : S → S → Type 0) {old before new after : S} → old ≡ before → after ≡ new → Holds old new → Holds before after
+of_same {S} Holds {old} {before} {new} {after} first last held = subst (λ (s : S). Holds s after) first (subst (Holds old) (sym last) held)
 
 -- no shelf had its turn yet
 pub tidies_none : {K : Type 0} (hash_of : K → List ℕ → ℕ) (now turn shelves : ℕ) (s : AskingState K) → shelves ≡ s.began.settings.shelves → 0 < shelves
-    → Tidied hash_of now zero (turn % s.began.settings.shelves) (turn % shelves) s s × (turn % shelves < s.began.settings.shelves)
+    → Tidied hash_of now 0 (turn % s.began.settings.shelves) (turn % shelves) s s × (turn % shelves < s.began.settings.shelves)
 tidies_none {K} hash_of now turn shelves s is some = (
-  subst (λ (n : ℕ). Tidied hash_of now zero (turn % n) (turn % shelves) s s) is none,
+  subst (λ (n : ℕ). Tidied hash_of now 0 (turn % n) (turn % shelves) s s) is none_yet,
   subst (λ (n : ℕ). turn % shelves < n) is (omega arith),
 )
 

@@ -13,7 +13,18 @@ use Rattle.mc_workers.specs.Rounds.{WorkState, WorksOnce, Works, nothing, and_on
 use Rattle.mc_guests.specs.declared.door.Door.{Door}
 use Rattle.mc_guests.specs.declared.guests.WorkEnd.{WorkEnd}
 
-module _ {K : Type 0} (hash_of : K → List ℕ → ℕ) (may_give : ℕ → Type 0) (first share : ℕ) (began : StoreState K) (caller : CallerState) where
+module _ {K : Type 0} {hash_of : K → List ℕ → ℕ} {may_give : ℕ → Type 0} where
+  -- what it does from one opening to the next, by its calls
+  pub once_so : {old new : WorkState K} {tidied : AskingState K} {settled roomy : BooksState} {counted : WorkEnd} {opened goes_on : Bool} → may_give new.moment
+      → TidiesWhereRisen hash_of old.moment new.moment old.turn new.turn old.asking tidied
+      → MakesRounds hash_of new.moment tidied new.asking old.books settled old.end counted
+      → MakesRoom settled roomy → OpensForAll old.door new.door roomy new.books counted new.end opened → opened ≡ goes_on
+      → WorksOnce hash_of may_give old new goes_on
+  once_so {old} {new} {tidied} {settled} {roomy} {counted} given tidies rounds judges opens so =
+      let said = subst (OpensForAll old.door new.door roomy new.books counted new.end) so opens in
+      record { given = given; tidied = tidied; settled = settled; roomy = roomy; counted = counted; tidies = tidies; rounds = rounds; judges = judges; opens = said }
+
+module _ {K : Type 0} {hash_of : K → List ℕ → ℕ} {may_give : ℕ → Type 0} {first share : ℕ} {began : StoreState K} {caller : CallerState} where
   pub works_from : (moment : ℕ) (asking : AskingState K) (books : BooksState) (door : Door) → may_give moment
       → asking ≡ asked_by began caller → (most : ℕ) → books ≡ no_books (unused share most) → most ≡ began.settings.greatest
       → (greatest : ℕ) → door ≡ shut greatest → greatest ≡ began.settings.greatest
@@ -38,45 +49,10 @@ module _ {K : Type 0} (hash_of : K → List ℕ → ℕ) (may_give : ℕ → Typ
         )) nothing;
   }
 
-  -- what it does from one opening to the next, by its calls
-  once_so : (old new : WorkState K) (tidied : AskingState K) (settled roomy : BooksState) (counted : WorkEnd) (opened goes_on : Bool) → may_give new.moment
-      → TidiesWhereRisen hash_of old.moment new.moment old.turn new.turn old.asking tidied
-      → MakesRounds hash_of new.moment tidied new.asking old.books settled old.end counted
-      → MakesRoom settled roomy → OpensForAll old.door new.door roomy new.books counted new.end opened → opened ≡ goes_on
-      → WorksOnce hash_of may_give old new goes_on
-  once_so old new tidied settled roomy counted opened goes_on given tidies rounds judges opens so = record {
-    given = given;
-    tidied = tidied;
-    settled = settled;
-    roomy = roomy;
-    counted = counted;
-    tidies = tidies;
-    rounds = rounds;
-    judges = judges;
-    opens = subst (OpensForAll old.door new.door roomy new.books counted new.end) so opens;
-  }
-
-  pub works_on : (old new : WorkState K) (tidied : AskingState K) (settled roomy : BooksState) (counted : WorkEnd) (opened : Bool) → WorksSince hash_of may_give first share began caller old
-      → may_give new.moment → TidiesWhereRisen hash_of old.moment new.moment old.turn new.turn old.asking tidied
-      → MakesRounds hash_of new.moment tidied new.asking old.books settled old.end counted
-      → MakesRoom settled roomy → OpensForAll old.door new.door roomy new.books counted new.end opened → opened ≡ true
+  pub works_on : {old new : WorkState K} → WorksSince hash_of may_give first share began caller old → WorksOnce hash_of may_give old new true
       → WorksSince hash_of may_give first share began caller new
-  works_on old new tidied settled roomy counted opened since given tidies rounds judges opens so = record {
-    moment = since.moment;
-    given = since.given;
-    works = and_once since.works (once_so old new tidied settled roomy counted opened true given tidies rounds judges opens so);
-  }
+  works_on since once = record { moment = since.moment; given = since.given; works = and_once since.works once }
 
-  pub works_over : (old new : WorkState K) (tidied : AskingState K) (settled roomy : BooksState) (counted : WorkEnd) (opened : Bool) (back : CallerState) → WorksSince hash_of may_give first share began caller old
-      → may_give new.moment → TidiesWhereRisen hash_of old.moment new.moment old.turn new.turn old.asking tidied
-      → MakesRounds hash_of new.moment tidied new.asking old.books settled old.end counted
-      → MakesRoom settled roomy → OpensForAll old.door new.door roomy new.books counted new.end opened → opened ≡ false
+  pub works_over : {old new : WorkState K} {back : CallerState} → WorksSince hash_of may_give first share began caller old → WorksOnce hash_of may_give old new false
       → back.past ≡ new.asking.past → WorksToEnd hash_of may_give first share began caller (back, new.end)
-  works_over old new tidied settled roomy counted opened back since given tidies rounds judges opens so past = record {
-    last = old;
-    final = new;
-    since = since;
-    ends = once_so old new tidied settled roomy counted opened false given tidies rounds judges opens so;
-    past = past;
-    end = refl;
-  }
+  works_over {old} {new} since once past = record { last = old; final = new; since = since; ends = once; past = past; end = refl }

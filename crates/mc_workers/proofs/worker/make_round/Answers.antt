@@ -1,11 +1,7 @@
-use Rattle.std.proofs.Common.{◌≡◌, ℕ, refl}
+use Rattle.std.proofs.Common.{refl}
 use Rattle.mc_shared.specs.Asking.{GoesFurther}
-use Rattle.mc_workers.proofs.WorkLemmas.{round_keeps, goes_none, goes_same, goes_both, goes_once}
+use Rattle.mc_workers.proofs.WorkLemmas.{at, round_keeps, goes_none, goes_same, goes_both, goes_once}
 use Rattle.mc_workers.proofs.worker.make_round.Goals as goal
-
--- at that moment
-abbrev at : ℕ → ℕ → Type 0
-at now moment = moment ≡ now
 
 pub returns-clause-further : goal.returns-clause-further
 returns-clause-further g c =

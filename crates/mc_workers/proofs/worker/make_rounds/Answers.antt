@@ -1,11 +1,7 @@
-use Rattle.std.proofs.Common.{◌≡◌, ◌-◌, ℕ, arith, sym, ap, ◌∙◌, subst}
+use Rattle.std.proofs.Common.{◌-◌, ℕ, arith, sym, ap, ◌∙◌, subst}
 use Rattle.mc_workers.specs.Rounds.{HaveRounds, one, and_one}
-use Rattle.mc_workers.proofs.WorkLemmas.{goes_both}
+use Rattle.mc_workers.proofs.WorkLemmas.{at, goes_both}
 use Rattle.mc_workers.proofs.worker.make_rounds.Goals as goal
-
--- at that moment
-abbrev at : ℕ → ℕ → Type 0
-at now moment = moment ≡ now
 
 pub loop-init : goal.loop-init
 loop-init g c = (

@@ -1,13 +1,9 @@
-use Rattle.std.proofs.Common.{◌≡◌, ℕ, refl, arith}
-use Rattle.mc_workers.proofs.WorkLemmas.{goes_none, goes_tidied}
+use Rattle.std.proofs.Common.{refl, arith}
+use Rattle.mc_workers.proofs.WorkLemmas.{at, goes_none, goes_tidied}
 use Rattle.mc_workers.proofs.worker.tidy_if_risen.Goals as goal
 
--- at that moment
-abbrev at : ℕ → ℕ → Type 0
-at now moment = moment ≡ now
-
 pub returns-then-seconds-clause-further : goal.returns-then-seconds-clause-further
-returns-then-seconds-clause-further g c = goes_tidied (at c.args.now) g.K.KeyHash.hash_of c.args.now refl _ _ _ _ _ c.tidy.ensures
+returns-then-seconds-clause-further g c = goes_tidied (at c.args.now) g.K.KeyHash.hash_of c.args.now refl _ _ _ c.tidy.ensures
 
 pub returns-else-seconds-clause-further : goal.returns-else-seconds-clause-further
 returns-else-seconds-clause-further g c = goes_none (at c.args.now) _

@@ -1,6 +1,6 @@
-use Rattle.std.proofs.Common.{ℕ, ◌+◌, ◌%◌, sym, ap, ◌∙◌, subst}
+use Rattle.std.proofs.Common.{ap, ◌∙◌}
 use Rattle.mc_shared.specs.Asking.{AskingState}
-use Rattle.mc_workers.specs.Tending.{Tidied, and_one}
+use Rattle.mc_guests.specs.Repeats.{one_more}
 use Rattle.mc_workers.proofs.WorkLemmas.{tidies_none}
 use Rattle.mc_workers.proofs.tending.Tending.tidy.Goals as goal
 
@@ -11,8 +11,6 @@ loop-init g c =
 
 pub loop-preserved : goal.loop-preserved
 loop-preserved g c = (
-  subst
-      (λ (n : ℕ). Tidied g.K.KeyHash.hash_of c.args.now (c.loop.counter + 1) (c.args.turn % c.args.self.now.began.settings.shelves) n c.args.self.now c.tidy_one-shelf.new.self)
-      (sym c.tidy_one-shelf.ensures.next) (and_one c.loop.invariant.0 c.tidy_one-shelf.ensures.purged),
+  one_more c.loop.invariant.0 (c.tidy_one-shelf.ensures.purged, c.tidy_one-shelf.ensures.next),
   c.tidy_one-shelf.ensures.within,
 )

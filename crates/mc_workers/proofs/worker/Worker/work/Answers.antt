@@ -5,14 +5,13 @@ use Rattle.mc_guests.specs.Books.{BooksState, no_books}
 use Rattle.mc_guests.specs.declared.budget.Budget.{Budget}
 use Rattle.mc_workers.specs.Room.{MakesRoom}
 use Rattle.mc_workers.proofs.WorkLemmas.{goes_same, goes_both, goes_at}
-use Rattle.mc_workers.proofs.WorksLemmas.{works_from, works_on, works_over}
+use Rattle.mc_workers.proofs.WorksLemmas.{works_from, once_so, works_on, works_over}
 use Rattle.mc_workers.proofs.worker.Worker.work.Goals as goal
 
 pub loop-init : goal.loop-init
 loop-init g c = (
   goes_same _ _ _ (c.new-counting.ensures ∙ c.new-tending.ensures),
-  works_from g.K.KeyHash.hash_of (g.C.Clock.may_give c.args.self.now.clock.now) c.args.self.now.first c.args.self.now.share c.args.shared.now.began c.args.caller c.now-before.result
-      c.new-counting.result c.new-guests.result c.new-door.result c.now-before.ensures (c.new-counting.ensures ∙ c.new-tending.ensures)
+  works_from c.now-before.result c.new-counting.result c.new-guests.result c.new-door.result c.now-before.ensures (c.new-counting.ensures ∙ c.new-tending.ensures)
       c.greatest-2.result (c.new-guests.ensures ∙ ap (λ (b : Budget). no_books b) c.new.ensures) c.greatest-2.ensures
       c.greatest.result c.new-door.ensures c.greatest.ensures,
 )
@@ -21,19 +20,8 @@ pub loop-preserved : goal.loop-preserved
 loop-preserved g c = (
   goes_both _ _ _ _ (goes_both _ _ _ _ c.loop.invariant.0 (goes_at _ _ c.now-now.ensures _ _ c.tidy_if_risen-turn.ensures.further))
       (goes_at _ _ c.now-now.ensures _ _ c.make_rounds.ensures.further),
-  works_on g.K.KeyHash.hash_of (g.C.Clock.may_give c.args.self.now.clock.now) c.args.self.now.first c.args.self.now.share c.args.shared.now.began c.args.caller _
-      (record {
-        asking = c.make_rounds.new.counting;
-        books = c.open_for_all.new.guests;
-        door = c.open_for_all.new.self;
-        end = c.open_for_all.new.end;
-        turn = c.tidy_if_risen-turn.result;
-        moment = c.now-now.result;
-      })
-      c.tidy_if_risen-turn.new.counting c.make_rounds.new.guests c.make_room.new.guests c.make_rounds.new.end c.open_for_all.result c.loop.invariant.1 c.now-now.ensures
-      c.tidy_if_risen-turn.ensures.tidies c.make_rounds.ensures.rounds
-      (subst (λ (b : BooksState). MakesRoom b c.make_room.new.guests) c.report.ensures c.make_room.ensures)
-      c.open_for_all.ensures (cc),
+  works_on c.loop.invariant.1 (once_so c.now-now.ensures c.tidy_if_risen-turn.ensures.tidies c.make_rounds.ensures.rounds
+      (subst (λ (b : BooksState). MakesRoom b c.make_room.new.guests) c.report.ensures c.make_room.ensures) c.open_for_all.ensures (cc)),
 )
 
 pub returns-then-not-open_for_all-clause-calls : goal.returns-then-not-open_for_all-clause-calls
@@ -45,16 +33,13 @@ returns-then-not-open_for_all-clause-calls g c =
 
 pub returns-then-not-open_for_all-clause-works : goal.returns-then-not-open_for_all-clause-works
 returns-then-not-open_for_all-clause-works g c =
-    works_over g.K.KeyHash.hash_of (g.C.Clock.may_give c.args.self.now.clock.now) c.args.self.now.first c.args.self.now.share c.args.shared.now.began c.args.caller _
-    (record {
+    works_over {new = record {
       asking = c.make_rounds.new.counting;
       books = c.open_for_all.new.guests;
       door = c.open_for_all.new.self;
       end = c.open_for_all.new.end;
       turn = c.tidy_if_risen-turn.result;
       moment = c.now-now.result;
-    })
-    c.tidy_if_risen-turn.new.counting c.make_rounds.new.guests c.make_room.new.guests c.make_rounds.new.end c.open_for_all.result _ c.loop.invariant.1 c.now-now.ensures
-    c.tidy_if_risen-turn.ensures.tidies c.make_rounds.ensures.rounds
-    (subst (λ (b : BooksState). MakesRoom b c.make_room.new.guests) c.report.ensures c.make_room.ensures) c.open_for_all.ensures (cc)
+    }} c.loop.invariant.1 (once_so c.now-now.ensures c.tidy_if_risen-turn.ensures.tidies c.make_rounds.ensures.rounds
+    (subst (λ (b : BooksState). MakesRoom b c.make_room.new.guests) c.report.ensures c.make_room.ensures) c.open_for_all.ensures (cc))
     (c.into_caller.ensures.same.1 ∙ ap (λ (s : AskingState g.row.K.Denot). s.past) c.into_steps.ensures)
