@@ -28,7 +28,7 @@ fn reply(alloc: Global, round: u32, number: u32) -> Result<String, AllocError> {
     }
 }
 
-/// Sends a round's command on a key, and grows its shelf.
+/// Sends a round's command on a key, and grows its shelf, except where all keys are found.
 fn key_is_told<R: Abort>(
     tested: &mut Tested<'_, R, Constant>,
     round: u32,
@@ -37,6 +37,10 @@ fn key_is_told<R: Abort>(
     let command = command(tested.alloc, round, number)?;
     let reply = reply(tested.alloc, round, number)?;
     tested.answers(1000, &command, &reply)?;
+    if round == 1 {
+        // a table that grows stays so while its keys are found
+        return Ok(());
+    }
     tested.run(&[Event::Grow(0)])?;
     Ok(())
 }
