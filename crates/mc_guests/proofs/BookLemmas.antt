@@ -7,7 +7,7 @@ use Rattle.mc_guests.specs.Budgets.{AreSums}
 use Rattle.mc_guests.specs.Guests.{has_ended, is_to_sleep, is_stray}
 use Rattle.mc_guests.specs.Books.{RowState, BooksState, HasNumber, SleepsAt, Wakes, woken, put_behind, LetsGo}
 use Rattle.mc_guests.specs.Books.{is_over, is_asleep, is_to_queue, LinesUp, IsFateOf, Settles, SettlesFrom, swapped, cut}
-use Rattle.mc_guests.specs.Repeats.{none_yet, one_more}
+use Rattle.mc_time.specs.Chains.{none_yet, one_more}
 use Rattle.mc_guests.proofs.BudgetLemmas.{counts_swapped}
 use Rattle.mc_guests.specs.declared.guests.Fate.{Fate}
 use Rattle.mc_guests.specs.declared.guests.WorkEnd.{WorkEnd}

@@ -4,7 +4,7 @@ use Rattle.std.proofs.Common.{◌≡◌, ◌↔◌, ◌<◌, ℕ, ◌+◌, Bool,
 use Rattle.mc_guests.specs.Books.{BooksState, Wakes, quiet}
 use Rattle.mc_guests.specs.Doors.{unasked, came, heard, counted_in, WakesNamed, WakesAllNamed, WakesAfter, LetsIn, ComesNothing, Opens, link, none_now, none_more, over}
 use Rattle.mc_guests.specs.Doors.{LinksCame, OpensForAll, then_none}
-use Rattle.mc_guests.specs.Repeats.{one_more}
+use Rattle.mc_time.specs.Chains.{one_more}
 use Rattle.mc_guests.specs.declared.door.Door.{Door}
 use Rattle.mc_guests.specs.declared.guests.WorkEnd.{WorkEnd}
 use Rattle.mc_guests.specs.declared.talk.Came.{Came}

@@ -14,7 +14,7 @@ use Rattle.mc_guests.specs.Paces.{age}
 use Rattle.mc_guests.specs.Books.{BooksState, HasNumber, StandsAt, woken}
 use Rattle.mc_guests.specs.Retries.{IsQueuedAt, NoneWaits, FindsNone, IsWhole, looks, waits_long, finds_room, in_turn, lined, tried_again, strays, stray_tried, strays_tried, all_strays_tried, begun_anew}
 use Rattle.mc_guests.specs.Retries.{TakesTurn, goes_on as turn_goes, is_gone as turn_gone, EndsTurns, nobody_waits as turn_none, finds_none as turn_lacks}
-use Rattle.mc_guests.specs.Repeats.{none_yet, one_more}
+use Rattle.mc_time.specs.Chains.{none_yet, one_more}
 use Rattle.mc_guests.specs.Retries.{LooksAtFirst, goes_on, is_gone, nobody_waits, finds_none, TakesTurns, GoInTurn, LooksAt, GoBeside, LetsOnAll}
 use Rattle.mc_guests.specs.Turns.{VisitsAll}
 use Rattle.mc_guests.specs.Fairness.{IsIn, KeepsOrder, OldestLacksRoom, WaitsOn, misses, IsFair, NoneFindsRoom, StandsBy}

@@ -3,7 +3,7 @@ use Rattle.std.specs.Prelude.{◌≡◌, ◌⊎◌, ◌<◌, ◌+◌, ◌%◌, �
 use Rattle.mc_guests.specs.Links.{LinkState}
 use Rattle.mc_guests.specs.Guests.{welcomed}
 use Rattle.mc_guests.specs.Books.{BooksState, Wakes, let_in, one_more, quiet}
-use Rattle.mc_guests.specs.Repeats.{Repeats}
+use Rattle.mc_time.specs.Chains.{Repeats}
 use Rattle.mc_guests.specs.declared.guests.WorkEnd.{WorkEnd}
 use Rattle.mc_guests.specs.declared.talk.Came.{Came}
 use Rattle.mc_guests.specs.declared.talk.Came.TheVariants.{Link, Later, Closed}

@@ -6,7 +6,6 @@ pub mod Visits
 pub mod Budgets
 pub mod Books
 pub mod Judging
-pub mod Repeats
 pub mod Retries
 pub mod Fairness
 pub mod Telling

@@ -4,7 +4,7 @@ use Rattle.mc_guests.specs.Budgets.{promised_more, has_left, is_retry_due, retri
 use Rattle.mc_guests.specs.Guests.{RowGuest, is_queued, is_stray, missing, in_line}
 use Rattle.mc_guests.specs.Paces.{age}
 use Rattle.mc_guests.specs.Books.{RowState, BooksState, HasNumber, StandsAt, with_guest, woken}
-use Rattle.mc_guests.specs.Repeats.{Repeats}
+use Rattle.mc_time.specs.Chains.{Repeats}
 use Rattle.mc_guests.specs.declared.weighed.Line.{Line}
 use Rattle.mc_guests.specs.declared.weighed.Line.TheVariants.{Next}
 

@@ -1,6 +1,6 @@
 -- Input that is dropped.
 use Rattle.std.proofs.Common.{◌≡◌, ℕ, ◌+◌, List}
-use Rattle.mc_guests.specs.Repeats.{one_more}
+use Rattle.mc_time.specs.Chains.{one_more}
 use Rattle.mc_sockets.specs.declared.dropping.Drain.TheVariants.{Going}
 use Rattle.mc_sockets.specs.declared.dropping.Dropping.{Dropping}
 use Rattle.mc_sockets.specs.declared.stream.Received.{Received}

@@ -7,8 +7,8 @@ use Rattle.std.specs.declared.time.Instant.{Instant}
 use Rattle.mio.specs.declared.event.event.Event.{Event}
 use Rattle.mio.specs.declared.token.Token.{Token}
 use Rattle.mio.specs.Event.{event_token}
-use Rattle.mc_guests.specs.Repeats.{Repeats}
-use Rattle.mc_guests.specs.Repeats as repeats
+use Rattle.mc_time.specs.Chains.{Repeats}
+use Rattle.mc_time.specs.Chains as chains
 use Rattle.mc_sockets.specs.declared.place.LinkRecord.{LinkRecord}
 use Rattle.mc_sockets.specs.declared.readiness.Readiness.{Readiness}
 use Rattle.mc_sockets.specs.declared.readiness.Report.{Report}
@@ -119,7 +119,7 @@ module _ {F R : Type 0} (known : F → Option Readiness) (sends : R → ℕ → 
   pub looked_none : (watch : Watch) → watch ≡ noted now first → Looked 0 watch old old_rests
   looked_none watch is = record {
     looks = λ n none. subst (λ (k : ℕ). Repeats (LooksAtNext sends (act first.limit)) k (sweep first.at old old_rests) (sweep watch.at old old_rests)) (sym none)
-        (subst (λ (at : ℕ). Repeats (LooksAtNext sends (act first.limit)) 0 (sweep first.at old old_rests) (sweep at old old_rests)) (sym (ap (λ (w : Watch). w.at) is)) repeats.none_yet);
+        (subst (λ (at : ℕ). Repeats (LooksAtNext sends (act first.limit)) 0 (sweep first.at old old_rests) (sweep at old old_rests)) (sym (ap (λ (w : Watch). w.at) is)) chains.none_yet);
     same = is ∙ ap (λ (at : ℕ). record (noted now first) { at = at }) (sym (ap (λ (w : Watch). w.at) is));
   }
 
@@ -130,7 +130,7 @@ module _ {F R : Type 0} (known : F → Option Readiness) (sends : R → ℕ → 
       let one = subst (λ (d : Duration). LooksAtNext sends (act d) (sweep mid.at between mid_rests) (sweep later.at new new_rests)) by_limit next in
       record {
         looks = λ n more. subst (λ (k : ℕ). Repeats (LooksAtNext sends (act first.limit)) k (sweep first.at old old_rests) (sweep later.at new new_rests)) (sym more)
-            (repeats.one_more (looked.looks count refl) one);
+            (chains.one_more (looked.looks count refl) one);
         same = is ∙ ap (λ (w : Watch). record w { at = later.at }) looked.same;
       }
 

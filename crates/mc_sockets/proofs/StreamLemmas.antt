@@ -1,6 +1,6 @@
 -- Calls that are made again.
 use Rattle.std.proofs.Common.{◌≡◌, ℕ, ◌+◌, List, subst}
-use Rattle.mc_guests.specs.Repeats.{one_more}
+use Rattle.mc_time.specs.Chains.{one_more}
 use Rattle.mc_sockets.specs.Streams.{AreInterrupted, into_some, Flow, MovesIn, MovesOut}
 use Rattle.mc_sockets.specs.declared.stream.Hindrance.TheVariants.{Interrupted}
 use Rattle.mc_sockets.specs.declared.stream.Received.{Received}

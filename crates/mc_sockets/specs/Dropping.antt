@@ -1,6 +1,6 @@
 -- Input that is dropped behind the last answer.
 use Rattle.std.specs.Prelude.{◌≡◌, ℕ, List, ◌+◌, ◌-◌, ◌^◌, min, nat_lt, if◌then◌else◌}
-use Rattle.mc_guests.specs.Repeats.{Repeats}
+use Rattle.mc_time.specs.Chains.{Repeats}
 use Rattle.mc_sockets.specs.declared.dropping.Drain.{Drain}
 use Rattle.mc_sockets.specs.declared.dropping.Drain.TheVariants.{Going, Waiting, Done}
 use Rattle.mc_sockets.specs.declared.dropping.Dropping.{Dropping}

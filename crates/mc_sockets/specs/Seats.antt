@@ -6,7 +6,7 @@ use Rattle.mio.specs.Event.{event_token}
 use Rattle.std.specs.Duration.{as_nanos}
 use Rattle.std.specs.declared.time.Duration.{Duration}
 use Rattle.std.specs.declared.time.Instant.{Instant}
-use Rattle.mc_guests.specs.Repeats.{Repeats}
+use Rattle.mc_time.specs.Chains.{Repeats}
 use Rattle.mc_sockets.specs.Places.{AsksOrCloses, EndsIfIdle, HappensTo, Notes}
 use Rattle.mc_sockets.specs.Readiness.{Ended, report_of}
 use Rattle.mc_sockets.specs.Watches.{due, is_too_soon, turn}

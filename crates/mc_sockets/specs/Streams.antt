@@ -4,7 +4,7 @@ use Rattle.std.specs.IoError.{error_kind}
 use Rattle.std.specs.declared.io.Error.{Error}
 use Rattle.std.specs.declared.io.ErrorKind.TheVariants as io_kind
 use Rattle.mc_guests.specs.Links.{grown}
-use Rattle.mc_guests.specs.Repeats.{Repeats}
+use Rattle.mc_time.specs.Chains.{Repeats}
 use Rattle.mc_sockets.specs.declared.stream.Hindrance.{Hindrance}
 use Rattle.mc_sockets.specs.declared.stream.Hindrance.TheVariants.{WouldBlock, Interrupted, Fault}
 use Rattle.mc_sockets.specs.declared.stream.Received.{Received}

@@ -1,3 +1,4 @@
 pub mod Death
 pub mod Readings
 pub mod Stored
+pub mod Chains

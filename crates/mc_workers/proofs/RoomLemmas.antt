@@ -3,7 +3,7 @@ use Rattle.std.proofs.Common.{◌≡◌, ◌<◌, ℕ, ◌+◌, length, Some, No
 use Rattle.mc_guests.specs.Books.{RowState, BooksState, at_ticks, took_judging}
 use Rattle.mc_guests.specs.Budgets.{to_judge}
 use Rattle.mc_guests.specs.Judging.{Judges, NoneIsSlow}
-use Rattle.mc_guests.specs.Repeats.{one_more}
+use Rattle.mc_time.specs.Chains.{one_more}
 use Rattle.mc_guests.specs.declared.weighed.Judged.{Judged}
 use Rattle.mc_workers.specs.Room.{JudgesSlow, JudgesUpTo, MakesRoom}
 

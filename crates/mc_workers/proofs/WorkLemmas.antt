@@ -13,7 +13,7 @@ use Rattle.mc_shared.specs.History.{Beginning, Operation, Purged}
 use Rattle.mc_shared.specs.Past.{Past}
 use Rattle.mc_shared.specs.Asking.{AskingState, AsksOnce, moment_of, Further, nothing, more, GoesFurther}
 use Rattle.mc_workers.specs.Tending.{Tidied, TidiesNext}
-use Rattle.mc_guests.specs.Repeats.{Repeats, none_yet, one_more}
+use Rattle.mc_time.specs.Chains.{Repeats, none_yet, one_more}
 use Rattle.mc_guests.specs.Guests.{GuestState}
 use Rattle.mc_guests.specs.Visits.{Does, Visited}
 use Rattle.mc_guests.specs.Asks.{MayAsk, NamesKey, MakesRound, nobody, asks, visits}

@@ -3,7 +3,7 @@ use Rattle.std.specs.Prelude.{◌≡◌, ◌⊎◌, ◌<◌, ℕ, length}
 use Rattle.mc_guests.specs.Books.{BooksState, at_ticks, took_judging}
 use Rattle.mc_guests.specs.Budgets.{to_judge}
 use Rattle.mc_guests.specs.Judging.{JudgesSlowest, NoneIsSlow}
-use Rattle.mc_guests.specs.Repeats.{Repeats}
+use Rattle.mc_time.specs.Chains.{Repeats}
 use Rattle.mc_guests.specs.declared.weighed.Judged.{Judged}
 
 -- the slowest guest was judged, and nothing else of the guests changed

@@ -5,7 +5,7 @@ use Rattle.mc_shelf.specs.Stores.{StoreState}
 use Rattle.mc_shared.specs.Shown.{CallerState}
 use Rattle.mc_shared.specs.Asking.{AskingState, AsksOnce}
 use Rattle.mc_shared.specs.History.{Purged, start_of}
-use Rattle.mc_guests.specs.Repeats.{Repeats}
+use Rattle.mc_time.specs.Chains.{Repeats}
 
 -- a caller of a store that began so
 abbrev pub asked_by : {K : Type 0} → StoreState K → CallerState → AskingState K

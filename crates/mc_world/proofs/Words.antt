@@ -30,7 +30,7 @@ pub use Rattle.mc_session.specs.declared.session.TurnFault.{TurnFault}
 pub use Rattle.mc_shelf.specs.Stores.{StoreState, HoldSame, StepMoves, TookStep}
 pub use Rattle.mc_shelf.specs.declared.settings.Settings.{Settings}
 pub use Rattle.mc_shelf.specs.declared.store.Store.{Store}
-pub use Rattle.mc_world.specs.Chains.{Chain}
+pub use Rattle.mc_time.specs.Chains.{Chain}
 pub use Rattle.mc_world.specs.Connections.{Connection, IsNextTurn, HasNoNext, Follows, IsAmong, at_start, inside, IsRest, shut, Stands, with_piece, after_turn, ended, fresh}
 pub use Rattle.mc_world.specs.Laws.{Grammar, step_of, NextHasNoStep, DecidesNoStep, IsApart, Answer, Replied, NumbersSpent, answer_in, answers_in, AnswersNext, AnswersOf, RunsAnswering, HasAnswers}
 pub use Rattle.mc_world.specs.Laws.{is_number, events_of, Leaves}

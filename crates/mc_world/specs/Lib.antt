@@ -1,4 +1,3 @@
-pub mod Chains
 pub mod Connections
 pub mod Worlds
 pub mod Refusals

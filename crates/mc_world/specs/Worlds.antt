@@ -14,7 +14,7 @@ use Rattle.mc_session.specs.Turns.{SessionState, Answers, NoTurnDue}
 use Rattle.mc_shelf.specs.Stores.{coded_settings, FallsAt, FewMoveSomewhere, NoneRises}
 use Rattle.mc_shelf.specs.declared.settings.Settings.{Settings}
 use Rattle.mc_protocol.specs.Purge.{purged}
-use Rattle.mc_world.specs.Chains.{Chain}
+use Rattle.mc_time.specs.Chains.{Chain}
 use Rattle.mc_world.specs.Connections.{Connection, IsNextTurn, HasNoNext, Stands, fresh, with_piece, after_turn, ended}
 use Rattle.mc_world.specs.declared.event.Event.{Event}
 use Rattle.mc_world.specs.declared.event.Event.TheVariants.{Open, Piece, Turn, Clock, Grow, Purge, Close}

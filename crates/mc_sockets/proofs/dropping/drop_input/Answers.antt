@@ -1,5 +1,5 @@
 use Rattle.std.proofs.Common.{refl, arith}
-use Rattle.mc_guests.specs.Repeats.{none_yet}
+use Rattle.mc_time.specs.Chains.{none_yet}
 use Rattle.mc_sockets.proofs.DroppingLemmas.{dropped_more, drop_stops}
 use Rattle.mc_sockets.proofs.dropping.drop_input.Goals as goal
 

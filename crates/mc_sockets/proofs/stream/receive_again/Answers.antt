@@ -1,5 +1,5 @@
 use Rattle.std.proofs.Common.{refl, ◌∙◌}
-use Rattle.mc_guests.specs.Repeats.{none_yet}
+use Rattle.mc_time.specs.Chains.{none_yet}
 use Rattle.mc_sockets.proofs.StreamLemmas.{read_interrupted, moves_nothing_in}
 use Rattle.mc_sockets.proofs.stream.receive_again.Goals as goal
 

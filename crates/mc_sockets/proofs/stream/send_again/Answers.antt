@@ -1,5 +1,5 @@
 use Rattle.std.proofs.Common.{refl, ◌∙◌}
-use Rattle.mc_guests.specs.Repeats.{none_yet}
+use Rattle.mc_time.specs.Chains.{none_yet}
 use Rattle.mc_sockets.proofs.StreamLemmas.{write_interrupted, moves_nothing_out}
 use Rattle.mc_sockets.proofs.stream.send_again.Goals as goal
 

@@ -1,5 +1,5 @@
 use Rattle.std.proofs.Common.{◌≡◌, arith}
-use Rattle.mc_guests.specs.Repeats.{none_yet}
+use Rattle.mc_time.specs.Chains.{none_yet}
 use Rattle.mc_workers.proofs.RoomLemmas.{judged_more, judged_none, judged_all}
 use Rattle.mc_workers.proofs.worker.judge_slow.Goals as goal
 

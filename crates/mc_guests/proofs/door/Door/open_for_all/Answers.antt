@@ -1,7 +1,7 @@
 use native.Mathlib.Omega.{arith}
 use Rattle.std.proofs.Common.{◌≡◌, subst}
 use Rattle.mc_guests.specs.Doors.{LinksCame, as_many}
-use Rattle.mc_guests.specs.Repeats.{none_yet}
+use Rattle.mc_time.specs.Chains.{none_yet}
 use Rattle.mc_guests.proofs.DoorLemmas.{came_one_more, came_no_more}
 use Rattle.mc_guests.proofs.door.Door.open_for_all.Goals as goal
 

@@ -1,5 +1,5 @@
 use Rattle.std.proofs.Common.{◌≡◌, inl, inr, refl, arith}
-use Rattle.mc_guests.specs.Repeats.{none_yet, one_more}
+use Rattle.mc_time.specs.Chains.{none_yet, one_more}
 use Rattle.mc_guests.proofs.guests.Guests.let_on_in_turn.Goals as goal
 
 pub loop-init : goal.loop-init

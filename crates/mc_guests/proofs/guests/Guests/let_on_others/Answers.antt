@@ -1,4 +1,4 @@
-use Rattle.mc_guests.specs.Repeats.{none_yet, one_more}
+use Rattle.mc_time.specs.Chains.{none_yet, one_more}
 use Rattle.mc_guests.proofs.guests.Guests.let_on_others.Goals as goal
 
 pub loop-init : goal.loop-init

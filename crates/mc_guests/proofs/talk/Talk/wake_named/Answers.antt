@@ -1,4 +1,4 @@
-use Rattle.mc_guests.specs.Repeats.{none_yet}
+use Rattle.mc_time.specs.Chains.{none_yet}
 use Rattle.mc_guests.proofs.DoorLemmas.{named_more}
 use Rattle.mc_guests.proofs.talk.Talk.wake_named.Goals as goal
 

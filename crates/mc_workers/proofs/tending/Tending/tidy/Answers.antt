@@ -1,6 +1,6 @@
 use Rattle.std.proofs.Common.{ap, ◌∙◌}
 use Rattle.mc_shared.specs.Asking.{AskingState}
-use Rattle.mc_guests.specs.Repeats.{one_more}
+use Rattle.mc_time.specs.Chains.{one_more}
 use Rattle.mc_workers.proofs.WorkLemmas.{tidies_none}
 use Rattle.mc_workers.proofs.tending.Tending.tidy.Goals as goal
 
