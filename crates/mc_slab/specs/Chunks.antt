@@ -1,8 +1,9 @@
 -- Chunks, which contracts see as their bytes, one chunk's after another's, and as their head.
 use Rattle.std.specs.Prelude.{◌≡◌, ℕ, ◌+◌, ◌*◌, ◌<◌, ◌≤◌, List, ◌++◌, length, take, drop, refl}
 use Rattle.std.specs.Coded.{Coded, code_by, coded×, coded_ℕ, coded_list}
-use Rattle.mc_slab.specs.Classes.{size_of}
+use Rattle.mc_slab.specs.Classes.{page_size, size_of}
 use Rattle.mc_slab.specs.Needs.{NeedState, IsNeed, size_in}
+use Rattle.mc_slab.specs.declared.head.TheConstants.{HEADER_SIZE, LARGEST_BLOCK}
 
 -- chunks of one class: how many, their bytes one after another, and the bytes of their head
 pub record ChunksState : Type 0 where
@@ -28,6 +29,14 @@ one_chunk class bytes head = record { class = class; count = 1; bytes = bytes; h
 abbrev pub need_in : ChunksState → NeedState
 need_in chunks = record { class = chunks.class; count = chunks.count }
 
+-- how many bytes of its chunks' head an item's header takes
+abbrev pub header_size : ℕ
+header_size = HEADER_SIZE
+
+-- how many bytes the largest block of an item has
+abbrev pub largest_block : ℕ
+largest_block = LARGEST_BLOCK
+
 -- The head of chunks: below class 27 their bytes, and from class 27 on 304 bytes beside them.
 pub record IsHead (chunks : ChunksState) : Type 0 where
   pub same : chunks.class < 27 → chunks.head ≡ chunks.bytes
@@ -47,7 +56,7 @@ pub record AreChunksOf (need : NeedState) (chunks : ChunksState) : Type 0 where
 -- The bytes of the first chunk: all bytes of a class below the last, and a page of those of the last.
 pub record IsFirst (chunks : ChunksState) (first : List ℕ) : Type 0 where
   pub alone : chunks.class < 40 → first ≡ chunks.bytes
-  pub page : chunks.class ≡ 40 → first ≡ take 1048576 chunks.bytes
+  pub page : chunks.class ≡ 40 → first ≡ take page_size chunks.bytes
 
 -- the bytes of the chunk at a place, the first at 0
 abbrev pub chunk_at : ChunksState → ℕ → List ℕ

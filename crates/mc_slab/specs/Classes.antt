@@ -2,6 +2,11 @@
 -- numbered from 1, sizes and charges are in bytes.
 use Rattle.std.specs.Prelude.{ℕ, zero, suc, ◌+◌, ◌-◌, ◌*◌, ◌/◌, ◌<◌, ◌≤◌, List, [], ◌∷◌, ◌++◌, Option, Some, None, nat_le, slice_index, if◌then◌else◌}
 use Rattle.std.specs.List.{take_while, position_or_len}
+use Rattle.mc_slab.specs.declared.class.TheConstants.{PAGE_SIZE}
+
+-- how many bytes a page has
+abbrev pub page_size : ℕ
+page_size = PAGE_SIZE
 
 -- the size that comes after a size: five quarters of it, rounded up to a multiple of 8
 abbrev pub next_size : ℕ → ℕ
@@ -15,7 +20,7 @@ sizes_from (suc count) size = size ∷ sizes_from count (next_size size)
 -- the chunk sizes, class 1 first: from 96 on while they are at most half a page (which the sixtieth is not), and then a
 -- whole page
 unfoldable pub chunk_sizes : List ℕ
-chunk_sizes = take_while (λ size. nat_le size 524288) (sizes_from 60 96) ++ 1048576 ∷ []
+chunk_sizes = take_while (λ size. nat_le size (page_size / 2)) (sizes_from 60 96) ++ page_size ∷ []
 
 -- the number of a class
 abbrev pub IsClass : ℕ → Type 0
@@ -27,7 +32,7 @@ size_of class = slice_index chunk_sizes (class - 1)
 
 -- how many chunks of the class a page gives
 abbrev pub chunks_a_page : ℕ → ℕ
-chunks_a_page class = 1048576 / size_of class
+chunks_a_page class = page_size / size_of class
 
 -- the smallest class whose chunks hold the charge, if one does; 41 if none does
 abbrev pub class_holding : ℕ → ℕ
@@ -35,7 +40,7 @@ class_holding charge = position_or_len (λ size. nat_le charge size) chunk_sizes
 
 -- the smallest class whose chunks hold the charge
 abbrev pub class_of : ℕ → Option ℕ
-class_of charge = if nat_le charge 1048576 then Some (class_holding charge) else None
+class_of charge = if nat_le charge page_size then Some (class_holding charge) else None
 
 -- where a charge parts the sizes: so many are below it, and the others hold it
 pub record PartsAt (charge smaller : ℕ) : Type 0 where

@@ -1,7 +1,8 @@
 -- What a charge needs: how many chunks of which class.
-use Rattle.std.specs.Prelude.{◌≡◌, ◌⊎◌, ℕ, ◌+◌, ◌*◌, ◌/◌, ◌<◌, ◌≤◌, ◌==◌, ◌&&◌, Bool, Option, Some, None, nat_le, refl, if◌then◌else◌}
+use Rattle.std.specs.Prelude.{◌≡◌, ◌⊎◌, ℕ, ◌+◌, ◌-◌, ◌*◌, ◌/◌, ◌<◌, ◌≤◌, ◌==◌, ◌&&◌, Bool, Option, Some, None, nat_le, refl, if◌then◌else◌}
 use Rattle.std.specs.Coded.{Coded, code_by, coded×, coded_ℕ}
-use Rattle.mc_slab.specs.Classes.{IsClass, size_of, class_holding}
+use Rattle.mc_slab.specs.Classes.{IsClass, page_size, size_of, class_holding}
+use Rattle.mc_slab.specs.declared.need.TheConstants.{LARGEST_CHARGE}
 
 -- so many chunks of a class
 pub record NeedState : Type 0 where
@@ -15,15 +16,19 @@ coded_need =
     (λ p. record { class = p.0; count = p.1 })
     (λ _. refl)
 
+-- how many bytes the largest charge has that chunks can hold: those of eight pages
+abbrev pub largest_charge : ℕ
+largest_charge = LARGEST_CHARGE
+
 -- what a charge needs: one chunk of the smallest class that holds it, and above a page as many whole pages as hold it
 abbrev pub need_for : ℕ → NeedState
 need_for charge =
-    if nat_le charge 1048576 then record { class = class_holding charge; count = 1 }
-    else record { class = 40; count = (charge + 1048575) / 1048576 }
+    if nat_le charge page_size then record { class = class_holding charge; count = 1 }
+    else record { class = 40; count = (charge + (page_size - 1)) / page_size }
 
 -- the same if it is at most eight pages
 abbrev pub need_of : ℕ → Option NeedState
-need_of charge = if nat_le charge 8388608 then Some (need_for charge) else None
+need_of charge = if nat_le charge largest_charge then Some (need_for charge) else None
 
 -- What is true of every need: it asks for one chunk of a class, or for two to eight whole pages.
 pub record IsNeed (need : NeedState) : Type 0 where

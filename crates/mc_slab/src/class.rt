@@ -1,13 +1,13 @@
 //! Slab classes: the sizes of chunks.
 
 ghost use Rattle.std.specs.Prelude.{◌≡◌, ℕ, ◌-◌, ◌+◌, ◌<◌, ◌≤◌, ◌↔◌, IfSome, IsNone};
-ghost use Rattle.mc_slab.specs.Classes.{IsClass, size_of, chunks_a_page, class_of, PartsAt};
+ghost use Rattle.mc_slab.specs.Classes.{IsClass, page_size, size_of, chunks_a_page, class_of, PartsAt};
 
 use std::alloc::AllocError;
 use std::marker::Model;
 
-/// Bytes of a page.
-pub(crate) const PAGE: u32 = 1 << 20;
+/// The bytes of a page.
+pub const PAGE_SIZE: u32 = 1048576;
 
 /// The number of classes.
 pub(crate) const CLASSES: u8 = 40;
@@ -45,7 +45,7 @@ pub(crate) use each_class;
 /// Lists the bytes of a chunk of each class, with those of the last, which is a page.
 macro_rules! sizes {
     ($($number:literal $variant:ident $size:literal,)*) => {
-        [$($size,)* 1048576]
+        [$($size,)* PAGE_SIZE]
     };
 }
 
@@ -108,22 +108,22 @@ impl Class {
         self.number
     }
 
-    /// Returns the size of its chunks, 96 to 1048576 bytes.
+    /// Returns the size of its chunks, 96 to [`PAGE_SIZE`] bytes.
     pub fn size(self) -> u32
         ensures value { result ≡ size_of self }
-        ensures range { (96 ≤ result) × (result ≤ 1048576) }
+        ensures range { (96 ≤ result) × (result ≤ page_size) }
         ensures is_class { IsClass self }
     {
         SIZES[usize::from(self.number) - 1]
     }
 
-    /// Returns how many of its chunks a page of 1048576 bytes holds, 1 to 10922.
+    /// Returns how many of its chunks a page holds, 1 to 10922.
     pub fn chunks_a_page(self) -> u32
         ensures value { result ≡ chunks_a_page self }
         ensures range { (1 ≤ result) × (result ≤ 10922) }
         ensures is_class { IsClass self }
     {
-        PAGE / self.size()
+        PAGE_SIZE / self.size()
     }
 }
 
@@ -136,10 +136,10 @@ fn smaller_sizes(charge: u64) -> usize
 
 /// Returns the smallest class whose chunks hold a charge of that many bytes.
 ///
-/// It is `None` above 1048576 bytes. It takes at most six comparisons.
+/// It is `None` above [`PAGE_SIZE`] bytes. It takes at most six comparisons.
 pub fn class_of(charge: u64) -> Option<Class>
     ensures value { result ≡ class_of charge }
-    ensures none { IsNone result ↔ (1048576 < charge) }
+    ensures none { IsNone result ↔ (page_size < charge) }
     ensures is_class { IfSome result IsClass }
     ensures holds { IfSome result (λ class. charge ≤ size_of class) }
     ensures smallest { IfSome result (λ class.

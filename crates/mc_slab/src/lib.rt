@@ -2,12 +2,12 @@
 //!
 //! A store has a limit of pages, and must report exactly when it is full. With the system's
 //! allocator it couldn't: the allocator reports neither its overhead for a block nor the unused
-//! memory between blocks. So memory comes in pages of 1048576 bytes. Each page goes to one class of
-//! chunks and stays with it, and a charge gets a chunk of the smallest class that holds it. That is
-//! memcached's scheme (doc/protocol.txt there, "Slab statistics"), with sizes that grow by about a
-//! quarter. A charge above a page gets two to eight whole pages.
+//! memory between blocks. So memory comes in pages of [`PAGE_SIZE`] bytes. Each page goes to one
+//! class of chunks and stays with it, and a charge gets a chunk of the smallest class that holds
+//! it. That is memcached's scheme (doc/protocol.txt there, "Slab statistics"), with sizes that grow
+//! by about a quarter. A charge above a page gets two to eight whole pages.
 //!
-//! A [`Class`] is one of 40 sizes, 96 to 1048576 bytes ([`class_of`]). A [`Need`] is a class and
+//! A [`Class`] is one of 40 sizes, 96 bytes to a page ([`class_of`]). A [`Need`] is a class and
 //! the number of its chunks that hold a charge ([`need_of`]). A [`Slab`] counts the pages that are
 //! left, and keeps for each class the free chunks and the memory that isn't cut yet. [`Chunks`] are
 //! what is taken and given back: they are moved and never copied. A part of a chunk of class 27 to
@@ -44,9 +44,10 @@ mod whole;
 
 pub use block::BESIDE;
 pub use chunks::Chunks;
-pub use class::{Class, class_of};
+pub use class::{Class, PAGE_SIZE, class_of};
+pub use head::{HEADER_SIZE, LARGEST_BLOCK};
 pub use laws::{ready_is_enough, table_of_classes, wanted_pages_are_least};
-pub use need::{Need, need_of};
+pub use need::{LARGEST_CHARGE, Need, need_of};
 pub use run::Pages;
 pub use slab::{Slab, TakeFault};
 pub use stock::Account;

@@ -1,18 +1,18 @@
 //! The class and the number of chunks that hold a charge.
 
 ghost use Rattle.std.specs.Prelude.{◌≡◌, ◌+◌, ◌*◌, ◌<◌, ◌≤◌, ◌↔◌, IfSome, IsNone};
-ghost use Rattle.mc_slab.specs.Classes.{IsClass};
-ghost use Rattle.mc_slab.specs.Needs.{NeedState, IsNeed, IsSmaller, need_of, size_in};
+ghost use Rattle.mc_slab.specs.Classes.{IsClass, page_size};
+ghost use Rattle.mc_slab.specs.Needs.{NeedState, IsNeed, IsSmaller, largest_charge, need_of, size_in};
 
-use crate::class::{CLASSES, Class, class_of};
+use crate::class::{CLASSES, Class, PAGE_SIZE, class_of};
 use std::alloc::AllocError;
 use std::marker::Model;
 
 /// The largest charge, in bytes, that chunks can hold: eight pages.
-const MOST: u64 = 1 << 23;
+pub const LARGEST_CHARGE: u64 = 8 * WHOLE;
 
 /// Bytes of charge that a page holds.
-const WHOLE: u64 = 1 << 20;
+const WHOLE: u64 = PAGE_SIZE as u64;
 
 /// What a charge needs: one chunk of a class, or two to eight whole pages.
 ///
@@ -87,13 +87,13 @@ impl Need {
     }
 }
 
-/// Returns the need of a charge of that many bytes, or `None` above 8388608.
+/// Returns the need of a charge of that many bytes, or `None` above [`LARGEST_CHARGE`].
 ///
-/// It is one chunk of the smallest class that holds the charge, and above 1048576 bytes the fewest
-/// whole pages that do. It takes at most six comparisons, and two more above a page.
+/// It is one chunk of the smallest class that holds the charge, and above a page the fewest whole
+/// pages that do. It takes at most six comparisons, and two more above a page.
 pub fn need_of(charge: u64) -> Option<Need>
     ensures value { result ≡ need_of charge }
-    ensures none { IsNone result ↔ (8388608 < charge) }
+    ensures none { IsNone result ↔ (largest_charge < charge) }
     ensures is_need { IfSome result IsNeed }
     ensures holds { IfSome result (λ need. charge ≤ size_in need) }
     ensures smallest { IfSome result (λ need.
@@ -107,15 +107,15 @@ pub fn need_of(charge: u64) -> Option<Need>
 
 /// Returns the fewest pages that hold a charge above one page, if eight are enough.
 fn pages_of(charge: u64) -> Option<Need>
-    requires { 1048576 < charge }
+    requires { page_size < charge }
     ensures value { result ≡ need_of charge }
-    ensures none { IsNone result ↔ (8388608 < charge) }
+    ensures none { IsNone result ↔ (largest_charge < charge) }
     ensures is_need { IfSome result IsNeed }
     ensures holds { IfSome result (λ need. charge ≤ size_in need) }
     ensures smallest { IfSome result (λ need.
         (smaller : NeedState) → IsNeed smaller → IsSmaller smaller need → size_in smaller < charge) }
 {
-    if charge > MOST {
+    if charge > LARGEST_CHARGE {
         return None;
     }
     Some(Need::pages(((charge + (WHOLE - 1)) / WHOLE) as u8))

@@ -2,6 +2,7 @@
 
 ghost use Rattle.std.specs.Prelude.{◌≡◌, ◌+◌, ◌-◌, ◌*◌, ◌<◌, ◌≤◌, ◌++◌, length, take, drop, IfOk, IfSome, IsTrue, IsFalse};
 ghost use Rattle.mc_slab.specs.Chunks.{with_part};
+ghost use Rattle.mc_slab.specs.Classes.{page_size};
 ghost use Rattle.mc_slab.specs.Sheets.{sheets_in};
 
 use crate::head::HeadBytes;
@@ -53,7 +54,7 @@ impl Sheet {
     /// Allocates one sheet of zeros in its box. The only error is a refused allocation.
     pub(crate) fn new(alloc: Global) -> Result<Box<Sheet>, AllocError>
         ensures { IfOk result (λ sheet. (sheet.value.0 ≡ 1)
-            × (length sheet.value.1.0 ≡ 1048576) × (length sheet.value.1.1 ≡ 304)) }
+            × (length sheet.value.1.0 ≡ page_size) × (length sheet.value.1.1 ≡ 304)) }
     {
         let sheet = Sheet {
             head: HeadBytes::new(),
@@ -93,7 +94,7 @@ impl Sheet {
     #[tactic(auto, using(crate::proofs::SheetLemmas::first_here, crate::proofs::SheetLemmas::first_alone))]
     pub(crate) fn first(&self) -> &[u8]
         requires { 1 ≤ self.now.0 }
-        ensures { result.now ≡ take 1048576 self.now.1.0 }
+        ensures { result.now ≡ take page_size self.now.1.0 }
     {
         match &self.node {
             Node::Last(whole) => whole.bytes(),
@@ -106,7 +107,7 @@ impl Sheet {
     #[inline(never)]
     pub(crate) fn part(&self, at: usize) -> &[u8]
         requires { at < self.now.0 }
-        ensures { result.now ≡ take 1048576 (drop (at * 1048576) self.now.1.0) }
+        ensures { result.now ≡ take page_size (drop (at * page_size) self.now.1.0) }
     {
         if at == 0 {
             return self.first();
@@ -128,9 +129,9 @@ impl Sheet {
     pub(crate) fn lend(&self, at: usize, from: usize, to: usize) -> Option<Lent>
         requires place { at < self.now.0 }
         requires order { from ≤ to }
-        requires within { to ≤ 1048576 }
+        requires within { to ≤ page_size }
         ensures { IfSome result (λ lent. lent
-            ≡ take (to - from) (drop from (take 1048576 (drop (at * 1048576) self.now.1.0)))) }
+            ≡ take (to - from) (drop from (take page_size (drop (at * page_size) self.now.1.0)))) }
     {
         if at == 0 {
             return self.lend_first(from, to);
@@ -148,9 +149,9 @@ impl Sheet {
     fn lend_first(&self, from: usize, to: usize) -> Option<Lent>
         requires place { 1 ≤ self.now.0 }
         requires order { from ≤ to }
-        requires within { to ≤ 1048576 }
+        requires within { to ≤ page_size }
         ensures { IfSome result (λ lent. lent
-            ≡ take (to - from) (drop from (take 1048576 self.now.1.0))) }
+            ≡ take (to - from) (drop from (take page_size self.now.1.0))) }
     {
         match &self.node {
             Node::Last(whole) => whole.lend(from, to),
@@ -161,7 +162,7 @@ impl Sheet {
 
     /// Puts one sheet in front of others. It takes no memory.
     pub(crate) fn in_front(mut sheet: Box<Sheet>, behind: Box<Sheet>) -> Box<Sheet>
-        requires one { (sheet.value.0 ≡ 1) × (length sheet.value.1.0 ≡ 1048576) }
+        requires one { (sheet.value.0 ≡ 1) × (length sheet.value.1.0 ≡ page_size) }
         ensures { result.value ≡ (
           1 + behind.value.0,
           (sheet.value.1.0 ++ behind.value.1.0, sheet.value.1.1),
@@ -176,9 +177,9 @@ impl Sheet {
     pub(crate) fn taken_off(mut sheet: Box<Sheet>) -> (Box<Sheet>, Box<Sheet>)
         requires { 2 ≤ sheet.value.0 }
         ensures one { (result.0.value.0 ≡ 1)
-            × (length result.0.value.1.0 ≡ 1048576) }
+            × (length result.0.value.1.0 ≡ page_size) }
         ensures behind { (1 + result.1.value.0 ≡ sheet.value.0)
-            × (1048576 + length result.1.value.1.0 ≡ length sheet.value.1.0) }
+            × (page_size + length result.1.value.1.0 ≡ length sheet.value.1.0) }
         ensures heads { (length result.0.value.1.1 ≡ 304)
             × (length result.1.value.1.1 ≡ 304) }
     {
@@ -297,7 +298,7 @@ impl Sheet {
 
 /// Returns the node of one chunk with others behind it.
 fn before(node: Node, behind: Box<Sheet>) -> Node
-    requires { ((sheets_in node).0 ≡ 1) × (length (sheets_in node).1 ≡ 1048576) }
+    requires { ((sheets_in node).0 ≡ 1) × (length (sheets_in node).1 ≡ page_size) }
     ensures { sheets_in result
         ≡ (1 + behind.value.0, (sheets_in node).1 ++ behind.value.1.0) }
 {
@@ -315,9 +316,9 @@ fn before(node: Node, behind: Box<Sheet>) -> Node
 fn part_node(node: Node) -> (Node, Box<Sheet>)
     requires { 2 ≤ (sheets_in node).0 }
     ensures one { ((sheets_in result.0).0 ≡ 1)
-        × (length (sheets_in result.0).1 ≡ 1048576) }
+        × (length (sheets_in result.0).1 ≡ page_size) }
     ensures behind { (1 + result.1.value.0 ≡ (sheets_in node).0)
-        × (1048576 + length result.1.value.1.0 ≡ length (sheets_in node).1) }
+        × (page_size + length result.1.value.1.0 ≡ length (sheets_in node).1) }
 {
     match node {
         Node::Before(whole, behind) => {
@@ -402,8 +403,8 @@ fn put_last(whole: &mut Whole, part: &Lent, at: usize, most: usize)
 fn end_of_piece(at: usize, len: usize) -> usize
     requires { at ≤ len }
     ensures order { (at ≤ result) × (result ≤ len) }
-    ensures page { result - at ≤ 1048576 }
-    ensures full { result < len → result ≡ at + 1048576 }
+    ensures page { result - at ≤ page_size }
+    ensures full { result < len → result ≡ at + page_size }
 {
     if len - at <= WHOLE { len } else { at + WHOLE }
 }
@@ -412,9 +413,9 @@ fn end_of_piece(at: usize, len: usize) -> usize
 /// copies them.
 fn put_piece(whole: &mut Whole, part: &Lent, from: usize, to: usize, most: usize)
     requires order { (from ≤ to) × (to ≤ length part.now) }
-    requires page { to - from ≤ 1048576 }
+    requires page { to - from ≤ page_size }
     ensures begins { take (to - from) whole.new ≡ take (to - from) (drop from part.now) }
-    ensures whole { length whole.new ≡ 1048576 }
+    ensures whole { length whole.new ≡ page_size }
 {
     if !take_piece(whole, part, from, to, most) {
         whole.write_at(0, &part.as_slice()[from..to]);
@@ -425,10 +426,10 @@ fn put_piece(whole: &mut Whole, part: &Lent, from: usize, to: usize, most: usize
 /// did. The chunk's former memory is left with the part.
 fn take_piece(whole: &mut Whole, part: &Lent, from: usize, to: usize, most: usize) -> bool
     requires order { (from ≤ to) × (to ≤ length part.now) }
-    requires page { to - from ≤ 1048576 }
+    requires page { to - from ≤ page_size }
     ensures taken { IsTrue result
         → take (to - from) whole.new ≡ take (to - from) (drop from part.now) }
-    ensures whole { length whole.new ≡ 1048576 }
+    ensures whole { length whole.new ≡ page_size }
     ensures kept { IsFalse result → whole.new ≡ whole.old }
 {
     whole.is_whole();

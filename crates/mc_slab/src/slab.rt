@@ -41,8 +41,7 @@ impl From<AllocError> for TakeFault {
     }
 }
 
-/// The memory of a store: pages of 1048576 bytes, each of which goes to one class and stays with
-/// it.
+/// The memory of a store: pages, each of which goes to one class and stays with it.
 ///
 /// A page of a class below 27 is allocated at once, in runs of at most 32768 bytes. A run is
 /// written, and cut into chunks, when its first chunk is taken. Runs that were cut are never freed:

@@ -2,16 +2,17 @@
 
 ghost use Rattle.std.specs.Prelude.{◌≡◌, ◌+◌, ◌-◌, ◌≤◌, length, take, drop, IfOk, IfSome, IsTrue, IsFalse};
 ghost use Rattle.mc_slab.specs.Chunks.{with_part};
+ghost use Rattle.mc_slab.specs.Classes.{page_size};
 
 use crate::block::Lendable;
-use crate::class::PAGE;
+use crate::class::PAGE_SIZE;
 use mc_bytes::{Large, Lent};
 use std::alloc::{AllocError, Global};
 use std::marker::Model;
 use std::sync::Arc;
 
 /// Bytes of a sheet's chunk: a page.
-pub(crate) const WHOLE: usize = PAGE as usize;
+pub(crate) const WHOLE: usize = PAGE_SIZE as usize;
 
 /// A chunk of a page's bytes. Contracts see its bytes.
 #[derive(Drop)]
@@ -21,18 +22,19 @@ pub(crate) struct Whole {
 
 impl Model for Whole {
     ghost use Rattle.std.specs.Prelude.{◌≡◌, List, ℕ, length};
+    ghost use Rattle.mc_slab.specs.Classes.{page_size};
 
     ghost Value = { List ℕ };
 
     ghost view = { λ w. w.block };
 
-    ghost invariant = { λ w. length w.block ≡ 1048576 };
+    ghost invariant = { λ w. length w.block ≡ page_size };
 }
 
 impl Whole {
     /// Allocates one, of zeros. The only error is a refused allocation.
     pub(crate) fn new(alloc: Global) -> Result<Whole, AllocError>
-        ensures { IfOk result (λ whole. length whole ≡ 1048576) }
+        ensures { IfOk result (λ whole. length whole ≡ page_size) }
     {
         Ok(Whole {
             block: Lendable::new(alloc, WHOLE)?,
@@ -41,7 +43,7 @@ impl Whole {
 
     /// States that it has a page's bytes. It does nothing.
     pub(crate) fn is_whole(&self)
-        ensures { length self.now ≡ 1048576 }
+        ensures { length self.now ≡ page_size }
     {
         let _ = &self.block;
     }
@@ -49,7 +51,7 @@ impl Whole {
     /// Lends the bytes.
     pub(crate) fn bytes(&self) -> &[u8]
         ensures value { result.now ≡ self.now }
-        ensures whole { length self.now ≡ 1048576 }
+        ensures whole { length self.now ≡ page_size }
     {
         self.block.bytes()
     }
@@ -59,9 +61,9 @@ impl Whole {
     /// It takes no memory. `None` if the bytes lie in memory that can't be lent.
     pub(crate) fn lend(&self, from: usize, to: usize) -> Option<Lent>
         requires order { from ≤ to }
-        requires within { to ≤ 1048576 }
+        requires within { to ≤ page_size }
         ensures value { IfSome result (λ lent. lent ≡ take (to - from) (drop from self.now)) }
-        ensures whole { length self.now ≡ 1048576 }
+        ensures whole { length self.now ≡ page_size }
     {
         self.block.lend(from, to)
     }
@@ -71,9 +73,9 @@ impl Whole {
     ///
     /// `false` if it doesn't, as for memory of more than `most` bytes, and nothing changed.
     pub(crate) fn take_over(&mut self, part: &Lent, most: usize) -> bool
-        requires { length part.now ≤ 1048576 }
+        requires { length part.now ≤ page_size }
         ensures taken { IsTrue result → take (length part.now) self.new ≡ part.now }
-        ensures whole { length self.new ≡ 1048576 }
+        ensures whole { length self.new ≡ page_size }
         ensures kept { IsFalse result → self.new ≡ self.old }
     {
         self.block.take_over(part, most)
@@ -88,16 +90,16 @@ impl Whole {
 
     /// Takes blank memory if the bytes are a piece of larger memory. They are unspecified then.
     pub(crate) fn give_up(&mut self, blank: &Arc<Large>)
-        ensures { length self.new ≡ 1048576 }
+        ensures { length self.new ≡ page_size }
     {
         self.block.give_up(blank);
     }
 
     /// Copies `part` to the place `at`. The other bytes are unchanged.
     pub(crate) fn write_at(&mut self, at: usize, part: &[u8])
-        requires { at + length part.now ≤ 1048576 }
+        requires { at + length part.now ≤ page_size }
         ensures value { self.new ≡ with_part self.old at part.now }
-        ensures whole { length self.new ≡ 1048576 }
+        ensures whole { length self.new ≡ page_size }
     {
         self.block.write_at(at, part);
     }
