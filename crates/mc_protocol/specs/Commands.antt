@@ -2,6 +2,7 @@
 use Rattle.std.specs.Prelude.{◌≡◌, refl, ℕ, ℤ, Bool, true, false, IsTrue, List, [], ◌∷◌, map, length, drop, Option, Some, None, ◌≤◌, All}
 use Rattle.mc_protocol.specs.declared.command.CommandOf.{CommandOf}
 use Rattle.mc_protocol.specs.declared.command.CommandOf.TheVariants.{Store, Cas, Get, GetTouch, Touch, Delete, Count, FlushAll, Lone as LoneCommand}
+use Rattle.mc_protocol.specs.declared.limits.TheConstants.{LONGEST_KEY}
 use Rattle.mc_protocol.specs.declared.lone.Lone.{Lone}
 use Rattle.mc_protocol.specs.declared.step.KeyStep.{KeyStep}
 use Rattle.mc_protocol.specs.declared.step.StepKind.{StepKind}
@@ -234,7 +235,7 @@ asks-only key block (LoneCommand lone) = tt
 
 -- how many bytes a key has at most
 abbrev pub longest_key : ℕ
-longest_key = 250
+longest_key = LONGEST_KEY
 
 -- no key of the command's steps is longer than that
 abbrev pub HasShortKeys : Command → Type 0

@@ -13,6 +13,7 @@ use Rattle.mc_slab.specs.Classes.{chunks_a_page}
 use Rattle.mc_slab.specs.Needs.{NeedState, need_for, same_need}
 use Rattle.mc_protocol.specs.Words.{is_space}
 use Rattle.mc_protocol.specs.Numbers.{number_up_to}
+use Rattle.mc_protocol.specs.declared.limits.TheConstants.{CHUNK_HEAD}
 use Rattle.mc_protocol.specs.declared.step.Verb.{Verb}
 use Rattle.mc_protocol.specs.declared.step.Verb.TheVariants.{Set, Add, Replace, Append, Prepend}
 use Rattle.mc_protocol.specs.declared.step.KeyStep.{KeyStep}
@@ -77,7 +78,7 @@ pub data Outcome : Type 0 where
 
 -- what a chunk holds beside the key and the block, in bytes
 abbrev pub chunk_head : ℕ
-chunk_head = 48
+chunk_head = CHUNK_HEAD
 
 -- how many bytes of a chunk an item takes
 abbrev pub charge : List ℕ → List ℕ → ℕ
