@@ -11,6 +11,7 @@ mod write;
 ghost use Rattle.std.specs.Prelude.{◌≡◌, ◌≤◌, length, Err, IfOk, OnErr, refl};
 ghost use Rattle.std.specs.Option.{option_copied};
 ghost use Rattle.std.specs.FinMap.{get, remove};
+ghost use Rattle.mc_slab.specs.Needs.{largest_charge};
 ghost use Rattle.mc_protocol.specs.Commands.{key_of, longest_key};
 ghost use Rattle.mc_command.specs.Steps.{Ends, found, applied, reading};
 ghost use Rattle.mc_protocol.specs.Plain.{opening, starting, plain, stepped, standing, expiring, hit_of, living, Answered, Spent, CopiesBlock, MayFail};
@@ -61,10 +62,11 @@ impl Model for PlainStore {
 impl PlainStore {
     /// Makes an empty store with a limit of 1 to 65536 pages and a greatest charge of an item.
     ///
-    /// The greatest charge is in bytes, at most 8388608. The only error is a refused allocation.
+    /// The greatest charge is in bytes, at most that of eight pages. The only error is a refused
+    /// allocation.
     pub fn new(alloc: Global, pages: u32, greatest: u64) -> Result<PlainStore, AllocError>
         requires pages { (1 ≤ pages) × (pages ≤ 65536) }
-        requires greatest { greatest ≤ 8388608 }
+        requires greatest { greatest ≤ largest_charge }
         ensures { IfOk result (λ store. store ≡ opening pages greatest) }
     {
         PlainStore::starting(alloc, pages, greatest, 1)
@@ -80,7 +82,7 @@ impl PlainStore {
         next: u64,
     ) -> Result<PlainStore, AllocError>
         requires pages { (1 ≤ pages) × (pages ≤ 65536) }
-        requires greatest { greatest ≤ 8388608 }
+        requires greatest { greatest ≤ largest_charge }
         requires next { 1 ≤ next }
         ensures { IfOk result (λ store. store ≡ starting pages greatest next) }
     {

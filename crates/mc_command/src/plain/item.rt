@@ -2,19 +2,19 @@
 
 ghost use Rattle.std.specs.Prelude.{◌≡◌, ◌+◌, ◌-◌, ◌/◌, ◌^◌, ◌<◌, ◌≤◌, ◌++◌, ℕ, List, min, length, IfSome, IfOk};
 ghost use Rattle.mc_time.specs.Death as death;
-ghost use Rattle.mc_slab.specs.Classes.{IsClass};
+ghost use Rattle.mc_slab.specs.Classes.{IsClass, page_size};
 ghost use Rattle.mc_slab.specs.Needs.{IsNeed, need_of, need_for};
 ghost use Rattle.mc_protocol.specs.Plain.{charge, chunk_head, chunks_in, item_need};
 ghost use Rattle.mc_command.specs.Steps.{made};
 
 use mc_protocol::{Block, Body, CHUNK_HEAD, Draft, Reply, Standing, number_of};
-use mc_slab::{Class, Need};
+use mc_slab::{Class, Need, PAGE_SIZE};
 use mc_time::{Expiry, Moment};
 use std::alloc::{AllocError, Global};
 use std::marker::Model;
 
 /// Bytes of a page.
-const PAGE: u64 = 1 << 20;
+const PAGE: u64 = PAGE_SIZE as u64;
 
 /// What the plain store keeps under a key.
 #[derive(Drop)]
@@ -261,7 +261,7 @@ fn chunks_of(len: u64, class: Class) -> u64
 
 /// Returns how many pages hold an item, given the length of key and block together.
 fn pages_for(len: u64) -> u64
-    ensures value { result ≡ (chunk_head + len + 1048575) / 1048576 }
+    ensures value { result ≡ (chunk_head + len + (page_size - 1)) / page_size }
     ensures range { result ≤ 2 ^ 45 }
 {
     len / PAGE + (len % PAGE + CHUNK_HEAD + PAGE - 1) / PAGE
