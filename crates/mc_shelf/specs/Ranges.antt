@@ -1,5 +1,7 @@
 -- The numbers that a store may be set up by.
 use Rattle.std.specs.Prelude.{◌≤◌, ℕ, Bool, ◌==◌, ◌||◌, IsTrue}
+use Rattle.mc_slab.specs.Classes.{page_size}
+use Rattle.mc_slab.specs.Needs.{largest_charge}
 
 -- a number of pages: 1 to 65536
 abbrev pub IsPageCount : ℕ → Type 0
@@ -7,7 +9,7 @@ IsPageCount n = 1 ≤ n × n ≤ 65536
 
 -- a greatest charge of an item, in bytes: that of one page to that of eight
 abbrev pub IsGreatestCharge : ℕ → Type 0
-IsGreatestCharge n = 1048576 ≤ n × n ≤ 8388608
+IsGreatestCharge n = page_size ≤ n × n ≤ largest_charge
 
 -- whether a number is a power of two, 1 to 256
 abbrev pub is_shelf_count : ℕ → Bool

@@ -7,12 +7,14 @@ ghost use Rattle.std.specs.Prelude.{◌≡◌, ◌↔◌, IfSome, IsSome};
 ghost use Rattle.mc_shelf.specs.Ranges.{AreInRange, IsGreatestCharge, IsPageCount, IsShelfCount};
 ghost use Rattle.mc_shelf.specs.Ranges.{is_shelf_count};
 
+use mc_slab::{LARGEST_CHARGE, PAGE_SIZE};
+
 /// The settings of a store. Each value is in its range.
 #[derive(Clone, Copy, Debug, PartialEq, Eq)]
 pub struct Settings {
-    /// The limit of pages of 1048576 bytes, 1 to 65536.
+    /// The limit of pages, 1 to 65536.
     pub pages: u32,
-    /// The greatest charge of an item, in bytes, 1048576 to 8388608.
+    /// The greatest charge of an item, in bytes: that of one page to that of eight.
     pub greatest: u64,
     /// The number of shelves: a power of two, 1 to 256.
     pub shelves: u32,
@@ -27,18 +29,18 @@ impl Settings {
 
     /// The default greatest charge of an item, in bytes: one page. A store can't have a smaller
     /// one.
-    pub const GREATEST: u64 = 1_048_576;
+    pub const GREATEST: u64 = PAGE_SIZE as u64;
 
     /// The largest greatest charge of an item, in bytes: eight pages.
-    pub const MOST_GREATEST: u64 = 8_388_608;
+    pub const MOST_GREATEST: u64 = LARGEST_CHARGE;
 
     /// The most shelves of a store.
     pub const MOST_SHELVES: u32 = 256;
 
     /// Makes settings, or returns `None` if a value is out of its range.
     ///
-    /// The ranges: 1 to 65536 pages, a greatest charge of an item of 1048576 to 8388608 bytes, and
-    /// 1 to 256 shelves, a power of two.
+    /// The ranges: 1 to 65536 pages, a greatest charge of an item of one page to eight, and 1 to 256
+    /// shelves, a power of two.
     pub fn new(pages: u32, greatest: u64, shelves: u32) -> Option<Settings>
         ensures some { IfSome result (λ settings. (settings.pages ≡ pages)
             × (settings.greatest ≡ greatest) × (settings.shelves ≡ shelves)) }
