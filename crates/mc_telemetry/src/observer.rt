@@ -6,7 +6,7 @@ use mc_metrics::{
     BuffersReading, COUNTED, Counters, PageValues, ProcessReading, REFUSED, RefusedReading,
     SlabReading,
 };
-use mc_slab::class_of;
+use mc_slab::{PAGE_SIZE, class_of};
 use mc_sockets::{Crowd, PARTINGS};
 use std::alloc::{AllocError, AllocGlobal, Global};
 use std::fs::Files;
@@ -14,7 +14,7 @@ use std::sync::{Arc, Wait};
 use std::time::{Clock, Instant};
 
 /// The size of a page of a store, in bytes.
-const PAGE: u64 = 1_048_576;
+const PAGE: u64 = PAGE_SIZE as u64;
 
 /// An upper bound on the number of classes of chunks.
 const CLASSES: usize = 64;
