@@ -7,11 +7,10 @@ use Rattle.byteorder.specs.Numbers.{little_number-reads_back}
 use Rattle.mc_slab.specs.Chunks.{with_part}
 use Rattle.mc_slab.specs.Chunks.{ChunksState}
 use Rattle.mc_item.specs.Items.{start_of}
-use Rattle.mc_item.specs.Layout.{number_at, number_bytes, expires_number, moment_number, header_in, KeepsBytes}
+use Rattle.mc_item.specs.Layout.{number_at, number_bytes, expires_number, moment_number, header_in, KeepsBytes, Header}
 use Rattle.std.specs.Prelude.{◌==◌, if◌then◌else◌}
 use Rattle.mc_time.specs.declared.expiry.Expiry.{Expiry}
 use Rattle.mc_time.specs.declared.expiry.Expiry.TheVariants.{Never, At}
-use Rattle.mc_item.specs.declared.header.Header.{Header}
 use borrow.Rule.Slice.PartMut.{put_mid}
 
 -- a field in front of more, behind a front

@@ -48,33 +48,16 @@ slice_get-pieces size (suc count) bytes (suc at) below =
     slice_get-pieces size count (drop size bytes) at (omega arith)
     ∙ ap (λ (l : List ℕ). Some (take size l)) (drop-drop (at * size) size bytes ∙ ap (λ (n : ℕ). drop n bytes) place)
 
--- what lies of a block in the first chunk of a run: the block has `many` bytes from the place `start` on
-pub first_part : (start many size : ℕ) (bytes : List ℕ) → start ≤ size → take (min (start + many) size - start) (drop start (take size bytes)) ≡ take (size - start) (take many (drop start bytes))
-first_part start many size bytes within =
-    let left : drop start (take size bytes) ≡ take (size - start) (drop start bytes) = drop-take-sub start size bytes in
-    let short : min (start + many) size - start ≤ size - start = omega arith in
-    let same : min (start + many) size - start ≡ min (size - start) many = omega arith in
-    ap (take (min (start + many) size - start)) left
-    ∙ take-take _ _ (drop start bytes) short
-    ∙ ap (λ (n : ℕ). take n (drop start bytes)) same
-    ∙ sym (take-take-min (size - start) many (drop start bytes))
-
--- and what lies of it in one behind
-pub later_part : (start many size at : ℕ) (bytes : List ℕ) → start ≤ size
-    → take (min (start + many - (size + at * size)) size) (take size (drop (size + at * size) bytes)) ≡ take size (drop (at * size) (drop (size - start) (take many (drop start bytes))))
-later_part start many size at bytes within =
-    let place : ℕ = size - start + at * size in
-    let where_ : start + place ≡ size + at * size = omega arith in
-    let behind : drop (at * size) (drop (size - start) (take many (drop start bytes))) ≡ take (many - place) (drop (size + at * size) bytes) =
-    drop-drop (at * size) (size - start) (take many (drop start bytes))
-    ∙ drop-take-sub place many (drop start bytes)
-    ∙ ap (take (many - place)) (drop-drop place start bytes ∙ ap (λ (n : ℕ). drop n bytes) where_) in
-    let short : min (start + many - (size + at * size)) size ≤ size = omega arith in
-    let same : min (start + many - (size + at * size)) size ≡ min size (many - place) = omega arith in
-    take-take _ _ (drop (size + at * size) bytes) short
-    ∙ ap (λ (n : ℕ). take n (drop (size + at * size) bytes)) same
-    ∙ sym (take-take-min size (many - place) (drop (size + at * size) bytes))
-    ∙ sym (ap (take size) behind)
+-- what lies in the chunk at a place of a block that begins with the first chunk
+pub part_within : (many size at : ℕ) (bytes : List ℕ) → take (min (many - at * size) size) (take size (drop (at * size) bytes)) ≡ take size (drop (at * size) (take many bytes))
+part_within many size at bytes =
+    let place : ℕ = at * size in
+    let short : min (many - place) size ≤ size = omega arith in
+    let same : min (many - place) size ≡ min size (many - place) = omega arith in
+    take-take _ _ (drop place bytes) short
+    ∙ ap (λ (n : ℕ). take n (drop place bytes)) same
+    ∙ sym (take-take-min size (many - place) (drop place bytes))
+    ∙ ap (take size) (sym (drop-take-sub place many bytes))
 
 -- one part more, of those that were joined
 concat-next : (parts : List (List ℕ)) (at : ℕ) (part : List ℕ) → slice_get parts at ≡ Some part → concat (take (suc at) parts) ≡ concat (take at parts) ++ part

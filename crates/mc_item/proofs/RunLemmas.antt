@@ -1,5 +1,5 @@
 -- What a run of bytes shows in which a header, a key and a block were written.
-use Rattle.std.proofs.Common.{◌≡◌, ◌⊎◌, ℕ, ◌+◌, ◌-◌, ◌*◌, ◌^◌, ◌<◌, ◌≤◌, zero, suc, inl, inr, List, ◌++◌, length, take, drop, refl, sym, ap, subst, ◌∙◌, min, Some, arith}
+use Rattle.std.proofs.Common.{◌≡◌, ◌⊎◌, ℕ, ◌+◌, ◌-◌, ◌*◌, ◌^◌, ◌<◌, ◌≤◌, suc, inl, inr, List, ◌∷◌, ◌++◌, length, take, drop, refl, sym, ap, subst, ◌∙◌, min, Some, arith}
 use Rattle.std.proofs.lemmas.Nat.{mul-le}
 use Rattle.std.proofs.Math.Nat.{suc-mul}
 use Rattle.std.proofs.lemmas.Bool.{cases_lt}
@@ -10,11 +10,10 @@ use Rattle.mc_slab.specs.Needs.{NeedState, size_in}
 use Rattle.mc_slab.specs.Chunks.{ChunksState, AreChunks, chunk_at, need_in, with_part, written_cut}
 use Rattle.mc_slab.proofs.BlockLemmas.{block-written}
 use Rattle.mc_slab.proofs.ClassLemmas.{size_of-last, size_of-most}
-use Rattle.mc_item.specs.Items.{ItemState, IsItem, charge_of, front_of, parts_of, start_of}
-use Rattle.mc_item.specs.Layout.{number_at, header_in, item_in, key_in, block_in, block_start, key_length_in, block_length_in, HoldsItem, KeepsBytes, KeepsHead}
-use Rattle.mc_item.specs.declared.header.Header.{Header}
-use Rattle.mc_item.proofs.LayoutLemmas.{length-with_part, drop-with_part, start_of-below, start_of-most}
-use Rattle.mc_item.proofs.PartLemmas.{concat-cut, length-pieces, slice_get-pieces, first_part, later_part, take-written, with_part-behind}
+use Rattle.mc_item.specs.Items.{ItemState, IsItem, charge_of, front_of, parts_of, pieces, start_of}
+use Rattle.mc_item.specs.Layout.{number_at, header_in, item_in, key_in, block_in, block_start, key_length_in, block_length_in, HoldsItem, KeepsBytes, KeepsHead, Header}
+use Rattle.mc_item.proofs.LayoutLemmas.{length-with_part, drop-with_part, start_of-below, start_of-above, start_of-most}
+use Rattle.mc_item.proofs.PartLemmas.{concat-cut, length-pieces, slice_get-pieces, part_within, take-written, with_part-behind}
 use Rattle.std.specs.Prelude.{slice_get}
 use Rattle.std.specs.List.{concat}
 
@@ -209,16 +208,6 @@ head_within item is =
       | inr last ↦ subst (λ (class : ℕ). 48 + length item.key ≤ size_of class) (sym last) (rw size_of-last short)
     ]
 
-pub head_fits : (chunks : ChunksState) → HoldsItem chunks → 48 + key_length_in chunks.head ≤ size_of chunks.class
-head_fits chunks holds = rw (← length-key_in chunks holds) (head_within (item_in chunks) (IsItem-item_in chunks holds))
-
--- so the block begins within it
-pub start_fits : (chunks : ChunksState) → HoldsItem chunks → block_start chunks ≤ size_of chunks.class
-start_fits chunks holds =
-    let head = head_fits chunks holds in
-    let most = start_of-most chunks.class (key_length_in chunks.head) in
-    omega arith
-
 -- where it begins, as the key's length is read
 pub start_read : (chunks : ChunksState) (head : List ℕ) (start key : ℕ) → start ≡ start_of chunks.class key → key ≡ key_length_in head → header_in head ≡ header_in chunks.head
     → start ≡ block_start chunks
@@ -230,12 +219,6 @@ chunk_within chunks at are below =
     let more : suc at * size_of chunks.class ≤ chunks.count * size_of chunks.class = mul-le (suc at) (size_of chunks.class) chunks.count (size_of chunks.class) (omega arith) (omega arith) in
     let apart : suc at * size_of chunks.class ≡ at * size_of chunks.class + size_of chunks.class = suc-mul at (size_of chunks.class) in
     rw are.size (rw (← apart) more)
-
-pub first_within : (chunks : ChunksState) → AreChunks chunks → size_of chunks.class ≤ length chunks.bytes
-first_within chunks are =
-    let some = are.is_need.some in
-    let within = chunk_within chunks 0 are (omega arith) in
-    omega arith
 
 -- how much room a block has behind its part in the first chunk
 pub block_room : (item : ItemState) → IsItem item → length item.block ≤ front_of item + (item.count - 1) * size_of item.class
@@ -253,50 +236,52 @@ block_room item is =
 pub concat-parts_of : (item : ItemState) → IsItem item → concat (parts_of item) ≡ item.block
 concat-parts_of item is = concat-cut (front_of item) (size_of item.class) (item.count - 1) item.block (block_room item is)
 
--- the first part
-pub part-first : (chunks : ChunksState) (part : List ℕ) → HoldsItem chunks → (start end : ℕ) → start ≡ block_start chunks
-    → end ≡ start + block_length_in chunks.head → part ≡ take (min end (size_of chunks.class) - start) (drop start (take (size_of chunks.class) chunks.bytes))
-    → slice_get (parts_of (item_in chunks)) 0 ≡ Some part
-part-first chunks part holds start end from to is =
-    let fits = start_fits chunks holds in
-    let front : front_of (item_in chunks) ≡ size_of chunks.class - start =
-    ap (λ (n : ℕ). size_of chunks.class - start_of chunks.class n) (length-key_in chunks holds) ∙ ap (λ (n : ℕ). size_of chunks.class - n) (sym from) in
-    let cut = first_part start (block_length_in chunks.head) (size_of chunks.class) chunks.bytes (omega arith) in
-    ap Some
-    (ap (λ (n : ℕ). take n (block_in chunks)) front
-    ∙ ap (λ (n : ℕ). take (size_of chunks.class - start) (take (block_length_in chunks.head) (drop n chunks.bytes))) (sym from)
-    ∙ sym cut
-    ∙ ap (λ (n : ℕ). take (min n (size_of chunks.class) - start) (drop start (take (size_of chunks.class) chunks.bytes))) (sym to)
-    ∙ sym is)
+-- the parts from class 27 on, where the block begins with the first chunk
+part-pieces : (item : ItemState) → IsItem item → 27 ≤ item.class → parts_of item ≡ pieces (size_of item.class) item.count item.block
+part-pieces item is above =
+    let start = start_of-above item.class (length item.key) above in
+    let front : front_of item ≡ size_of item.class = omega arith in
+    let some = is.is_need.some in
+    let one : suc (item.count - 1) ≡ item.count = omega arith in
+    ap (λ (n : ℕ). take n item.block ∷ pieces (size_of item.class) (item.count - 1) (drop n item.block)) front
+    ∙ ap (λ (n : ℕ). pieces (size_of item.class) n item.block) one
 
--- and those behind
-pub part-later : (chunks : ChunksState) (part : List ℕ) → HoldsItem chunks → (start end at : ℕ) → start ≡ block_start chunks
-    → end ≡ start + block_length_in chunks.head → suc at < chunks.count
-    → part ≡ take (min (end - suc at * size_of chunks.class) (size_of chunks.class)) (chunk_at chunks (suc at)) → slice_get (parts_of (item_in chunks)) (suc at) ≡ Some part
-part-later chunks part holds start end at from to below is =
+pub part-beside : (chunks : ChunksState) (at : ℕ) → HoldsItem chunks → 27 ≤ chunks.class → at < chunks.count
+    → slice_get (parts_of (item_in chunks)) at ≡ Some (take (min (block_length_in chunks.head - at * size_of chunks.class) (size_of chunks.class)) (chunk_at chunks at))
+part-beside chunks at holds above below =
     let size : ℕ = size_of chunks.class in
-    let fits = start_fits chunks holds in
-    let front : front_of (item_in chunks) ≡ size - start =
-    ap (λ (n : ℕ). size - start_of chunks.class n) (length-key_in chunks holds) ∙ ap (λ (n : ℕ). size - n) (sym from) in
-    let place : suc at * size ≡ size + at * size = suc-mul at size ∙ omega arith in
-    let cut = later_part start (block_length_in chunks.head) size at chunks.bytes (omega arith) in
-    slice_get-pieces size (chunks.count - 1) (drop (front_of (item_in chunks)) (block_in chunks)) at (omega arith)
-    ∙ ap Some
-    (ap (λ (n : ℕ). take size (drop (at * size) (drop n (block_in chunks)))) front
-    ∙ ap (λ (n : ℕ). take size (drop (at * size) (drop (size - start) (take (block_length_in chunks.head) (drop n chunks.bytes))))) (sym from)
-    ∙ sym cut
-    ∙ ap (λ (n : ℕ). take (min (n - (size + at * size)) size) (take size (drop (size + at * size) chunks.bytes))) (sym to)
-    ∙ ap (λ (n : ℕ). take (min (end - n) size) (take size (drop n chunks.bytes))) (sym place)
-    ∙ sym is)
+    let many : ℕ = block_length_in chunks.head in
+    let start : block_start chunks ≡ 0 = start_of-above chunks.class (key_length_in chunks.head) above in
+    ap (λ (parts : List (List ℕ)). slice_get parts at) (part-pieces (item_in chunks) (IsItem-item_in chunks holds) above)
+    ∙ slice_get-pieces size chunks.count (block_in chunks) at below
+    ∙ ap Some (ap (λ (n : ℕ). take size (drop (at * size) (take many (drop n chunks.bytes)))) start ∙ sym (part_within many size at chunks.bytes))
 
--- the first part of an item of one chunk is its whole block
-pub part-lone : (chunks : ChunksState) (part : List ℕ) → HoldsItem chunks → chunks.count ≡ 1 → slice_get (parts_of (item_in chunks)) 0 ≡ Some part → part ≡ block_in chunks
-part-lone chunks part holds one is =
+-- the part of an item of one chunk is its whole block
+pub part-lone : (chunks : ChunksState) (at : ℕ) → HoldsItem chunks → chunks.count ≡ 1 → at < chunks.count → slice_get (parts_of (item_in chunks)) at ≡ Some (block_in chunks)
+part-lone chunks at holds one below =
     let room = block_room (item_in chunks) (IsItem-item_in chunks holds) in
     let none : (chunks.count - 1) * size_of chunks.class ≡ 0 * size_of chunks.class = ap (λ (n : ℕ). (n - 1) * size_of chunks.class) one in
-    let all : take (front_of (item_in chunks)) (block_in chunks) ≡ block_in chunks = take_all (front_of (item_in chunks)) (block_in chunks) (omega arith) in
-    let same : take (front_of (item_in chunks)) (block_in chunks) ≡ part = cc in
-    sym same ∙ all
+    let first : at ≡ 0 = omega arith in
+    ap (slice_get (parts_of (item_in chunks))) first ∙ ap Some (take_all (front_of (item_in chunks)) (block_in chunks) (omega arith))
+
+-- and below class 27, where there is one chunk, it lies in the head
+pub one_below : (chunks : ChunksState) → AreChunks chunks → chunks.class < 27 → chunks.count ≡ 1
+one_below chunks are below =
+    elim are.is_need.pages as (λ _. chunks.count ≡ 1) [
+      | inl one ↦ one
+      | inr last ↦ absurd (omega (arith, below, last))
+    ]
+
+pub block-below : (chunks : ChunksState) (head : List ℕ) (key many : ℕ) → HoldsItem chunks → chunks.class < 27 → head ≡ chunks.head → key ≡ key_length_in head → many ≡ block_length_in head
+    → take (48 + key + many - (48 + key)) (drop (48 + key) head) ≡ block_in chunks
+block-below chunks head key many holds below is k m =
+    let start = start_of-below chunks.class (key_length_in chunks.head) below in
+    let k' : key ≡ key_length_in chunks.head = k ∙ ap key_length_in is in
+    let place : 48 + key ≡ block_start chunks = omega (arith, k', start) in
+    let size : 48 + key + many - (48 + key) ≡ many = omega arith in
+    ap (λ (n : ℕ). take n (drop (48 + key) head)) (size ∙ m ∙ ap block_length_in is)
+    ∙ ap (λ (n : ℕ). take (block_length_in chunks.head) (drop n head)) place
+    ∙ ap (λ (bytes : List ℕ). take (block_length_in chunks.head) (drop (block_start chunks) bytes)) (is ∙ holds.are.is_head.same below)
 
 -- so many parts
 pub length-parts_of : (item : ItemState) → IsItem item → length (parts_of item) ≡ item.count
@@ -310,13 +295,6 @@ pub length-chunk_at : (chunks : ChunksState) (at : ℕ) → AreChunks chunks →
 length-chunk_at chunks at are below =
     let within = chunk_within chunks at are below in
     length-take-le (size_of chunks.class) (drop (at * size_of chunks.class) chunks.bytes) (simp length-drop (omega arith))
-
--- a part behind the first
-pub part-behind : (chunks : ChunksState) (part : List ℕ) → HoldsItem chunks → (start end at : ℕ) → start ≡ block_start chunks
-    → end ≡ start + block_length_in chunks.head → 1 ≤ at → at < chunks.count
-    → part ≡ take (min (end - at * size_of chunks.class) (size_of chunks.class)) (chunk_at chunks at) → slice_get (parts_of (item_in chunks)) at ≡ Some part
-part-behind chunks part holds start end zero from to some below is = absurd (omega arith)
-part-behind chunks part holds start end (suc at) from to some below is = part-later chunks part holds start end at from to below is
 
 -- an item in whose block a part was written
 pub Lies-written : (chunks new : ChunksState) (at : ℕ) (part : List ℕ) → HoldsItem chunks → at + length part ≤ block_length_in chunks.head

@@ -19,7 +19,6 @@ use Rattle.mc_time.specs.declared.expiry.Expiry.{Expiry}
 use Rattle.mc_time.specs.declared.expiry.Expiry.TheVariants.{Never, At}
 use Rattle.mc_slab.specs.Chunks.{ChunksState, AreChunks}
 use Rattle.mc_item.specs.Items.{ItemState, header_size, longest_key, start_of}
-use Rattle.mc_item.specs.declared.header.Header.{Header}
 
 -- the number in so many bytes from the offset on
 unfoldable pub number_at : ℕ → ℕ → List ℕ → ℕ
@@ -56,6 +55,16 @@ key_length_in bytes = number_at 40 4 bytes
 -- how many bytes the item's block has
 abbrev pub block_length_in : List ℕ → ℕ
 block_length_in bytes = number_at 44 4 bytes
+
+-- a header's numbers, and the expiry that two of them are
+pub record Header : Type 0 where
+  pub hash : ℕ
+  pub flags : ℕ
+  pub expiry : Expiry
+  pub unique : ℕ
+  pub updated : ℕ
+  pub key_length : ℕ
+  pub block_length : ℕ
 
 -- the header
 abbrev pub header_in : List ℕ → Header

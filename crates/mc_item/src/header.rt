@@ -28,18 +28,6 @@ const KEY_LENGTH: usize = 40;
 
 const BLOCK_LENGTH: usize = 44;
 
-/// What is stored before an item's key and block. The lengths are in bytes.
-#[derive(Clone, Copy)]
-pub(crate) struct Header {
-    pub hash: u64,
-    pub flags: u32,
-    pub expiry: Expiry,
-    pub unique: u64,
-    pub updated: Moment,
-    pub key_length: u32,
-    pub block_length: u32,
-}
-
 /// Returns the number in the 4 bytes at an offset, lowest byte first.
 #[tactic(auto, unfolding(crate::specs::Layout::number_at))]
 fn read_u32(bytes: &[u8], offset: usize) -> u32
@@ -148,41 +136,35 @@ fn numbers_of(expiry: Expiry) -> (u32, u64)
     }
 }
 
-impl Header {
-    ghost use Rattle.mc_item.specs.Items.{header_size};
-
-    /// Returns the header of the item in a chunk.
-    pub(crate) fn read(bytes: &[u8]) -> Header
-        requires size { header_size ≤ length bytes.now }
-        requires latest { updated_in bytes.now ≤ 2 ^ 62 }
-        ensures { result ≡ header_in bytes.now }
-    {
-        Header {
-            hash: hash_in(bytes),
-            flags: flags_in(bytes),
-            expiry: expiry_in(bytes),
-            unique: unique_in(bytes),
-            updated: updated_in(bytes),
-            key_length: key_length_in(bytes),
-            block_length: block_length_in(bytes),
-        }
-    }
-
-    /// Returns the bytes of the header.
-    pub(crate) fn bytes(self) -> [u8; HEADER]
-        ensures value { header_in result ≡ self }
-        ensures latest { self.updated ≤ 2 ^ 62 }
-    {
-        let mut bytes = [0; HEADER];
-        let (expires, moment) = numbers_of(self.expiry);
-        put_u64(&mut bytes, HASH, self.hash);
-        put_u32(&mut bytes, FLAGS, self.flags);
-        put_u32(&mut bytes, EXPIRES, expires);
-        put_u64(&mut bytes, EXPIRY, moment);
-        put_u64(&mut bytes, UNIQUE, self.unique);
-        put_u64(&mut bytes, UPDATED, self.updated.seconds());
-        put_u32(&mut bytes, KEY_LENGTH, self.key_length);
-        put_u32(&mut bytes, BLOCK_LENGTH, self.block_length);
-        bytes
-    }
+/// Returns the bytes of a header. `lengths` are those of the key and the block, in bytes.
+pub(crate) fn header_bytes(
+    hash: u64,
+    flags: u32,
+    expiry: Expiry,
+    unique: u64,
+    updated: Moment,
+    lengths: (u32, u32),
+) -> [u8; HEADER]
+    ensures value { header_in result ≡ record {
+      hash = hash;
+      flags = flags;
+      expiry = expiry;
+      unique = unique;
+      updated = updated;
+      key_length = lengths.0;
+      block_length = lengths.1;
+    } }
+    ensures latest { updated ≤ 2 ^ 62 }
+{
+    let mut bytes = [0; HEADER];
+    let (expires, moment) = numbers_of(expiry);
+    put_u64(&mut bytes, HASH, hash);
+    put_u32(&mut bytes, FLAGS, flags);
+    put_u32(&mut bytes, EXPIRES, expires);
+    put_u64(&mut bytes, EXPIRY, moment);
+    put_u64(&mut bytes, UNIQUE, unique);
+    put_u64(&mut bytes, UPDATED, updated.seconds());
+    put_u32(&mut bytes, KEY_LENGTH, lengths.0);
+    put_u32(&mut bytes, BLOCK_LENGTH, lengths.1);
+    bytes
 }

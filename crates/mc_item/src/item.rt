@@ -9,11 +9,10 @@ ghost use Rattle.mc_item.specs.Items.{parts_of};
 ghost use Rattle.mc_item.specs.Layout.{item_in};
 
 use crate::header::{
-    HEADER, Header, block_length_in, expiry_in, flags_in, hash_in, key_length_in, unique_in,
-    updated_in,
+    HEADER, block_length_in, expiry_in, flags_in, hash_in, key_length_in, unique_in, updated_in,
 };
 use crate::run::{
-    append_reserved, front, lend_part, length_in, part_of, write_behind, write_block, write_expiry,
+    append_reserved, front, lend_part, part_of, write_behind, write_block, write_expiry,
     write_head, write_item, write_number,
 };
 use mc_bytes::Lent;
@@ -110,23 +109,8 @@ impl Item {
         } }
         ensures is_item { IsItem result }
     {
-        let header = Header {
-            hash: parts.hash,
-            flags: parts.flags,
-            expiry: parts.expiry,
-            unique: parts.unique,
-            updated: parts.updated,
-            key_length: parts.key.len() as u32,
-            block_length: length_in(&chunks, parts.first.len() + parts.second.len()),
-        };
-        write_item(
-            &mut chunks,
-            header,
-            parts.key,
-            parts.first,
-            parts.second,
-            parts.lent,
-        );
+        // a copy: no proof covers a struct of references that is lent on
+        write_item(&mut chunks, &Parts { ..parts });
         Item { chunks }
     }
 
@@ -151,16 +135,8 @@ impl Item {
         ensures length { length result.block ≡ block_len }
         ensures is_item { IsItem result }
     {
-        let header = Header {
-            hash: head.hash,
-            flags: head.flags,
-            expiry: head.expiry,
-            unique: head.unique,
-            updated: head.updated,
-            key_length: head.key.len() as u32,
-            block_length: length_in(&chunks, block_len),
-        };
-        write_head(&mut chunks, header, head.key);
+        // a copy: no proof covers a struct of references that is lent on
+        write_head(&mut chunks, &Head { ..head }, block_len);
         Item { chunks }
     }
 
@@ -210,23 +186,8 @@ impl Item {
         } }
         ensures is_item { IsItem self.new }
     {
-        let header = Header {
-            hash: parts.hash,
-            flags: parts.flags,
-            expiry: parts.expiry,
-            unique: parts.unique,
-            updated: parts.updated,
-            key_length: parts.key.len() as u32,
-            block_length: length_in(&self.chunks, parts.first.len() + parts.second.len()),
-        };
-        write_item(
-            &mut self.chunks,
-            header,
-            parts.key,
-            parts.first,
-            parts.second,
-            parts.lent,
-        );
+        // a copy: no proof covers a struct of references that is lent on
+        write_item(&mut self.chunks, &Parts { ..parts });
     }
 
     /// Appends bytes to its block in place, and sets flags, expiry, unique number and `updated`.

@@ -9,7 +9,11 @@ ghost use Rattle.mc_item.specs.Items.{header_size, longest_key, parts_of, start_
 ghost use Rattle.mc_item.specs.Layout.{block_in, block_length_in, header_in, item_in, key_in};
 ghost use Rattle.mc_item.specs.Layout.{key_length_in, updated_in, HoldsItem, KeepsBytes, KeepsHead};
 
-use crate::header::{HEADER, Header, block_length_in, key_length_in};
+use crate::header::{
+    HEADER, block_length_in, expiry_in, flags_in, hash_in, header_bytes, key_length_in, unique_in,
+    updated_in,
+};
+use crate::item::{Head, Parts};
 use itoa::Buffer;
 use mc_bytes::Lent;
 use mc_slab::Chunks;
@@ -42,6 +46,15 @@ pub(crate) fn length_in(chunks: &Chunks, count: usize) -> u32
     count as u32
 }
 
+/// Returns whether the head of chunks lies beside their bytes, and isn't their begin.
+#[inline]
+fn has_head_beside(chunks: &Chunks) -> bool
+    ensures beside { IsTrue result → 27 ≤ chunks.now.class }
+    ensures begins { IsFalse result → chunks.now.class < 27 }
+{
+    chunks.need().class().number() >= LENT
+}
+
 /// Returns where the block of an item with a key of `key_len` bytes begins in the bytes of chunks.
 ///
 /// That is behind header and key, and from class 27 on, where those lie beside, at place 0.
@@ -52,7 +65,7 @@ fn block_start(chunks: &Chunks, key_len: usize) -> usize
     ensures value { result ≡ start_of chunks.now.class key_len }
     ensures most { result ≤ header_size + key_len }
 {
-    if chunks.need().class().number() >= LENT {
+    if has_head_beside(chunks) {
         return 0;
     }
     HEADER + key_len
@@ -97,12 +110,11 @@ fn put(chunks: &mut Chunks, offset: usize, source: &[u8])
     chunks.write_at(offset, source);
 }
 
-/// Writes the header. The bytes behind it are unchanged.
-fn put_header(chunks: &mut Chunks, header: Header)
+/// Writes the bytes of a header. The bytes behind it are unchanged.
+fn put_header(chunks: &mut Chunks, header: &[u8; HEADER])
     requires are { AreChunks chunks.old }
     requires room { header_size ≤ length chunks.old.head }
-    ensures value { header_in chunks.new.head ≡ header }
-    ensures latest { header.updated ≤ 2 ^ 62 }
+    ensures value { header_in chunks.new.head ≡ header_in header.now }
     ensures behind { drop header_size chunks.new.head ≡ drop header_size chunks.old.head }
     ensures bytes { KeepsBytes chunks.old chunks.new header_size }
     ensures head { length chunks.new.head ≡ length chunks.old.head }
@@ -110,7 +122,7 @@ fn put_header(chunks: &mut Chunks, header: Header)
     ensures need { need_in chunks.new ≡ need_in chunks.old }
     ensures are { AreChunks chunks.new }
 {
-    put_head(chunks, 0, &header.bytes());
+    put_head(chunks, 0, header);
 }
 
 /// Has chunks take over the memory of a block if that is lent, and returns whether they did.
@@ -152,64 +164,82 @@ fn put_block(chunks: &mut Chunks, offset: usize, first: &[u8], second: &[u8], le
     put(chunks, offset + first.len(), second);
 }
 
-/// Writes an item into chunks: the header, the key, and the block, `first` followed by `second`.
+/// Writes an item of these parts into chunks: the header, the key and the block.
 ///
 /// If the block's memory is lent, the chunks may take it over instead of copying it.
-pub(crate) fn write_item(
-    chunks: &mut Chunks,
-    header: Header,
-    key: &[u8],
-    first: &[u8],
-    second: &[u8],
-    lent: Option<&Lent>,
-)
+pub(crate) fn write_item(chunks: &mut Chunks, parts: &Parts<'_>)
     requires are { AreChunks chunks.old }
-    requires short { length key.now ≤ longest_key }
-    requires key_length { header.key_length ≡ length key.now }
-    requires block_length { header.block_length ≡ length first.now + length second.now }
-    requires room { header_size + length key.now + (length first.now + length second.now)
-        ≤ length chunks.old.bytes }
-    requires lent { IfSome lent (λ part. (first.now ≡ []) × (part.now ≡ second.now)) }
+    requires short { length parts.now.key.now ≤ longest_key }
+    requires room { header_size + length parts.now.key.now
+        + (length parts.now.first.now + length parts.now.second.now) ≤ length chunks.old.bytes }
+    requires lent { IfSome parts.now.lent (λ lent.
+        (parts.now.first.now ≡ []) × (lent.now ≡ parts.now.second.now)) }
     ensures value { item_in chunks.new ≡ record {
-      hash = header.hash;
-      key = key.now;
-      flags = header.flags;
-      expiry = header.expiry;
-      block = first.now ++ second.now;
-      unique = header.unique;
-      updated = header.updated;
+      hash = parts.now.hash;
+      key = parts.now.key.now;
+      flags = parts.now.flags;
+      expiry = parts.now.expiry;
+      block = parts.now.first.now ++ parts.now.second.now;
+      unique = parts.now.unique;
+      updated = parts.now.updated;
       class = chunks.old.class;
       count = chunks.old.count;
     } }
     ensures holds { HoldsItem chunks.new }
 {
-    let start = block_start(chunks, key.len());
-    put_header(chunks, header);
-    put_head(chunks, HEADER, key);
-    put_block(chunks, start, first, second, lent);
+    let Parts {
+        hash,
+        flags,
+        expiry,
+        unique,
+        updated,
+        ..
+    } = *parts;
+    let block_length = length_in(chunks, parts.first.len() + parts.second.len());
+    let lengths = (parts.key.len() as u32, block_length);
+    let start = block_start(chunks, parts.key.len());
+    put_header(
+        chunks,
+        &header_bytes(hash, flags, expiry, unique, updated, lengths),
+    );
+    put_head(chunks, HEADER, parts.key);
+    put_block(chunks, start, parts.first, parts.second, parts.lent);
 }
 
-/// Writes the header and the key of an item into chunks. The block's bytes are left as they are.
-pub(crate) fn write_head(chunks: &mut Chunks, header: Header, key: &[u8])
+/// Writes the header and the key of an item of this head into chunks.
+///
+/// The block's bytes are left as they are.
+pub(crate) fn write_head(chunks: &mut Chunks, head: &Head<'_>, block_len: usize)
     requires are { AreChunks chunks.old }
-    requires short { length key.now ≤ longest_key }
-    requires key_length { header.key_length ≡ length key.now }
-    requires room { header_size + length key.now + header.block_length ≤ length chunks.old.bytes }
+    requires short { length head.now.key.now ≤ longest_key }
+    requires room { header_size + length head.now.key.now + block_len ≤ length chunks.old.bytes }
     ensures value { item_in chunks.new ≡ record {
-      hash = header.hash;
-      key = key.now;
-      flags = header.flags;
-      expiry = header.expiry;
+      hash = head.now.hash;
+      key = head.now.key.now;
+      flags = head.now.flags;
+      expiry = head.now.expiry;
       block = block_in chunks.new;
-      unique = header.unique;
-      updated = header.updated;
+      unique = head.now.unique;
+      updated = head.now.updated;
       class = chunks.old.class;
       count = chunks.old.count;
     } }
-    ensures length { length (block_in chunks.new) ≡ header.block_length }
+    ensures length { length (block_in chunks.new) ≡ block_len }
     ensures holds { HoldsItem chunks.new }
 {
-    put_header(chunks, header);
+    let Head {
+        hash,
+        flags,
+        expiry,
+        unique,
+        updated,
+        key,
+    } = *head;
+    let lengths = (key.len() as u32, length_in(chunks, block_len));
+    put_header(
+        chunks,
+        &header_bytes(hash, flags, expiry, unique, updated, lengths),
+    );
     put_head(chunks, HEADER, key);
 }
 
@@ -247,18 +277,18 @@ pub(crate) fn write_behind(
     } }
     ensures holds { HoldsItem chunks.new }
 {
-    let old = Header::read(front(chunks));
-    let block_len = old.block_length as usize;
-    let header = Header {
-        flags,
-        expiry,
-        unique,
-        updated,
-        block_length: length_in(chunks, block_len + more.len()),
-        ..old
-    };
-    let start = block_start(chunks, old.key_length as usize);
-    put_header(chunks, header);
+    let head = front(chunks);
+    let block_len = block_length_in(head) as usize;
+    let lengths = (
+        key_length_in(head),
+        length_in(chunks, block_len + more.len()),
+    );
+    let hash = hash_in(head);
+    let start = block_start(chunks, lengths.0 as usize);
+    put_header(
+        chunks,
+        &header_bytes(hash, flags, expiry, unique, updated, lengths),
+    );
     put(chunks, start + block_len, more);
 }
 
@@ -276,15 +306,14 @@ pub(crate) fn write_number(chunks: &mut Chunks, number: u64, unique: u64, update
 {
     let mut buffer = Buffer::new();
     let digits = buffer.format(number).as_bytes();
-    let old = Header::read(front(chunks));
-    let header = Header {
-        unique,
-        updated,
-        block_length: digits.len() as u32,
-        ..old
-    };
-    let start = block_start(chunks, old.key_length as usize);
-    put_header(chunks, header);
+    let head = front(chunks);
+    let (hash, flags, expiry) = (hash_in(head), flags_in(head), expiry_in(head));
+    let lengths = (key_length_in(head), digits.len() as u32);
+    let start = block_start(chunks, lengths.0 as usize);
+    put_header(
+        chunks,
+        &header_bytes(hash, flags, expiry, unique, updated, lengths),
+    );
     put(chunks, start, digits);
 }
 
@@ -294,20 +323,42 @@ pub(crate) fn write_expiry(chunks: &mut Chunks, expiry: Expiry)
     ensures value { item_in chunks.new ≡ record (item_in chunks.old) { expiry = expiry } }
     ensures holds { HoldsItem chunks.new }
 {
-    let old = Header::read(front(chunks));
-    let header = Header { expiry, ..old };
-    put_header(chunks, header);
+    let head = front(chunks);
+    let (hash, flags, unique) = (hash_in(head), flags_in(head), unique_in(head));
+    let lengths = (key_length_in(head), block_length_in(head));
+    let updated = updated_in(head);
+    put_header(
+        chunks,
+        &header_bytes(hash, flags, expiry, unique, updated, lengths),
+    );
 }
 
 /// Lends the part of the item's block in the chunk at a place, the first at 0.
+#[inline]
 pub(crate) fn part_of(chunks: &Chunks, at: usize) -> &[u8]
     requires item { HoldsItem chunks.now }
     requires place { at < chunks.now.count }
     ensures value { slice_get (parts_of (item_in chunks.now)) at ≡ Some result.now }
     ensures lone { chunks.now.count ≡ 1 → result.now ≡ block_in chunks.now }
 {
-    let (from, to) = ends_of_part(chunks, at);
-    &chunks.part(at)[from..to]
+    if has_head_beside(chunks) {
+        return part_from_begin(chunks, at);
+    }
+    // one chunk, which begins with the head
+    let head = front(chunks);
+    let start = HEADER + key_length_in(head) as usize;
+    &head[start..start + block_length_in(head) as usize]
+}
+
+/// Lends the part of the item's block in the chunk at a place, from class 27 on.
+#[inline(never)]
+fn part_from_begin(chunks: &Chunks, at: usize) -> &[u8]
+    requires item { HoldsItem chunks.now }
+    requires beside { 27 ≤ chunks.now.class }
+    requires place { at < chunks.now.count }
+    ensures { slice_get (parts_of (item_in chunks.now)) at ≡ Some result.now }
+{
+    &chunks.part(at)[..length_at(chunks, at)]
 }
 
 /// Lends the part of the item's block in the chunk at a place for as long as the result is there.
@@ -318,29 +369,26 @@ pub(crate) fn lend_part(chunks: &Chunks, at: usize) -> Option<Lent>
     requires place { at < chunks.now.count }
     ensures { IfSome result (λ lent. slice_get (parts_of (item_in chunks.now)) at ≡ Some lent) }
 {
-    let (from, to) = ends_of_part(chunks, at);
-    chunks.lend(at, from, to)
+    if has_head_beside(chunks) {
+        return chunks.lend(at, 0, length_at(chunks, at));
+    }
+    None
 }
 
-/// Returns where the part of the item's block in the chunk at a place begins and ends.
+/// Returns how many bytes of the item's block lie in the chunk at a place, from class 27 on.
 ///
-/// Both are places within that chunk.
-fn ends_of_part(chunks: &Chunks, at: usize) -> (usize, usize)
+/// The chunk begins with them.
+fn length_at(chunks: &Chunks, at: usize) -> usize
     requires item { HoldsItem chunks.now }
+    requires beside { 27 ≤ chunks.now.class }
     requires place { at < chunks.now.count }
-    ensures order { result.0 ≤ result.1 }
-    ensures within { result.1 ≤ size_of chunks.now.class }
+    ensures within { result ≤ size_of chunks.now.class }
     ensures value { slice_get (parts_of (item_in chunks.now)) at
-        ≡ Some (take (result.1 - result.0) (drop result.0 (chunk_at chunks.now at))) }
+        ≡ Some (take result (chunk_at chunks.now at)) }
 {
-    let head = front(chunks);
-    let size = chunks.first().len();
-    let from = block_start(chunks, key_length_in(head) as usize);
-    let to = from + block_length_in(head) as usize;
-    if at == 0 {
-        return (from, usize::min(to, size));
-    }
-    (0, usize::min(to.saturating_sub(at * size), size))
+    let size = chunks.need().class().size() as usize;
+    let block_len = block_length_in(front(chunks)) as usize;
+    usize::min(block_len.saturating_sub(at * size), size)
 }
 
 /// Appends bytes to a vector that has room for them.

@@ -1,6 +1,5 @@
 use Rattle.std.proofs.Common.{◌≡◌, ◌^◌, ◌≤◌, length, ap, sym, subst, arith}
-use Rattle.mc_item.specs.declared.header.Header.{Header}
-use Rattle.mc_item.specs.Layout.{header_in}
+use Rattle.mc_item.specs.Layout.{header_in, Header}
 use Rattle.mc_item.proofs.RunLemmas.{head_reach}
 use Rattle.mc_item.proofs.run.front.Goals as goal
 

@@ -1,26 +1,22 @@
-use Rattle.std.proofs.Common.{◌≡◌, ◌-◌, length, take, drop, Some, ℕ, List, arith, sym, ◌∙◌, ap, subst}
-use Rattle.std.specs.Prelude.{slice_get}
-use Rattle.mc_slab.specs.Classes.{size_of}
-use Rattle.mc_item.specs.Items.{parts_of}
-use Rattle.mc_item.specs.Layout.{item_in}
-use Rattle.mc_item.proofs.RunLemmas.{length-chunk_at, part-lone}
+use Rattle.std.proofs.Common.{◌≡◌, ◌+◌, ◌-◌, take, drop, refl, Some, sym, ap, ◌∙◌}
+use Rattle.mc_item.specs.Layout.{block_in}
+use Rattle.mc_item.proofs.RunLemmas.{block-below, one_below, part-lone}
 use Rattle.mc_item.proofs.run.part_of.Goals as goal
 
-pub slice_bounds-result-count : goal.slice_bounds-result-count
-slice_bounds-result-count c =
-    let long : length c.part.result.now ≡ size_of c.args.chunks.now.class = ap length c.part.ensures.value ∙ length-chunk_at c.args.chunks.now c.args.at c.requires.item.are c.requires.place in
-    let order = c.ends_of_part-from.ensures.order in
-    let within = c.ends_of_part-from.ensures.within in
-    omega arith
+pub returns-then-has_head_beside-clause-lone : goal.returns-then-has_head_beside-clause-lone
+returns-then-has_head_beside-clause-lone c = λ one.
+    let whole = part-lone c.args.chunks.now c.args.at c.requires.item one c.requires.place in
+    let part = c.part_from_begin.ensures in
+    cc
+
+block : (c : goal.After-result-1)
+    → take (48 + c.key_length_in.result + c.block_length_in.result - (48 + c.key_length_in.result)) (drop (48 + c.key_length_in.result) c.front-head.result.now) ≡ block_in c.args.chunks.now
+block c = block-below c.args.chunks.now c.front-head.result.now _ _ c.requires.item (c.if-has_head_beside.ensures.begins refl) c.front-head.ensures.value c.key_length_in.ensures c.block_length_in.ensures
 
 pub returns-clause-value : goal.returns-clause-value
-returns-clause-value c = c.ends_of_part-from.ensures.value
-    ∙ ap (λ (l : List ℕ). Some (take (c.ends_of_part-from.result.1 - c.ends_of_part-from.result.0) (drop c.ends_of_part-from.result.0 l))) (sym c.part.ensures.value)
+returns-clause-value c =
+    let one = one_below c.args.chunks.now c.requires.item.are (c.if-has_head_beside.ensures.begins refl) in
+    part-lone c.args.chunks.now c.args.at c.requires.item one c.requires.place ∙ ap Some (sym (block c))
 
 pub returns-clause-lone : goal.returns-clause-lone
-returns-clause-lone c = λ one.
-    let place = c.requires.place in
-    let first : c.args.at ≡ 0 = omega arith in
-    part-lone c.args.chunks.now _ c.requires.item one
-    (subst (λ (n : ℕ). slice_get (parts_of (item_in c.args.chunks.now)) n ≡ Some (take (c.ends_of_part-from.result.1 - c.ends_of_part-from.result.0) (drop c.ends_of_part-from.result.0 c.part.result.now)))
-    first (returns-clause-value c))
+returns-clause-lone c = λ _. block c

@@ -2,18 +2,13 @@ use Rattle.std.proofs.Common.{◌≡◌, ◌+◌, ◌++◌, length, take, drop, 
 use Rattle.std.proofs.lemmas.List.{length-append}
 use Rattle.mc_slab.specs.Needs.{NeedState}
 use Rattle.mc_item.specs.Items.{start_of}
-use Rattle.mc_item.specs.Layout.{key_in, block_in, block_start, key_length_in, block_length_in, header_in}
-use Rattle.mc_item.specs.declared.header.Header.{Header}
+use Rattle.mc_item.specs.Layout.{key_in, block_in, block_start, key_length_in, block_length_in, header_in, Header}
 use Rattle.mc_item.proofs.LayoutLemmas.{bytes_behind}
 use Rattle.mc_item.proofs.RunLemmas.{length-key_in, length-block_in, head_reach, block_behind, Headed-anew, Headed-kept, Lies, item_in-Lies, HoldsItem-Lies}
 use Rattle.mc_item.proofs.run.write_behind.Goals as goal
 
 pub put_header-requires-clause-room : goal.put_header-requires-clause-room
 put_header-requires-clause-room c = let reach = head_reach c.args.chunks.now c.requires.item in omega arith
-
--- what is read of the old header
-read : (c : goal.After-put) → c.read-old.result ≡ header_in c.args.chunks.now.head
-read c = c.read-old.ensures ∙ c.front.ensures.header
 
 -- the header that is written
 abbrev header : goal.After-put → Header
@@ -32,30 +27,16 @@ lies c =
     let block : List ℕ = block_in c.args.chunks.now in
     let more : List ℕ = c.args.more.now in
     let headed : List ℕ = c.put_header.new.chunks.head in
-    let long : c.length_in.result ≡ c.read-old.result.block_length + length more = c.length_in.ensures.value in
-    let is : header_in headed ≡ header c =
-    subst
-    (λ (h : Header). header_in headed ≡ record h {
-      flags = c.args.flags;
-      expiry = c.args.expiry;
-      unique = c.args.unique;
-      updated = c.args.updated;
-      block_length = h.block_length + length more;
-    }) (read c) (c.put_header.ensures.value ∙ ap (λ (n : ℕ). record c.read-old.result {
-      flags = c.args.flags;
-      expiry = c.args.expiry;
-      unique = c.args.unique;
-      updated = c.args.updated;
-      block_length = n;
-    }) long) in
-    let k : c.read-old.result.key_length ≡ key_length_in old = ap (λ (h : Header). h.key_length) (read c) in
-    let m : c.read-old.result.block_length ≡ block_length_in old = ap (λ (h : Header). h.block_length) (read c) in
+    let k : c.key_length_in.result ≡ key_length_in old = cc in
+    let m : c.block_length_in-block_len.result ≡ block_length_in old = cc in
+    let long : c.length_in.result ≡ block_length_in old + length more = c.length_in.ensures.value ∙ ap (λ (n : ℕ). n + length more) m in
+    let is : header_in headed ≡ header c = c.put_header.ensures.value ∙ c.header_bytes.ensures.value ∙ cc in
     let key_size = length-key_in c.args.chunks.now c.requires.item in
     let block_size = length-block_in c.args.chunks.now c.requires.item in
     let joined : length (block ++ more) ≡ length block + length more = length-append block more in
     let begin : c.block_start-start.result ≡ block_start c.args.chunks.now = c.block_start-start.ensures.value ∙ ap (start_of c.args.chunks.now.class) k in
     let begins : start_of c.args.chunks.now.class (length key) ≡ block_start c.args.chunks.now = ap (start_of c.args.chunks.now.class) key_size in
-    let start : c.block_start-start.result + c.read-old.result.block_length ≡ block_start c.args.chunks.now + block_length_in old = omega (arith, begin, m) in
+    let start : c.block_start-start.result + c.block_length_in-block_len.result ≡ block_start c.args.chunks.now + block_length_in old = omega (arith, begin, m) in
     let before : take (block_start c.args.chunks.now + block_length_in old + length more) c.put.new.chunks.bytes
     ≡ take (block_start c.args.chunks.now + block_length_in old) c.put_header.new.chunks.bytes ++ more =
     subst (λ (n : ℕ). take (n + length more) c.put.new.chunks.bytes ≡ take n c.put_header.new.chunks.bytes ++ more) start c.put.ensures.before in
@@ -85,4 +66,4 @@ returns-clause-holds c =
     = length-append (block_in c.args.chunks.now) c.args.more.now in
     let room = c.requires.room in
     HoldsItem-Lies _ (header c) (key_in c.args.chunks.now.head) (block_in c.args.chunks.now ++ c.args.more.now) c.put.new.chunks (lies c) c.put.ensures.are
-    (omega (arith, key_size, c.requires.item.key)) (omega (arith, key_size, block_size, joined, room, c.put.ensures.size, c.put_header.ensures.size)) c.put_header.ensures.latest
+    (omega (arith, key_size, c.requires.item.key)) (omega (arith, key_size, block_size, joined, room, c.put.ensures.size, c.put_header.ensures.size)) c.header_bytes.ensures.latest

@@ -1,7 +1,6 @@
 use Rattle.std.proofs.Common.{◌≡◌, ◌+◌, ℕ, arith, ◌∙◌, ap, subst}
 use Rattle.mc_slab.specs.Chunks.{with_part}
-use Rattle.mc_item.specs.Layout.{key_in, block_in, block_start, key_length_in, header_in, KeepsHead}
-use Rattle.mc_item.specs.declared.header.Header.{Header}
+use Rattle.mc_item.specs.Layout.{key_in, block_in, block_start, key_length_in, header_in, KeepsHead, Header}
 use Rattle.mc_item.proofs.LayoutLemmas.{length-with_part}
 use Rattle.mc_item.proofs.PartLemmas.{with_part-from}
 use Rattle.mc_item.proofs.RunLemmas.{chunks_most, start_read, length-key_in, length-block_in, Lies, Lies-written, item_in-Lies, HoldsItem-Lies}

@@ -1,7 +1,6 @@
-use Rattle.std.proofs.Common.{◌≡◌, ℕ, length, take, drop, arith, sym, ◌∙◌, ap, subst, refl}
+use Rattle.std.proofs.Common.{◌≡◌, ℕ, length, take, drop, arith, sym, ◌∙◌, ap, refl}
 use Rattle.mc_item.specs.Items.{start_of}
-use Rattle.mc_item.specs.Layout.{key_in, block_in, block_length_in, header_in}
-use Rattle.mc_item.specs.declared.header.Header.{Header}
+use Rattle.mc_item.specs.Layout.{key_in, block_in, block_length_in, header_in, Header}
 use Rattle.mc_item.proofs.LayoutLemmas.{bytes_behind}
 use Rattle.mc_item.proofs.RunLemmas.{length-key_in, length-block_in, head_reach, Headed-anew, Lies, item_in-Lies, HoldsItem-Lies}
 use Rattle.mc_item.proofs.run.write_expiry.Goals as goal
@@ -20,8 +19,7 @@ lies c =
     let key : ℕ = length (key_in c.args.chunks.now.head) in
     let behind : drop (start_of c.args.chunks.now.class key) c.put_header.new.chunks.bytes ≡ drop (start_of c.args.chunks.now.class key) c.args.chunks.now.bytes =
     bytes_behind c.args.chunks.now c.put_header.new.chunks key c.put_header.ensures.bytes in
-    let is : header_in c.put_header.new.chunks.head ≡ header c =
-    subst (λ (h : Header). header_in c.put_header.new.chunks.head ≡ record h { expiry = c.args.expiry }) (c.read-old.ensures ∙ c.front.ensures.header) c.put_header.ensures.value in
+    let is : header_in c.put_header.new.chunks.head ≡ header c = c.put_header.ensures.value ∙ c.header_bytes.ensures.value ∙ cc in
     record {
       headed = Headed-anew c.args.chunks.now (header c) c.put_header.new.chunks.head c.requires is c.put_header.ensures.behind;
       key_length = sym key_fits;

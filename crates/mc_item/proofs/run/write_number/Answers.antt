@@ -1,18 +1,13 @@
-use Rattle.std.proofs.Common.{◌≡◌, ◌+◌, length, take, drop, ℕ, List, arith, decimal, sym, ◌∙◌, ap, subst, refl}
+use Rattle.std.proofs.Common.{◌≡◌, length, take, drop, ℕ, List, arith, decimal, sym, ◌∙◌, ap, refl}
 use Rattle.std.proofs.lemmas.List.{length-take-le}
 use Rattle.mc_slab.specs.Needs.{NeedState}
 use Rattle.mc_item.specs.Items.{start_of}
-use Rattle.mc_item.specs.Layout.{key_in, key_length_in, header_in, item_in}
-use Rattle.mc_item.specs.declared.header.Header.{Header}
+use Rattle.mc_item.specs.Layout.{key_in, key_length_in, header_in, item_in, Header}
 use Rattle.mc_item.proofs.RunLemmas.{length-key_in, head_reach, behind_at, Headed-anew, Headed-kept, Lies, item_in-Lies, HoldsItem-Lies}
 use Rattle.mc_item.proofs.run.write_number.Goals as goal
 
 pub put_header-requires-clause-room : goal.put_header-requires-clause-room
 put_header-requires-clause-room c = let reach = head_reach c.args.chunks.now c.requires.item in omega arith
-
--- what is read of the old header
-read : (c : goal.After-buffer-2-1) → c.read-old.result ≡ header_in c.args.chunks.now.head
-read c = c.read-old.ensures ∙ c.front.ensures.header
 
 -- the header that is written
 abbrev header : goal.After-buffer-2-1 → Header
@@ -22,10 +17,8 @@ lies : (c : goal.After-buffer-2-1) → Lies c.args.chunks.now.class (header c) (
 lies c =
     let digits : List ℕ = c.as_bytes-digits.result.now in
     let key : List ℕ = key_in c.args.chunks.now.head in
-    let is : header_in c.put_header.new.chunks.head ≡ header c =
-    subst
-    (λ (h : Header). header_in c.put_header.new.chunks.head ≡ record h { unique = c.args.unique; updated = c.args.updated; block_length = length digits }) (read c) c.put_header.ensures.value in
-    let length_is : c.read-old.result.key_length ≡ key_length_in c.args.chunks.now.head = ap (λ (h : Header). h.key_length) (read c) in
+    let is : header_in c.put_header.new.chunks.head ≡ header c = c.put_header.ensures.value ∙ c.header_bytes.ensures.value ∙ cc in
+    let length_is : c.key_length_in.result ≡ key_length_in c.args.chunks.now.head = cc in
     let size : length key ≡ key_length_in c.args.chunks.now.head = length-key_in c.args.chunks.now c.requires.item in
     let start : ℕ = c.block_start-start.result in
     let most = c.block_start-start.ensures.most in
@@ -53,4 +46,4 @@ pub returns-clause-holds : goal.returns-clause-holds
 returns-clause-holds c =
     let size = length-key_in c.args.chunks.now c.requires.item in
     let digits : length c.as_bytes-digits.result.now ≡ length (decimal c.args.number) = ap length (digits_are c) in
-    HoldsItem-Lies _ (header c) (key_in c.args.chunks.now.head) c.as_bytes-digits.result.now c.put.new.chunks (lies c) c.put.ensures.are (omega arith) (omega arith) c.put_header.ensures.latest
+    HoldsItem-Lies _ (header c) (key_in c.args.chunks.now.head) c.as_bytes-digits.result.now c.put.new.chunks (lies c) c.put.ensures.are (omega arith) (omega arith) c.header_bytes.ensures.latest

@@ -1,7 +1,6 @@
 use Rattle.std.proofs.Common.{◌≡◌, ◌∙◌, length, sym, ap, arith}
 use Rattle.mc_item.specs.Items.{ItemState}
-use Rattle.mc_item.specs.Layout.{block_length_in}
-use Rattle.mc_item.specs.declared.header.Header.{Header}
+use Rattle.mc_item.specs.Layout.{block_length_in, Header}
 use Rattle.mc_item.proofs.RunLemmas.{chunks_most, length-block_in}
 use Rattle.mc_item.proofs.item.Item.block_len.Goals as goal
 

@@ -1,6 +1,6 @@
 use Rattle.std.proofs.Common.{◌+◌, ◌∙◌, sym, ap}
 use Rattle.mc_item.specs.Items.{ItemState, charge_of}
-use Rattle.mc_item.specs.declared.header.Header.{Header}
+use Rattle.mc_item.specs.Layout.{Header}
 use Rattle.mc_item.proofs.RunLemmas.{charge_of-item_in}
 use Rattle.mc_item.proofs.item.Item.charge.Goals as goal
 
