@@ -5,10 +5,11 @@ ghost use Rattle.mc_item.specs.Layout.{number_at, number_bytes, header_in, updat
 ghost use Rattle.mc_item.specs.Items.{header_size};
 
 use byteorder::{ByteOrder, LittleEndian};
+use mc_slab::HEADER_SIZE;
 use mc_time::{Expiry, Moment};
 
 /// The number of bytes before the key in an item's first chunk.
-pub(crate) const HEADER: usize = 48;
+pub(crate) const HEADER: usize = HEADER_SIZE;
 
 // Offsets of the header's numbers. The flags, whether the item expires and the lengths have 4 bytes
 // each, the others 8.

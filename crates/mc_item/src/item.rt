@@ -2,7 +2,7 @@
 
 ghost use Rattle.std.specs.Prelude.{◌≡◌, ◌+◌, ◌<◌, ◌≤◌, ◌++◌, [], length, decimal, Some, IfSome, slice_get, OnOk, OnErr, vec_capacity};
 ghost use Rattle.std.specs.List.{concat};
-ghost use Rattle.mc_slab.specs.Chunks.{AreChunks, need_in, with_part};
+ghost use Rattle.mc_slab.specs.Chunks.{AreChunks, largest_block, need_in, with_part};
 ghost use Rattle.mc_slab.specs.Needs.{size_in};
 ghost use Rattle.mc_item.specs.Items.{IsItem, charge_of, header_size, item_need, longest_key};
 ghost use Rattle.mc_item.specs.Items.{parts_of};
@@ -253,10 +253,10 @@ impl Item {
         lend_part(&self.chunks, at)
     }
 
-    /// Returns the length of its block, 0 to 8388560 bytes.
+    /// Returns the length of its block, 0 to [`mc_slab::LARGEST_BLOCK`] bytes.
     pub fn block_len(&self) -> usize
         ensures value { result ≡ length self.now.block }
-        ensures most { result ≤ 8388560 }
+        ensures most { result ≤ largest_block }
         ensures is_item { IsItem self.now }
     {
         block_length_in(front(&self.chunks)) as usize
