@@ -1,4 +1,5 @@
 //! The counters of a worker.
+ghost use Rattle.std.specs.Prelude.{◌≡◌, ◌≤◌, length};
 
 use std::array;
 use std::sync::atomic::{AtomicU64, Ordering};
@@ -128,7 +129,9 @@ impl Counters {
 }
 
 /// Returns the count at an index, and 0 if there is none.
-pub fn count_at(counts: &[AtomicU64], place: usize) -> u64 {
+pub fn count_at(counts: &[AtomicU64], place: usize) -> u64
+    ensures none { length counts.now ≤ place → result ≡ 0 }
+{
     match counts.get(place) {
         Some(count) => count.load(Ordering::SeqCst),
         None => 0,
