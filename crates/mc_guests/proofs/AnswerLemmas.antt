@@ -7,8 +7,9 @@ use Rattle.mc_protocol.specs.declared.step.Steps.{Ghosts as Relations}
 use Rattle.mc_parse.specs.Units.{ProtocolUnit, Request, Fault, LongLine}
 use Rattle.mc_parse.specs.Streams.{AreUnits}
 use Rattle.mc_session.specs.Turns.{SessionState, TakesTurn, Answers, AnswersStep, NoTurnDue, opened, fed}
-use Rattle.mc_session.specs.Serving.{with_written, with_out, Run, nothing as runs_none, turn as runs_turn}
+use Rattle.mc_session.specs.Serving.{with_written, with_out, RunTurn, Run}
 use Rattle.mc_session.proofs.TurnLemmas.{OneSpelling}
+use Rattle.mc_session.proofs.ChainLemmas as chain
 use Rattle.mc_session.proofs.RunLemmas.{run_more, turn_written, fed-fed, fed-with_written}
 use Rattle.mc_session.proofs.StreamLemmas.{run_takes_first, run_takes_all}
 use Rattle.mc_guests.specs.Links.{LinkState, grown}
@@ -146,8 +147,12 @@ module _ {S : Type 0} (relations : Relations S) where
     runs_on turns given taken turn run =
         subst (λ l. Run any_store at_any_time (fed (opened greatest) given) tt l (with_written taken turn.new) tt)
         (sym (map_append (turn_of relations) turns (turn ∷ [])))
-        (runs_turn turn.now run tt
-        (turn_written any_store turn.now turn.old turn.new tt tt taken (turn_anywhere turn.now turn.old turn.new turn.before turn.after turn.takes)))
+        (chain.more (RunTurn any_store at_any_time) (map (turn_of relations) turns) (turn_of relations turn) _ (with_written taken turn.old, tt) _ run (record {
+          now = turn.now;
+          gives = tt;
+          takes = turn_written any_store turn.now turn.old turn.new tt tt taken (turn_anywhere turn.now turn.old turn.new turn.before turn.after turn.takes);
+          is = refl;
+        }))
 
     -- a visit more
     went_visit : (turns : List (TakenTurn relations)) (given taken : List ℕ) (now : ℕ) (answer : Visit) (old new : GuestState) (before after : S)
@@ -203,7 +208,7 @@ module _ {S : Type 0} (relations : Relations S) where
       → Went greatest turns (bytes_given relations visits) (bytes_taken relations visits) new
   visits_went greatest link turns new nothing = record {
     last = opened greatest;
-    run = runs_none;
+    run = refl;
     goes_on = λ _. refl;
     served = λ served. absurd (cc served);
   }

@@ -1,9 +1,10 @@
 -- What was done with an endpoint until now, and a write, a turn or a read more.
-use Rattle.std.proofs.Common.{◌≡◌, ℕ, ◌+◌, ◌^◌, ◌<◌, ◌≤◌, List, [], ◌++◌, length, take, sym, subst, arith, append-nil, Option, Some, None}
+use Rattle.std.proofs.Common.{◌≡◌, ℕ, ◌+◌, ◌^◌, ◌<◌, ◌≤◌, List, [], ◌++◌, length, take, refl, sym, subst, arith, append-nil, Option, Some, None}
 use Rattle.std.specs.Io.KnownBytes.{Appends, Consumes, Keeps}
 use Rattle.std.proofs.KnownBytes.{Consumes-nil, Appends-nil, Consumes-trans, Appends-trans, Appends-kept}
+use Rattle.mc_time.specs.Chains.{none_yet, one_more}
 use Rattle.mc_session.specs.declared.endpoint.Endpoint.{Ghosts as Relations}
-use Rattle.mc_session.specs.Exchanges.{most_waiting, Scene, scene, nothing, front, Wrote, begins, turn, piece, write, Exchanges, no_turn, no_piece, FallsShort}
+use Rattle.mc_session.specs.Exchanges.{most_waiting, Scene, scene, Wrote, turn, piece, write, Exchanges, no_turn, no_piece, FallsShort}
 use Rattle.mc_session.specs.Rounds.{Reads, read_piece, read_nothing, LosesPiece}
 
 -- known bytes that stay lose none
@@ -19,7 +20,7 @@ Goes relations first before last after writer_old writer_new = Wrote relations f
 module _ {E S : Type 0} {relations : Relations E S} where
   -- no part
   pub wrote_nothing : (endpoint : E) (store : S) (writer : Option (List ℕ)) → Wrote relations endpoint store endpoint store writer writer
-  wrote_nothing endpoint store writer = record { written = []; writes = nothing; appends = Appends-nil writer }
+  wrote_nothing endpoint store writer = record { written = []; writes = (0, none_yet); appends = Appends-nil writer }
 
   -- a front of the output more
   pub goes_front : {first mid new last : E} {before between after end : S} {a b c : Option (List ℕ)} {out : List ℕ} (n : ℕ) → last ≡ new → end ≡ after
@@ -31,7 +32,7 @@ module _ {E S : Type 0} {relations : Relations E S} where
       (subst (λ s. Goes relations first before new s a c) (sym same_store) (
         record {
           written = wrote.written ++ take n (relations.waits mid between);
-          writes = front n wrote.writes sends;
+          writes = (wrote.writes.0 + 1, one_more wrote.writes.1 (record { count = n; sends = sends; written = refl }));
           appends = Appends-trans a b c wrote.written (take n (relations.waits mid between)) wrote.appends (subst (λ o. Appends b c (take n o)) is appends);
         },
         λ first_idle. idle_still (idle first_idle),
@@ -48,7 +49,7 @@ module _ {E S : Type 0} {relations : Relations E S} where
 module _ {E S : Type 0} {relations : Relations E S} {may_give : ℕ → Type 0} where
   -- before the first round
   abbrev pub exchanges_nothing : (here : Scene E S) → Exchanges relations may_give 0 here here
-  exchanges_nothing here = record { turns = 0; few = omega arith; read = []; written = []; exchange = begins; consumes = Consumes-nil here.reader; appends = Appends-nil here.writer }
+  exchanges_nothing here = record { turns = 0; few = omega arith; read = []; written = []; exchange = (0, none_yet); consumes = Consumes-nil here.reader; appends = Appends-nil here.writer }
 
   abbrev pub at_most : {most more : ℕ} {old new : Scene E S} → most ≤ more → Exchanges relations may_give most old new → Exchanges relations may_give more old new
   at_most less so_far = record {
@@ -70,7 +71,7 @@ module _ {E S : Type 0} {relations : Relations E S} {may_give : ℕ → Type 0} 
     few = so_far.few;
     read = so_far.read;
     written = so_far.written ++ wrote.written;
-    exchange = write wrote.written so_far.exchange wrote.writes;
+    exchange = (so_far.exchange.0 + 1, one_more so_far.exchange.1 (write wrote.written wrote.writes));
     consumes = so_far.consumes;
     appends = Appends-trans first.writer a b so_far.written wrote.written so_far.appends wrote.appends;
   }
@@ -84,7 +85,7 @@ module _ {E S : Type 0} {relations : Relations E S} {may_give : ℕ → Type 0} 
     few = omega (arith, so_far.few);
     read = so_far.read;
     written = so_far.written;
-    exchange = turn now so_far.exchange small gives turns;
+    exchange = (so_far.exchange.0 + 1, one_more so_far.exchange.1 (turn now gives small turns));
     consumes = so_far.consumes;
     appends = so_far.appends;
   }
@@ -98,7 +99,7 @@ module _ {E S : Type 0} {relations : Relations E S} {may_give : ℕ → Type 0} 
     few = so_far.few;
     read = so_far.read ++ bytes;
     written = so_far.written;
-    exchange = piece bytes short so_far.exchange idle all_written takes;
+    exchange = (so_far.exchange.0 + 1, one_more so_far.exchange.1 (piece bytes short idle all_written takes));
     consumes = Consumes-trans first.reader a b so_far.read bytes so_far.consumes consumes;
     appends = so_far.appends;
   }

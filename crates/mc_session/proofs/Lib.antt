@@ -1,8 +1,9 @@
+pub mod ChainLemmas
 pub mod LeftLemmas
 pub mod FeedLemmas
 pub mod TurnLemmas
 pub mod RunLemmas
-pub mod CourseLemmas
+pub mod PieceLemmas
 pub mod ExchangeLemmas
 pub mod ServeLemmas
 pub mod StreamLemmas

@@ -5,7 +5,8 @@ use Rattle.mc_parse.specs.Units.{ProtocolUnit}
 use Rattle.mc_parse.specs.Streams.{is_last, passed_after}
 use Rattle.mc_parse.specs.Feeds.{Unread, pushed, settled}
 use Rattle.mc_session.specs.Turns.{SessionState, TakesTurn, turn_count, closed, fed, opened}
-use Rattle.mc_session.specs.Serving.{with_written, Run, nothing, turn}
+use Rattle.mc_session.specs.Serving.{with_written, Run, RunTurn}
+use Rattle.mc_session.proofs.ChainLemmas as chain
 use Rattle.mc_parse.proofs.FeedLemmas.{pushed_settled, pushed_twice}
 use Rattle.mc_session.proofs.FeedLemmas.{spells_bytes, front_stays}
 
@@ -84,12 +85,19 @@ module _ {S : Type 0} (relations : Relations S) where
       let moves = ap (with_written written) t.moves ∙ moved_written old t.unit t.rest t.text written (is_last t.unit) (old.taken + 1 == turn_count t.unit) in
       record { unit = t.unit; front = t.front; rest = t.rest; text = t.text; opens = t.opens; parts = t.parts; spelled = t.spelled; due = t.due; answers = t.answers; moves = moves }
 
-  -- a run is a run of the longer stream
-  pub run_more : (may_give : ℕ → Type 0) (first last : SessionState) (before after : S) (turns : List (ProtocolUnit × ℕ)) (more : List ℕ) → Run relations may_give first before turns last after
-      → Run relations may_give (fed first more) before turns (fed last more) after
-  unfolding turn_more
-  run_more may_give first last before after turns more nothing = nothing
-  run_more may_give first last before after turns more (turn {mid = mid} {between = between} {taken = taken} now run gives takes) =
-      turn now
-      (subst (λ s. Run relations may_give (fed first more) before taken s between) (fed_open mid more takes.opens) (run_more may_give first mid before between taken more run))
-      gives (turn_more now mid last between after more takes)
+  module _ (may_give : ℕ → Type 0) where
+    -- a turn of a run is one of the longer stream
+    run_turn_more : (more : List ℕ) (old new : SessionState × S) (turn : ProtocolUnit × ℕ) → RunTurn relations may_give old turn new → Unit {0}
+        → Unit {0} × RunTurn relations may_give (fed old.0 more, old.1) turn (fed new.0 more, new.1)
+    unfolding turn_more
+    run_turn_more more old new turn one _ = (
+      tt,
+      subst (λ (s : SessionState). RunTurn relations may_give (s, old.1) turn (fed new.0 more, new.1)) (sym (fed_open old.0 more one.takes.opens))
+          (record { now = one.now; gives = one.gives; takes = turn_more one.now old.0 new.0 old.1 new.1 more one.takes; is = one.is }),
+    )
+
+    -- a run is a run of the longer stream
+    pub run_more : (first last : SessionState) (before after : S) (turns : List (ProtocolUnit × ℕ)) (more : List ℕ) → Run relations may_give first before turns last after
+        → Run relations may_give (fed first more) before turns (fed last more) after
+    run_more first last before after turns more run =
+        chain.along (RunTurn relations may_give) (RunTurn relations may_give) (λ s. (fed s.0 more, s.1)) (λ _. Unit {0}) (run_turn_more more) turns (first, before) (last, after) tt run

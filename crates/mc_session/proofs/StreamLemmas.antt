@@ -13,7 +13,7 @@ use Rattle.mc_parse.specs.Peeks.{BeginsWithNone}
 use Rattle.mc_parse.specs.Streams.{AreUnits, is_last, is_quit_by, passed_after}
 use Rattle.mc_parse.specs.Feeds.{Unread, settled}
 use Rattle.mc_session.specs.Turns.{SessionState, TakesTurn, NoTurnDue, HasUnits, turn_count, turns_from, turns, opened, fed, closed}
-use Rattle.mc_session.specs.Serving.{Run, nothing, turn}
+use Rattle.mc_session.specs.Serving.{Run}
 use Rattle.mc_session.proofs.TurnLemmas.{OneSpelling}
 
 -- what is passed over once isn't passed over again
@@ -151,13 +151,16 @@ module _ {S : Type 0} (relations : Relations S) (law : OneSpelling) where
         (subst (λ unit. MatchBool (is_last unit) (us ≡ []) (AreUnits old.unread.greatest (passed_after unit) are.1 us)) same.0 are.4))
 
   -- so does each turn of a run
-  after_run : (may_give : ℕ → Type 0) (first last : SessionState) (before after : S) (all taken : List (ProtocolUnit × ℕ)) → After all [] first
-      → Run relations may_give first before taken last after → After all taken last
-  after_run may_give first last before after all turns left nothing = left
-  after_run may_give first last before after all turns left (turn {mid = mid} {between = between} {taken = taken} now run gives takes) =
-      let had : HasLeft all taken mid.unread mid.taken =
-      subst (λ is_open. MatchBool is_open (HasLeft all taken mid.unread mid.taken) (all ≡ taken)) takes.opens (after_run may_give first mid before between all taken left run) in
-      after_turn now mid last between after takes all taken had.units had.are had.parts
+  after_run : (may_give : ℕ → Type 0) (first last : SessionState) (before after : S) (all taken more : List (ProtocolUnit × ℕ)) → After all taken first
+      → Run relations may_give first before more last after → After all (taken ++ more) last
+  after_run may_give first last before after all taken [] left run =
+      subst (λ (turns : List (ProtocolUnit × ℕ)). After all turns last) (sym (append-nil taken)) (subst (λ (s : SessionState × S). After all taken s.0) (sym run) left)
+  after_run may_give first last before after all taken (turn ∷ more) left (mid, one, run) =
+      let had : HasLeft all taken first.unread first.taken =
+      subst (λ is_open. MatchBool is_open (HasLeft all taken first.unread first.taken) (all ≡ taken)) one.takes.opens left in
+      let with_it : After all (taken ++ turn ∷ []) mid.0 =
+      subst (λ (turn : ProtocolUnit × ℕ). After all (taken ++ turn ∷ []) mid.0) (sym one.is) (after_turn one.now first mid.0 before mid.1 one.takes all taken had.units had.are had.parts) in
+      subst (λ (turns : List (ProtocolUnit × ℕ)). After all turns last) (append_assoc taken (turn ∷ []) more) (after_run may_give mid.0 last mid.1 after all (taken ++ turn ∷ []) more with_it run)
 
 -- what was taken comes first
 first_taken : (all taken : List (ProtocolUnit × ℕ)) (unread : Unread) (at : ℕ) (is_open : Bool) → MatchBool is_open (HasLeft all taken unread at) (all ≡ taken)
@@ -180,7 +183,7 @@ all_taken all taken unread at true left (inr none) = none_left all taken unread 
 module _ {S : Type 0} (relations : Relations S) (may_give : ℕ → Type 0) (law : OneSpelling) (greatest : ℕ) (read : List ℕ) (units : List ProtocolUnit) (taken : List (ProtocolUnit × ℕ))
     (last : SessionState) (before after : S) (are : AreUnits greatest 0 read units) (run : Run relations may_give (fed (opened greatest) read) before taken last after) where
   left_after : After (turns units) taken last
-  left_after = after_run relations law may_give (fed (opened greatest) read) last before after (turns units) taken (before_all greatest read units are) run
+  left_after = after_run relations law may_give (fed (opened greatest) read) last before after (turns units) [] taken (before_all greatest read units are) run
 
   pub run_takes_first : (later : List (ProtocolUnit × ℕ)) × (turns units ≡ taken ++ later)
   run_takes_first = first_taken (turns units) taken last.unread last.taken last.is_open left_after

@@ -1,6 +1,7 @@
 -- What happens at one end of a connection over a reader and a writer.
 use Rattle.std.specs.Prelude.{◌≡◌, ◌⊎◌, ℕ, ◌+◌, ◌^◌, ◌<◌, ◌≤◌, List, [], ◌++◌, length, take, Option}
 use Rattle.std.specs.Io.KnownBytes.{Appends, Consumes, IsAtEnd}
+use Rattle.mc_time.specs.Chains.{Repeats}
 use Rattle.mc_session.specs.declared.endpoint.Endpoint.{Ghosts as Relations}
 
 -- the most bytes that are read at once
@@ -23,13 +24,26 @@ abbrev pub scene : {E S : Type 0} → E → S → (reader writer : Option (List 
 scene endpoint store reader writer =
     record { endpoint = endpoint; store = store; reader = reader; writer = writer }
 
+-- an endpoint and its store, and what was done until now: the number of turns given, what was read
+-- and what was written
+pub record Progress (E S : Type 0) : Type 0 where
+  pub endpoint : E
+  pub store : S
+  pub turns : ℕ
+  pub read : List ℕ
+  pub written : List ℕ
+
 module _ {E S : Type 0} (relations : Relations E S) where
+  -- a front of the output was written, behind what was written before it
+  pub record WritesOnce (old new : E × S × List ℕ) : Type 0 where
+    pub count : ℕ
+    pub sends : relations.sends count old.0 old.1 new.0 new.1
+    pub written : new.2 ≡ old.2 ++ take count (relations.waits old.0 old.1)
+
   -- these bytes of the output were written, front by front
-  pub data Writes (first : E) (before : S) : List ℕ → E → S → Type 0 where
-    nothing : Writes first before [] first before
-    front : {written : List ℕ} {mid last : E} {between after : S} (n : ℕ)
-        → Writes first before written mid between → relations.sends n mid between last after
-        → Writes first before (written ++ take n (relations.waits mid between)) last after
+  abbrev pub Writes : E → S → List ℕ → E → S → Type 0
+  Writes first before written last after =
+      (fronts : ℕ) × Repeats WritesOnce fronts (first, before, []) (last, after, written)
 
   -- what a call that writes does to an endpoint and a writer
   pub record Wrote (old : E) (before : S) (new : E) (after : S)
@@ -44,27 +58,30 @@ module _ {E S : Type 0} (relations : Relations E S) where
       ⊎ (relations.is_idle endpoint store × IsAtEnd reader)
 
 module _ {E S : Type 0} (relations : Relations E S) (may_give : ℕ → Type 0) where
-  -- What was done with an endpoint: the number of turns given, what was read and what was written.
-  -- Each turn was given at a moment that the clock may give, with less than 64 KiB of output.
-  -- Pieces of at most `longest_piece` bytes came only while no turn was due and no output was left.
-  pub data Exchange (first : E) (before : S) : (turns : ℕ) → (read written : List ℕ) → E → S
-      → Type 0 where
-    begins : Exchange first before 0 [] [] first before
-    turn : {turns : ℕ} {read written : List ℕ} {mid last : E} {between after : S} (now : ℕ)
-        → Exchange first before turns read written mid between
-        → length (relations.waits mid between) < most_waiting → may_give now
-        → relations.turns now mid between last after
-        → Exchange first before (turns + 1) read written last after
-    piece : {turns : ℕ} {read written : List ℕ} {mid last : E} {between after : S}
-        (bytes : List ℕ) → length bytes ≤ longest_piece
-        → Exchange first before turns read written mid between
-        → relations.is_idle mid between → relations.waits mid between ≡ []
-        → relations.takes bytes mid between last after
-        → Exchange first before turns (read ++ bytes) written last after
-    write : {turns : ℕ} {read written : List ℕ} {mid last : E} {between after : S}
-        (bytes : List ℕ) → Exchange first before turns read written mid between
-        → Writes relations mid between bytes last after
-        → Exchange first before turns read (written ++ bytes) last after
+  -- What is done next with an endpoint: a turn is given at a moment that the clock may give, with
+  -- less than 64 KiB of output; a piece of at most `longest_piece` bytes comes, while no turn is
+  -- due and no output is left; or output is written.
+  pub data ExchangeStep (old : Progress E S) : Progress E S → Type 0 where
+    turn : {last : E} {after : S} (now : ℕ) → may_give now
+        → length (relations.waits old.endpoint old.store) < most_waiting
+        → relations.turns now old.endpoint old.store last after
+        → ExchangeStep old (record old { endpoint = last; store = after; turns = old.turns + 1 })
+    piece : {last : E} {after : S} (bytes : List ℕ) → length bytes ≤ longest_piece
+        → relations.is_idle old.endpoint old.store → relations.waits old.endpoint old.store ≡ []
+        → relations.takes bytes old.endpoint old.store last after
+        → ExchangeStep old
+        (record old { endpoint = last; store = after; read = old.read ++ bytes })
+    write : {last : E} {after : S} (bytes : List ℕ)
+        → Writes relations old.endpoint old.store bytes last after
+        → ExchangeStep old
+        (record old { endpoint = last; store = after; written = old.written ++ bytes })
+
+  -- what was done with an endpoint, step by step
+  abbrev pub Exchange : E → S → (turns : ℕ) → (read written : List ℕ) → E → S → Type 0
+  Exchange first before turns read written last after =
+      (steps : ℕ) × Repeats ExchangeStep steps
+      (record { endpoint = first; store = before; turns = 0; read = []; written = [] })
+      (record { endpoint = last; store = after; turns = turns; read = read; written = written })
 
   -- With at most this many turns: what was read came from the reader, and what was written went to
   -- the writer.

@@ -5,7 +5,9 @@ ghost use Rattle.mc_parse.specs.Units.{ProtocolUnit};
 ghost use Rattle.mc_parse.specs.Streams.{AreUnits};
 ghost use Rattle.mc_parse.specs.Feeds.{Unread, settled};
 ghost use Rattle.mc_session.specs.Turns.{SessionState, NoTurnDue, to_read, HasUnits, turns, opened, fed};
-ghost use Rattle.mc_session.specs.Serving.{Run, Course, with_written};
+ghost use Rattle.mc_session.specs.Endpoints.{in_session};
+ghost use Rattle.mc_session.specs.Exchanges.{Exchange};
+ghost use Rattle.mc_session.specs.Serving.{Run, turns_taken, with_written};
 
 use mc_parse::no_spelling_begins_another;
 use mc_protocol::Steps;
@@ -35,14 +37,16 @@ pub fn a_run_takes_the_turns_of_its_stream<S: Steps, C: Clock>()
 /// written, and then the output that isn't written yet. Each turn is one of the calls.
 pub fn the_pieces_of_a_stream_do_not_matter<S: Steps, C: Clock>()
     ensures run { (clock : C) (greatest calls : ℕ) (read written : List ℕ)
-        (taken : List (ProtocolUnit × ℕ)) (last : SessionState) (before after : S) →
-        Course S.Steps (C.may_give clock) greatest before calls read written taken last after →
-        Run S.Steps (C.may_give clock) (fed (opened greatest) read) before taken
-        (with_written written last) after }
+        (last : SessionState) (before after : S) →
+        (exchange : Exchange (in_session S.Steps) (C.may_give clock) (opened greatest) before
+        calls read written last after) →
+        Run S.Steps (C.may_give clock) (fed (opened greatest) read) before
+        (turns_taken S.Steps (C.may_give clock) exchange.1) (with_written written last) after }
     ensures few { (clock : C) (greatest calls : ℕ) (read written : List ℕ)
-        (taken : List (ProtocolUnit × ℕ)) (last : SessionState) (before after : S) →
-        Course S.Steps (C.may_give clock) greatest before calls read written taken last after →
-        length taken ≤ calls }
+        (last : SessionState) (before after : S) →
+        (exchange : Exchange (in_session S.Steps) (C.may_give clock) (opened greatest) before
+        calls read written last after) →
+        length (turns_taken S.Steps (C.may_give clock) exchange.1) ≤ calls }
 {}
 
 /// States that skipped bytes may be dropped as soon as they come.

@@ -1,9 +1,11 @@
+use Rattle.std.proofs.Common.{refl}
 use Rattle.mc_session.proofs.ExchangeLemmas.{then_wrote}
-use Rattle.mc_session.proofs.ServeLemmas.{serves, serves_all, serves_until, serves_none, on_ok}
+use Rattle.mc_session.specs.Serving.{no_buffer}
+use Rattle.mc_session.proofs.ServeLemmas.{serves, serves_all, serves_until, on_ok}
 use Rattle.mc_session.proofs.serving.serve.Goals as goal
 
 pub returns-in-Err-clause-memory : goal.returns-in-Err-clause-memory
-returns-in-Err-clause-memory g c = λ _. serves_none c.args.greatest c.args.store.now (g.R.Read.remaining c.args.reader.now) (g.W.Write.contents c.args.writer.now)
+returns-in-Err-clause-memory g c = λ _. no_buffer refl refl refl
 
 pub returns-in-Ok-serve_endpoint-clause-ok : goal.returns-in-Ok-serve_endpoint-clause-ok
 returns-in-Ok-serve_endpoint-clause-ok g c =
