@@ -7,7 +7,7 @@ use Rattle.mc_world.proofs.Words.{with_piece, after_turn, ended, PlainWorld, in_
 use Rattle.mc_world.proofs.Words.{Turns, Happens, named, Runs, with_end, EventDecides, TakesMemory, GivesUp, in_front, with_front}
 use Rattle.mc_world.proofs.Words.{Event, Open, Piece, Turn, Clock, Grow, Purge, Close, IfSome, ◌↔◌, KeyStep}
 use Rattle.mc_world.proofs.Words.{Fault, LongLine, plain_text, AnswersStep, step_of, NextHasNoStep, DecidesNoStep, IsApart}
-use Rattle.mc_world.proofs.ChainLemmas as chain
+use Rattle.mc_session.proofs.ChainLemmas as chain
 
 -- the element of that number, counted from 1
 abbrev pub at_number : {A : Type 0} → List A → ℕ → (A → A) → List A

@@ -1,5 +1,4 @@
 pub mod Words
-pub mod ChainLemmas
 pub mod ConnectionLemmas
 pub mod EventLemmas
 pub mod AnswerLemmas

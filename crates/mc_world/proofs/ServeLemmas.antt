@@ -1,15 +1,16 @@
 -- What was served of a session until now, a turn, a write or a read more, and a whole run. First, what was written of a
 -- session, in front of its output and of its connection's.
 use Rattle.mc_world.proofs.Words.{◌≡◌, ℕ, zero, suc, ◌≤◌, Bool, true, false, List, [], ◌∷◌, ◌++◌, length, take, Option, Some, None, refl, sym, ap, ◌∙◌, subst, arith, append_assoc, if◌then◌else◌}
-use Rattle.mc_world.proofs.Words.{option_map, take-append-drop, SessionState, sent, Writes, nothing, front, Connection, PlainWorld, WorldState, numbered, output_of, open_session, IsIdle, IsClosed}
+use Rattle.mc_world.proofs.Words.{option_map, take-append-drop, SessionState, sent, Writes, WritesOnce, Connection, PlainWorld, WorldState, numbered, output_of, open_session, IsIdle, IsClosed}
 use Rattle.mc_world.proofs.Words.{StandAll, WorldStandsAs, RunsIn, Told, with_written, in_front, with_front, in_world, with_sent, Event}
 use Rattle.mc_world.proofs.Words.{WorldSession, ◌+◌, ◌<◌, length-append, ◌⊎◌, inl, inr, ◌^◌, Result, Ok, Err}
-use Rattle.mc_world.proofs.Words.{OnOk, mod-eq_of_lt, lt-ltb, IsAtEnd, Appends-nil, Appends-trans, Consumes-trans, Settings, Exchange, Wrote, Exchanges, HasEnded, Refusal, no_turn, no_piece}
+use Rattle.mc_world.proofs.Words.{OnOk, mod-eq_of_lt, lt-ltb, IsAtEnd, Appends-nil, Appends-trans, Consumes-trans, Settings, Progress, ExchangeStep, Exchange, Wrote, Exchanges, HasEnded, Refusal, no_turn, no_piece}
 use Rattle.mc_world.proofs.Words.{FallsShort, ServeFault, fresh, ended, Runs, at_connection, Happens, RunsUntil, named, with_end, GivesUp, next_session, waiting, most_waiting, most_turns, shelf_of}
-use Rattle.mc_world.proofs.Words.{turn_events, IsService, starts, turn, piece, write, scene, IsRefusal, refused_turn, refused_piece, UntilRefused, Served, ServedAll, seat, one_more, Begins, HasServed}
+use Rattle.mc_world.proofs.Words.{turn_events, Service, ServiceStep, IsService, turn, piece, write, scene, IsRefusal, refused_turn, refused_piece, UntilRefused, Served, ServedAll, seat, one_more, Begins, HasServed}
 use Rattle.mc_world.proofs.Words.{Open, Piece, Turn, Clock, Close, Came, longest_piece, EventMoves, EventsMove}
+use Rattle.mc_time.specs.Chains as chains
 use Rattle.mc_session.specs.Exchanges as exchanges
-use Rattle.mc_world.proofs.ChainLemmas as chain
+use Rattle.mc_session.proofs.ChainLemmas as chain
 use Rattle.mc_world.proofs.ConnectionLemmas.{StandsIf, stand_out, stand_length}
 use Rattle.mc_world.proofs.EventLemmas.{with_connections, NoneOpens, runs_passed, at_number, changed_is, number_twice, number_nothing, number_get, grown, runs_inside, opens, change_twice}
 use Rattle.mc_world.proofs.EventLemmas.{gives_up_fronted, takes_fronted, changed_length, if_opened}
@@ -73,15 +74,19 @@ written_sent : {K : Type 0} (n k : ℕ) (w : WorldState K) → with_written n (t
 written_sent n k w = ap (with_sessions w) (simp changed_is (sent_number k n w.sessions))
 
 -- what was written was the front of the session's output
+fronts_written : {K : Type 0} {hash_of : K → List ℕ → ℕ} {s : WorldSession} {old : WorldState K} (fronts : ℕ) (new : WorldSession × WorldState K × List ℕ)
+    → chains.Repeats (WritesOnce (in_world hash_of)) fronts (s, old, []) new → (new.0 ≡ s) × (old ≡ with_written s.number new.2 new.1)
+fronts_written {s = s} {old = old} fronts new chains.none_yet = (refl, sym (written_nothing s.number old))
+fronts_written {s = s} fronts new (chains.one_more {count = count} {mid = mid} writes once) = let so_far = fronts_written count mid writes in let (same, is) = once.sends in
+    let part = take once.count (output_of (numbered mid.0.number mid.1.sessions)) in let n = mid.0.number in (
+      same ∙ so_far.0,
+      so_far.1 ∙ ap (with_written s.number mid.2) (sym (written_sent n once.count mid.1) ∙ ap (with_written n part) (sym is) ∙ ap (λ (m : WorldSession). with_written m.number part new.1) so_far.0)
+          ∙ written_twice s.number mid.2 part new.1 ∙ ap (λ (written : List ℕ). with_written s.number written new.1) (sym once.written),
+    )
+
 pub was_written : {K : Type 0} {hash_of : K → List ℕ → ℕ} {s : WorldSession} {old : WorldState K} {part : List ℕ} {last : WorldSession} {new : WorldState K}
     → Writes (in_world hash_of) s old part last new → (last ≡ s) × (old ≡ with_written s.number part new)
-was_written {s = s} {old = old} nothing = (refl, sym (written_nothing s.number old))
-was_written {s = s} {new = new} (front {written = written} {mid = mid} {between = between} k writes (same, is)) = let so_far = was_written writes in
-    let part = take k (output_of (numbered mid.number between.sessions)) in (
-      same ∙ so_far.0,
-      so_far.1 ∙ ap (with_written s.number written) (sym (written_sent mid.number k between) ∙ ap (with_written mid.number part) (sym is) ∙ ap (λ (m : WorldSession). with_written m.number part new) so_far.0)
-          ∙ written_twice s.number written part new,
-    )
+was_written writes = fronts_written writes.0 _ writes.1
 
 -- they make a session no less idle or closed
 numbered_written : {K : Type 0} (n : ℕ) (bytes : List ℕ) (w : WorldState K) → numbered n (with_written n bytes w).sessions ≡ option_map (before bytes) (numbered n w.sessions)
@@ -116,12 +121,16 @@ BeginsOpen events = (rest : List Event) × (events ≡ Open ∷ rest)
 opens_more : (events more : List Event) → BeginsOpen events → BeginsOpen (events ++ more)
 opens_more events more (rest, is) = (rest ++ more, ap (λ (l : List Event). l ++ more) is)
 
-service_opens : {K : Type 0} {hash_of : K → List ℕ → ℕ} {may_give : ℕ → Type 0} {n : ℕ} {old : WorldState K} {events : List Event} {read written : List ℕ} {turns : ℕ}
-    → IsService hash_of may_give n old events read written turns → BeginsOpen events
-service_opens starts = ([], refl)
-service_opens (turn now gives room service) = opens_more _ _ (service_opens service)
-service_opens (piece bytes short idle all_written service) = opens_more _ _ (service_opens service)
-service_opens (write bytes service) = service_opens service
+step_opens : {K : Type 0} {hash_of : K → List ℕ → ℕ} {may_give : ℕ → Type 0} {n : ℕ} {first : WorldState K} (old new : Service) → ServiceStep hash_of may_give n first old new
+    → BeginsOpen old.events → BeginsOpen new.events
+step_opens old new (turn now gives room) begins = opens_more _ _ begins
+step_opens old new (piece bytes short idle all_written) begins = opens_more _ _ begins
+step_opens old new (write bytes) begins = begins
+
+service_opens : {K : Type 0} {hash_of : K → List ℕ → ℕ} {may_give : ℕ → Type 0} {n : ℕ} {first : WorldState K} {done : Service}
+    → IsService hash_of may_give n first done → BeginsOpen done.events
+service_opens {hash_of = hash_of} {may_give = may_give} {n = n} {first = first} service =
+    chain.repeats_keep (ServiceStep hash_of may_give n first) (λ done. BeginsOpen done.events) step_opens service.0 _ _ service.1 ([], refl)
 
 -- one connection more is there behind an opening
 opened_behind : (hash : List ℕ → ℕ) (shelves : ℕ) (first last : PlainWorld) (rest : List Event) → length first.connections < 65535 → Runs hash shelves first (Open ∷ rest) last
@@ -131,6 +140,10 @@ opened_behind hash shelves first last rest room (mid, happens, runs) = let more 
     ∙ length-append first.connections (fresh first.greatest ∷ []) in runs_inside hash shelves (length first.connections + 1) [] rest mid last runs (omega (arith, more))
 
 module _ {K : Type 0} {hash_of : K → List ℕ → ℕ} {may_give : ℕ → Type 0} {n : ℕ} {first : WorldState K} where
+  -- a step more
+  pub one_step : {done now : Service} → IsService hash_of may_give n first done → ServiceStep hash_of may_give n first done now → IsService hash_of may_give n first now
+  one_step service step = (service.0 + 1, chains.one_more service.1 step)
+
   -- more events behind what was served
   pub told_behind : {turns : ℕ} {read written : List ℕ} {now new : WorldState K} {more : List Event} (served : HasServed hash_of may_give n first turns read written now)
       → NoneOpens more → Told hash_of now more new → Told hash_of first (served.events ++ more) (with_written n written new)
@@ -138,7 +151,7 @@ module _ {K : Type 0} {hash_of : K → List ℕ → ℕ} {may_give : ℕ → Typ
 
   -- before the first round
   pub served_nothing : {new : WorldState K} → Begins hash_of n first new → HasServed hash_of may_give n first 0 [] [] new
-  served_nothing {new = new} begins = record { events = Open ∷ []; service = starts; told = subst (λ (w : WorldState K). Told hash_of first (Open ∷ []) w) (sym (written_nothing n new)) begins.told }
+  served_nothing {new = new} begins = record { events = Open ∷ []; service = (0, chains.none_yet); told = subst (λ (w : WorldState K). Told hash_of first (Open ∷ []) w) (sym (written_nothing n new)) begins.told }
 
   -- the session was opened
   pub served_inside : {start now : WorldState K} {turns : ℕ} {read written : List ℕ} → Begins hash_of n first start
@@ -155,39 +168,45 @@ module _ {K : Type 0} {hash_of : K → List ℕ → ℕ} {may_give : ℕ → Typ
       → HasServed hash_of may_give n first (turns + 1) read written new
   then_turned {turns = turns} {written = written} {old = old} {new = new} now gives room told served = let events : ℕ → List Event = λ shelves. turn_events n (shelf_of turns shelves) now in
       let all = subst (λ (s : Settings). Told hash_of first (served.events ++ events s.shelves) (with_written n written new)) served.told.settings (told_behind served tt told) in
-      record { events = served.events ++ events first.settings.shelves; service = turn now gives (record { world = old; told = served.told; room = room }) served.service; told = all }
+      record { events = served.events ++ events first.settings.shelves; service = one_step served.service (turn now gives (record { world = old; told = served.told; room = room })); told = all }
 
   -- a write
   then_wrote : {turns : ℕ} {read written : List ℕ} {old new : WorldState K} (part : List ℕ) → old ≡ with_written n part new
       → HasServed hash_of may_give n first turns read written old → HasServed hash_of may_give n first turns read (written ++ part) new
   then_wrote {written = written} {new = new} part parts served =
       let all = subst (λ (w : WorldState K). Told hash_of first served.events w) (ap (with_written n written) parts ∙ written_twice n written part new) served.told in
-      record { events = served.events; service = write part served.service; told = all }
+      record { events = served.events; service = one_step served.service (write part); told = all }
 
   -- a read
   then_read : {turns : ℕ} {read written : List ℕ} {old new : WorldState K} (bytes : List ℕ) → length bytes ≤ longest_piece
       → IsIdle (numbered n old.sessions) → output_of (numbered n old.sessions) ≡ []
       → Told hash_of old (Piece n bytes ∷ []) new → HasServed hash_of may_give n first turns read written old → HasServed hash_of may_give n first turns (read ++ bytes) written new
   then_read {old = old} bytes short idle all_written told served =
-      record { events = served.events ++ Piece n bytes ∷ []; service = piece bytes short (record { world = old; told = served.told; idle = idle }) all_written served.service; told = told_behind served tt told }
+      record { events = served.events ++ Piece n bytes ∷ []; service = one_step served.service (piece bytes short (record { world = old; told = served.told; idle = idle }) all_written); told = told_behind served tt told }
 
-  -- what was done with the session as an endpoint of its world
+module _ {K : Type 0} (hash_of : K → List ℕ → ℕ) (may_give : ℕ → Type 0) (n : ℕ) (first : WorldState K) where
+  -- what was done with the session as an endpoint of its world was served, if it is few turns
+  abbrev Serves : Progress WorldSession (WorldState K) → Type 0
+  Serves done = done.turns ≤ most_turns → (done.endpoint ≡ seat n done.turns) × HasServed hash_of may_give n first done.turns done.read done.written done.store
+
+  step_serves : (old new : Progress WorldSession (WorldState K)) → ExchangeStep (in_world hash_of) may_give old new → Serves old → Serves new
+  step_serves old new (exchanges.turn now gives small (same, told)) so_far few = let (is, served) = so_far (omega (arith, few)) in (
+    same ∙ ap one_more is ∙ ap (seat n) (mod-eq_of_lt (omega (arith, few))),
+    then_turned now gives (subst (λ (s : WorldSession). waiting s.number old.store < most_waiting) is small)
+        (subst (λ (s : WorldSession). Told hash_of old.store (turn_events s.number (shelf_of s.turns old.store.settings.shelves) now) new.store) is told) served,
+  )
+  step_serves old new (exchanges.piece bytes short idle all_written (same, told)) so_far few = let (is, served) = so_far few in (
+    same ∙ is,
+    then_read bytes short (subst (λ (s : WorldSession). IsIdle (numbered s.number old.store.sessions)) is idle) (subst (λ (s : WorldSession). output_of (numbered s.number old.store.sessions) ≡ []) is all_written)
+        (subst (λ (s : WorldSession). Told hash_of old.store (Piece s.number bytes ∷ []) new.store) is told) served,
+  )
+  step_serves old new (exchanges.write bytes writes) so_far few = let (is, served) = so_far few in let wrote = was_written writes in
+      (wrote.0 ∙ is, then_wrote bytes (subst (λ (s : WorldSession). old.store ≡ with_written s.number bytes new.store) is wrote.1) served)
+
   pub served_by : {start : WorldState K} {turns : ℕ} {read written : List ℕ} {last : WorldSession} {after : WorldState K}
       → Exchange (in_world hash_of) may_give (seat n 0) start turns read written last after → turns ≤ most_turns → HasServed hash_of may_give n first 0 [] [] start
       → (last ≡ seat n turns) × HasServed hash_of may_give n first turns read written after
-  served_by exchanges.begins few begun = (refl, begun)
-  served_by {after = after} (exchanges.turn {turns = turns} {between = between} now exchange small gives (same, told)) few begun = let (is, served) = served_by exchange (omega (arith, few)) begun in (
-    same ∙ ap one_more is ∙ ap (seat n) (mod-eq_of_lt (omega (arith, few))),
-    then_turned now gives (subst (λ (s : WorldSession). waiting s.number between < most_waiting) is small)
-        (subst (λ (s : WorldSession). Told hash_of between (turn_events s.number (shelf_of s.turns between.settings.shelves) now) after) is told) served,
-  )
-  served_by {after = after} (exchanges.piece {between = between} bytes short exchange idle all_written (same, told)) few begun = let (is, served) = served_by exchange few begun in (
-    same ∙ is,
-    then_read bytes short (subst (λ (s : WorldSession). IsIdle (numbered s.number between.sessions)) is idle) (subst (λ (s : WorldSession). output_of (numbered s.number between.sessions) ≡ []) is all_written)
-        (subst (λ (s : WorldSession). Told hash_of between (Piece s.number bytes ∷ []) after) is told) served,
-  )
-  served_by {after = after} (exchanges.write {between = between} bytes exchange writes) few begun = let (is, served) = served_by exchange few begun in let wrote = was_written writes in
-      (wrote.0 ∙ is, then_wrote bytes (subst (λ (s : WorldSession). between ≡ with_written s.number bytes after) is wrote.1) served)
+  served_by exchange few begun = chain.repeats_keep (ExchangeStep (in_world hash_of) may_give) Serves step_serves exchange.0 _ _ exchange.1 (λ _. (refl, begun)) few
 
 -- What was served of a session until memory ran out, and the close of it.
 -- a connection that was closed is closed
@@ -271,18 +290,15 @@ module _ {K : Type 0} {hash_of : K → List ℕ → ℕ} {may_give : ℕ → Typ
       → Exchanges (in_world hash_of) may_give (2 ^ 40) (exchanges.scene (seat n 0) w1 r0 o0) (exchanges.scene s w2 r1 o1) → Ran hash_of may_give w0 w2 w3 s r0 r1 o0 o1
   ran_of {w1 = w1} begins closes run = let (begun, closed, ran) = subst (λ (n : ℕ). Begins hash_of n w0 w1 × Told hash_of w2 (Close n ∷ []) w3
       × Exchanges (in_world hash_of) may_give (2 ^ 40) (exchanges.scene (seat n 0) w1 r0 o0) (exchanges.scene s w2 r1 o1)) begins.number (begins, closes, run) in
-      let (is, served) = served_by ran.exchange ran.few (served_nothing begun) in record { w1 = w1; run = ran; at = is; served = served; inside = served_inside begun served; closes = closed }
+      let (is, served) = served_by hash_of may_give (next_session w0) w0 ran.exchange ran.few (served_nothing begun) in record { w1 = w1; run = ran; at = is; served = served; inside = served_inside begun served; closes = closed }
 
   pub ran_short : {n : ℕ} {w1 : WorldState K} → Begins hash_of n w0 w1 → Told hash_of w2 (Close n ∷ []) w3
       → FallsShort (in_world hash_of) may_give (exchanges.scene (seat n 0) w1 r0 o0) (exchanges.scene s w2 r1 o1) → UntilRefused hash_of may_give (next_session w0) w0 r0 o0 (scene w3 r1 o1)
   ran_short {w1 = w1} begins closes run = let (begun, closed, short) = subst (λ (n : ℕ). Begins hash_of n w0 w1 × Told hash_of w2 (Close n ∷ []) w3
       × FallsShort (in_world hash_of) may_give (exchanges.scene (seat n 0) w1 r0 o0) (exchanges.scene s w2 r1 o1)) begins.number (begins, closes, run) in let ran = short.exchanges in
-      let n = next_session w0 in let (is, served) = served_by ran.exchange ran.few (served_nothing begun) in let (before, event, calls, decided, refusal, few, none, names, tells, goes) =
+      let n = next_session w0 in let (is, served) = served_by hash_of may_give n w0 ran.exchange ran.few (served_nothing begun) in let (before, event, calls, decided, refusal, few, none, names, tells, goes) =
       lost_of hash_of may_give n w0 ran.few served (subst (λ (t : WorldSession). Refusal (in_world hash_of) may_give ran.turns t short.between s w2 short.lost) is short.refusal) in record {
-        events = served.events;
-        read = ran.read;
-        written = ran.written;
-        turns = ran.turns;
+        done = record { events = served.events; read = ran.read; written = ran.written; turns = ran.turns };
         before = before;
         event = event;
         brings = short.lost;
@@ -307,7 +323,7 @@ module _ {K : Type 0} {hash_of : K → List ℕ → ℕ} {may_give : ℕ → Typ
     ran_and_wrote = let n = next_session w0 in let run = ran.run in let had = ran.served in let part = wrote.written in
         let parts : w3 ≡ with_written n part w4 = subst (λ (t : WorldSession). w3 ≡ with_written t.number part w4) ran.at (was_written wrote.writes).1 in
         let all = Appends-trans o0 o1 o2 run.written part run.appends wrote.appends in let came : Came hash_of may_give (scene w0 r0 o0) (scene w4 r1 o2) =
-        record { events = had.events; read = run.read; written = run.written ++ part; turns = run.turns; service = write part had.service; few = run.few; consumes = run.consumes; appends = all } in
+        record { done = record { events = had.events; read = run.read; written = run.written ++ part; turns = run.turns }; service = one_step had.service (write part); few = run.few; consumes = run.consumes; appends = all } in
         let same = ap (with_written n run.written) parts ∙ written_twice n run.written part w4 in
         record { came = came; told = subst (λ (v : WorldState K). Told hash_of w0 (had.events ++ Close n ∷ []) v) same (told_behind had tt ran.closes) }
 
@@ -322,7 +338,7 @@ module _ {K : Type 0} {hash_of : K → List ℕ → ℕ} {may_give : ℕ → Typ
         record { served = ran_and_wrote; written = none; last = with_written (next_session w0) ran.run.written w2; until = ran.served.told; ended = end }
 
   pub ran_served : Ran hash_of may_give w0 w2 w3 s r0 r1 o0 o1 → Served hash_of may_give (scene w0 r0 o0) (scene w3 r1 o1)
-  ran_served ran = ran_and_wrote {last = s} ran (record { written = []; writes = nothing; appends = Appends-nil o1 })
+  ran_served ran = ran_and_wrote {last = s} ran (record { written = []; writes = (0, chains.none_yet); appends = Appends-nil o1 })
 
 -- what follows of an outcome
 pub all_follows : {T : Type 0} {A B : Type 0} (r : Result T ServeFault) → (A → B) → OnOk r A → OnOk r B

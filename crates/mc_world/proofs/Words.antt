@@ -20,7 +20,7 @@ pub use Rattle.mc_parse.specs.Streams.{AreUnits, is_last, passed_after}
 pub use Rattle.mc_parse.specs.Units.{ProtocolUnit, Request, Fault, LongLine, Spells}
 pub use Rattle.mc_reply.specs.Texts.{plain_text, reply_text, fault_text, long_text, spent_text}
 pub use Rattle.mc_session.proofs.StreamLemmas.{settled_once, units_settled}
-pub use Rattle.mc_session.specs.Exchanges.{longest_piece, most_waiting, Writes, nothing, front, Exchange, Wrote, Exchanges, HasEnded, Refusal, no_turn, no_piece, FallsShort}
+pub use Rattle.mc_session.specs.Exchanges.{longest_piece, most_waiting, Writes, WritesOnce, Progress, ExchangeStep, Exchange, Wrote, Exchanges, HasEnded, Refusal, no_turn, no_piece, FallsShort}
 pub use Rattle.mc_session.specs.Turns.{SessionState, to_read, HasUnits, turn_count, turns_from, turns, closed, fed, TakesTurn, NoTurnDue, Answers, AnswersStep, DecidesStep, opened, sent, TurnIsDue}
 pub use Rattle.mc_session.specs.Turns.{FindsNoTurn, FindsClosed}
 pub use Rattle.mc_session.specs.declared.serving.ServeFault.{ServeFault}
@@ -30,13 +30,12 @@ pub use Rattle.mc_session.specs.declared.session.TurnFault.{TurnFault}
 pub use Rattle.mc_shelf.specs.Stores.{StoreState, HoldSame, StepMoves, TookStep}
 pub use Rattle.mc_shelf.specs.declared.settings.Settings.{Settings}
 pub use Rattle.mc_shelf.specs.declared.store.Store.{Store}
-pub use Rattle.mc_time.specs.Chains.{Chain}
 pub use Rattle.mc_world.specs.Connections.{Connection, IsNextTurn, HasNoNext, Follows, IsAmong, at_start, inside, IsRest, shut, Stands, with_piece, after_turn, ended, fresh}
 pub use Rattle.mc_world.specs.Laws.{Grammar, step_of, NextHasNoStep, DecidesNoStep, IsApart, Answer, Replied, NumbersSpent, answer_in, answers_in, AnswersNext, AnswersOf, RunsAnswering, HasAnswers}
 pub use Rattle.mc_world.specs.Laws.{is_number, events_of, Leaves}
 pub use Rattle.mc_world.specs.Refusals.{EventOutcome, was_done, was_refused, refusals, Goes, RunsThrough, ToldThrough}
 pub use Rattle.mc_world.specs.Rounds.{in_world, with_sent, seat, one_more, Begins, HasServed}
-pub use Rattle.mc_world.specs.Serving.{in_front, with_front, turn_events, with_written, next_session, waiting, most_turns, shelf_of, IsService, starts, turn, piece, write, scene}
+pub use Rattle.mc_world.specs.Serving.{in_front, with_front, turn_events, with_written, next_session, waiting, most_turns, shelf_of, Service, ServiceStep, IsService, turn, piece, write, scene}
 pub use Rattle.mc_world.specs.Serving.{IsRefusal, refused_turn, refused_piece, UntilRefused, Served, ServedAll, Came}
 pub use Rattle.mc_world.specs.Sessions.{at_session, TurnBy, Done, sessions_ended, DecidedIn, EventTakesMemory, Undone, TurnOf, DecidedOf, SessionIsDue, IsOpenAt, TurnGiven, state_of}
 pub use Rattle.mc_world.specs.Worlds.{StandAll, WorldStandsAs, PlainWorld, WorldState, numbered, if_open, put}

@@ -9,7 +9,7 @@ use Rattle.mc_world.proofs.Words.{RunsThrough, ToldThrough, inl, inr, drop, Opti
 use Rattle.mc_world.proofs.Words.{Stands, at_start, fresh, with_piece, after_turn, ended, in_plain, put, changed, numbered, open_connection, open_session, Turns, StandAll, TakesMemory, at_session}
 use Rattle.mc_world.proofs.Words.{EventMoves, EventsMove, eight_moved}
 use Rattle.mc_world.proofs.Words.{TurnBy, Done, sessions_ended, DecidedIn, EventTakesMemory, Undone, Piece}
-use Rattle.mc_world.proofs.ChainLemmas as chain
+use Rattle.mc_session.proofs.ChainLemmas as chain
 use Rattle.mc_world.proofs.ConnectionLemmas.{stands_one, rest_fed, rest_closed, rest_idle, rest_due, next_of, is_next, stands_after, AreOpen, Opens, stand_length, stand_open, stand_put, stand_more}
 use Rattle.mc_world.proofs.ConnectionLemmas.{stand_changed, stand_out, less}
 use Rattle.mc_world.proofs.EventLemmas.{change, number, grown}

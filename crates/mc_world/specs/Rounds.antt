@@ -57,5 +57,6 @@ module _ {K : Type 0} (hash_of : K → List ℕ → ℕ) where
   pub record HasServed (may_give : ℕ → Type 0) (n : ℕ) (first : WorldState K) (turns : ℕ)
       (read written : List ℕ) (now : WorldState K) : Type 0 where
     pub events : List Event
-    pub service : IsService hash_of may_give n first events read written turns
+    pub service : IsService hash_of may_give n first
+        (record { events = events; read = read; written = written; turns = turns })
     pub told : Told hash_of first events (with_written n written now)

@@ -1,6 +1,7 @@
 -- A whole run of one session of a world over a reader and a writer.
 use Rattle.std.specs.Prelude.{◌≡◌, ◌⊎◌, ℕ, ◌+◌, ◌%◌, ◌^◌, ◌<◌, ◌≤◌, max, Bool, List, [], ◌∷◌, ◌++◌, length, Option}
 use Rattle.std.specs.Io.KnownBytes.{Appends, Consumes, IsAtEnd}
+use Rattle.mc_time.specs.Chains.{Repeats}
 use Rattle.mc_session.specs.Exchanges.{longest_piece, most_waiting}
 use Rattle.mc_world.specs.Connections.{Connection}
 use Rattle.mc_world.specs.Worlds.{PlainWorld, WorldState, numbered, changed, output_of, IsIdle, IsClosed, WorldStandsAs, EventsMove, Told, RunsUntil}
@@ -54,6 +55,14 @@ shelf_of turns shelves = turns % max shelves 1
 abbrev pub turn_events : (n shelf now : ℕ) → List Event
 turn_events n shelf now = Clock now ∷ Turn n ∷ Grow shelf ∷ []
 
+-- how a session was served: the events, the bytes that they bring, those that were written
+-- meanwhile, and the number of turns
+pub record Service : Type 0 where
+  pub events : List Event
+  pub read : List ℕ
+  pub written : List ℕ
+  pub turns : ℕ
+
 -- Session n of a world is served: the hash of keys, and the moments of the clock.
 module _ {K : Type 0} (hash_of : K → List ℕ → ℕ) (may_give : ℕ → Type 0) (n : ℕ)
     (old : WorldState K) where
@@ -70,25 +79,27 @@ module _ {K : Type 0} (hash_of : K → List ℕ → ℕ) (may_give : ℕ → Typ
     pub told : Told hash_of old events (with_written n written world)
     pub idle : IsIdle (numbered n world.sessions)
 
-  -- The events that serve the session before it closes, the bytes that they bring, those that were
-  -- written meanwhile, and the number of turns. It opens. Then pieces of at most 16384 bytes come,
-  -- while no turn is due and all output is written; bytes are written; and turns are taken, each at
-  -- a moment that the clock may give, with less than 64 KiB of output, and with growth of the next
-  -- shelf after it.
-  pub data IsService : List Event → (read written : List ℕ) → (turns : ℕ) → Type 0 where
-    starts : IsService (Open ∷ []) [] [] 0
-    turn : {events : List Event} {read written : List ℕ} {turns : ℕ} (now : ℕ) → may_give now
-        → HasRoom events written → IsService events read written turns
-        → IsService (events ++ turn_events n (shelf_of turns old.settings.shelves) now) read written
-        (turns + 1)
-    piece : {events : List Event} {read written : List ℕ} {turns : ℕ} (bytes : List ℕ)
-        → length bytes ≤ longest_piece
-        → (found : FindsIdle events written) → output_of (numbered n found.world.sessions) ≡ []
-        → IsService events read written turns
-        → IsService (events ++ Piece n bytes ∷ []) (read ++ bytes) written turns
-    write : {events : List Event} {read written : List ℕ} {turns : ℕ} (bytes : List ℕ)
-        → IsService events read written turns
-        → IsService events read (written ++ bytes) turns
+  -- What is done next: a turn is taken at a moment that the clock may give, with less than 64 KiB of
+  -- output, and with growth of the next shelf after it; a piece of at most 16384 bytes comes, while
+  -- no turn is due and all output is written; or bytes are written.
+  pub data ServiceStep (done : Service) : Service → Type 0 where
+    turn : (now : ℕ) → may_give now → HasRoom done.events done.written
+        → ServiceStep done
+        (record done {
+          events = done.events ++ turn_events n (shelf_of done.turns old.settings.shelves) now;
+          turns = done.turns + 1;
+        })
+    piece : (bytes : List ℕ) → length bytes ≤ longest_piece
+        → (found : FindsIdle done.events done.written)
+        → output_of (numbered n found.world.sessions) ≡ []
+        → ServiceStep done
+        (record done { events = done.events ++ Piece n bytes ∷ []; read = done.read ++ bytes })
+    write : (bytes : List ℕ) → ServiceStep done (record done { written = done.written ++ bytes })
+
+  -- the session was served so, step by step, since it opened and before it closes
+  abbrev pub IsService : Service → Type 0
+  IsService done = (steps : ℕ) × Repeats ServiceStep steps
+      (record { events = Open ∷ []; read = []; written = []; turns = 0 }) done
 
   -- The event that is refused memory, what comes just before it, the bytes that it brings, and the
   -- number of turns: a turn after its clock, taken with less than 64 KiB of output, or a piece that
@@ -106,47 +117,40 @@ module _ {K : Type 0} (hash_of : K → List ℕ → ℕ) (may_give : ℕ → Typ
   -- nothing was done; and the session is closed. The store's settings are unchanged, and its
   -- growths move on as these events have it.
   pub record UntilRefused (old_reader old_writer : Option (List ℕ)) (new : WorldScene K) : Type 0 where
-    pub events : List Event
-    pub read : List ℕ
-    pub written : List ℕ
-    pub turns : ℕ
+    pub done : Service
+    pub service : IsService done
     pub before : List Event
     pub event : Event
     pub brings : List ℕ
     pub calls : ℕ
     pub decided : Bool
-    pub service : IsService events read written turns
-    pub refusal : IsRefusal events written before event brings calls
-    pub few : turns + calls ≤ most_turns
-    pub consumes : Consumes old_reader new.reader (read ++ brings)
-    pub appends : Appends old_writer new.writer written
+    pub refusal : IsRefusal done.events done.written before event brings calls
+    pub few : done.turns + calls ≤ most_turns
+    pub consumes : Consumes old_reader new.reader (done.read ++ brings)
+    pub appends : Appends old_writer new.writer done.written
     pub settings : new.world.settings ≡ old.settings
     pub hasher : new.world.hasher ≡ old.hasher
-    pub moves : EventsMove old.left (events ++ (before ++ event ∷ [])) new.world.left
+    pub moves : EventsMove old.left (done.events ++ (before ++ event ∷ [])) new.world.left
     pub told : (first : PlainWorld) → WorldStandsAs first old
-        → RunsUntil hash_of old first (events ++ before) decided event
-        (with_written n written new.world)
+        → RunsUntil hash_of old first (done.events ++ before) decided event
+        (with_written n done.written new.world)
 
 -- A session of a world was served, which opened it: the scene before, and after.
 module _ {K : Type 0} (hash_of : K → List ℕ → ℕ) (may_give : ℕ → Type 0) (old new : WorldScene K) where
-  -- the events before the close, what was read (their pieces joined), and what was written
+  -- how it was served before the close: what came was read, and what was written went out
   pub record Came : Type 0 where
-    pub events : List Event
-    pub read : List ℕ
-    pub written : List ℕ
-    pub turns : ℕ
-    pub service : IsService hash_of may_give
-        (next_session old.world) old.world events read written turns
-    pub few : turns ≤ most_turns
-    pub consumes : Consumes old.reader new.reader read
-    pub appends : Appends old.writer new.writer written
+    pub done : Service
+    pub service : IsService hash_of may_give (next_session old.world) old.world done
+    pub few : done.turns ≤ most_turns
+    pub consumes : Consumes old.reader new.reader done.read
+    pub appends : Appends old.writer new.writer done.written
 
   -- The new world is what the events make of the old one, except that what was written is no longer
   -- in the session's output.
   pub record Served : Type 0 where
     pub came : Came
-    pub told : Told hash_of old.world (came.events ++ Close (next_session old.world) ∷ [])
-        (with_written (next_session old.world) came.written new.world)
+    pub told : Told hash_of old.world (came.done.events ++ Close (next_session old.world) ∷ [])
+        (with_written (next_session old.world) came.done.written new.world)
 
   -- It was served whole: no output is left, and before the close the session was closed already, or
   -- no turn was due and the reader is at its end.
@@ -154,7 +158,7 @@ module _ {K : Type 0} (hash_of : K → List ℕ → ℕ) (may_give : ℕ → Typ
     pub served : Served
     pub written : output_of (numbered (next_session old.world) new.world.sessions) ≡ []
     pub last : WorldState K
-    pub until : Told hash_of old.world served.came.events last
+    pub until : Told hash_of old.world served.came.done.events last
     pub ended : IsClosed (numbered (next_session old.world) last.sessions)
         ⊎ (IsIdle (numbered (next_session old.world) last.sessions) × IsAtEnd new.reader)
 
