@@ -483,9 +483,10 @@ fn a_block_comes_from_a_source(rt: HostRuntime) -> Result<(), AllocError> {
     goes(&rt, rt.alloc(), GREATEST, &OF_A_SOURCE)
 }
 
-/// A block of 100 bytes in pieces. Only the last piece ends a unit.
-static PIECES: [Row; 6] = [
+/// A block of 100 bytes in pieces. The first piece is empty, and only the last ends a unit.
+static PIECES: [Row; 7] = [
     (Event::Stays, Seen::More, 0),
+    (Event::Comes(b""), Seen::More, 0),
     (Event::Comes(b"set a 0 0 100\r\nxyz"), Seen::More, 18),
     (
         Event::Comes(b"0123456789012345678901234567890123456789012345678901234567890123456789"),
