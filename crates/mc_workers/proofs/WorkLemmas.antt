@@ -1,6 +1,6 @@
 -- What a round does to the store that it is lent, and to a caller's past.
 use Rattle.std.specs.Prelude.{MatchOption, slice_get}
-use Rattle.std.proofs.Common.{◌≡◌, inl, inr, ℕ, ◌<◌, ◌%◌, arith, List, Option, Some, None, refl, sym, ap, ◌∙◌, subst}
+use Rattle.std.proofs.Common.{◌≡◌, inl, inr, ℕ, ◌+◌, ◌<◌, ◌%◌, arith, List, Option, Some, None, refl, sym, ap, ◌∙◌, subst}
 use Rattle.mc_protocol.specs.Commands.{steps}
 use Rattle.mc_protocol.specs.Commands.{Command}
 use Rattle.mc_protocol.specs.declared.step.KeyStep.{KeyStep}
@@ -11,12 +11,12 @@ use Rattle.mc_parse.specs.Units.{ProtocolUnit, Request, Fault, LongLine}
 use Rattle.mc_session.specs.Turns.{Answers, AnswersStep}
 use Rattle.mc_shared.specs.History.{Beginning, Operation, Purged}
 use Rattle.mc_shared.specs.Past.{Past}
-use Rattle.mc_shared.specs.Asking.{AskingState, AsksOnce, moment_of, Further, nothing, more, GoesFurther}
-use Rattle.mc_workers.specs.Tending.{Tidied, TidiesNext}
+use Rattle.mc_shared.specs.Asking.{AskingState, AsksOnce}
+use Rattle.mc_workers.specs.Tending.{Tidied, TidiesNext, moment_of, CallsOnce, Further, GoesFurther}
 use Rattle.mc_time.specs.Chains.{Repeats, none_yet, one_more}
 use Rattle.mc_guests.specs.Guests.{GuestState}
 use Rattle.mc_guests.specs.Visits.{Does, Visited}
-use Rattle.mc_guests.specs.Asks.{MayAsk, NamesKey, MakesRound, nobody, asks, visits}
+use Rattle.mc_guests.specs.Asks.{MayAsk, NamesKey, ComesToOne, MakesRound}
 use Rattle.mc_guests.specs.declared.guest.Visit.{Visit}
 use Rattle.mc_guests.specs.declared.guest.Visit.TheVariants.{Wrote, Turned, Read, Later, Served, Broken, Refused}
 
@@ -68,27 +68,37 @@ module _ {S : Type 0} (relations : Relations S) (now : ℕ) (Keeps : S → S →
   ask_keeps names a b (inl e) = stays a b e
   ask_keeps names a b (inr r) = elim r [ inl e ↦ alike a b e | inr t ↦ one a (ReadStep t.key) t.reply b t.took_it ]
 
-  pub round_keeps : (both : (a b c : S) → Keeps a b → Keeps b c → Keeps a c) (a b : S)
-      → MakesRound relations now a b → Keeps a b
-  round_keeps both a b nobody = none a
-  round_keeps both a c (asks {between = b} {session = session} goes asked) =
-      both a b c (round_keeps both a b goes) (ask_keeps (NamesKey session) b c asked)
-  round_keeps both a c (visits {between = b} {answer = answer} {old = old} {new = new} goes visit) =
-      both a b c (round_keeps both a b goes) (visit_keeps answer old new b c visit)
+  -- what comes one after another, and each keeps it
+  module _ (both : (a b c : S) → Keeps a b → Keeps b c → Keeps a c) where
+    one_keeps : (a b : S) → ComesToOne relations now a b → Keeps a b
+    one_keeps a b one = elim one.turn [
+      | inl visit ↦ both a visit.1.between b (ask_keeps (NamesKey one.old.session) a visit.1.between visit.1.asks)
+          (visit_keeps visit.0 one.old one.new visit.1.between b visit.1.visits)
+      | inr waits ↦ ask_keeps (NamesKey one.old.session) a b waits.asks
+    ]
+
+    all_keep : (count : ℕ) (a b : S) → Repeats (ComesToOne relations now) count a b → Keeps a b
+    all_keep total a b none_yet = none a
+    all_keep total a c (one_more {count = count} {mid = b} goes one) = both a b c (all_keep count a b goes) (one_keeps b c one)
+
+    pub round_keeps : (a b : S) → MakesRound relations now a b → Keeps a b
+    round_keeps a b (count, goes) = all_keep count a b goes
 
 module _ (may_give : ℕ → Type 0) where
-  further_both : (p q r : Past) → Further may_give p q → Further may_give q r → Further may_give p r
-  further_both p q r a nothing = a
-  further_both p q r a (more what gives b) = more what gives (further_both p q _ a b)
+  further_by : (p q r : Past) (count : ℕ) → Further may_give p q → Repeats (CallsOnce may_give) count q r → Further may_give p r
+  further_by p q r total calls none_yet = calls
+  further_by p q r total calls (one_more {count = count} {mid = mid} more one) =
+      let before = further_by p q mid count calls more in
+      (before.0 + 1, one_more before.1 one)
 
   pub goes_none : {K : Type 0} (s : AskingState K) → GoesFurther may_give s s
-  goes_none s = record { began = refl; table = refl; calls = nothing }
+  goes_none s = record { began = refl; table = refl; calls = (0, none_yet) }
 
   pub goes_both : {K : Type 0} (a b c : AskingState K) → GoesFurther may_give a b → GoesFurther may_give b c → GoesFurther may_give a c
   goes_both a b c f g = record {
     began = g.began ∙ f.began;
     table = g.table ∙ f.table;
-    calls = further_both a.past b.past c.past f.calls g.calls;
+    calls = further_by a.past b.past c.past g.calls.0 f.calls g.calls.1;
   }
 
   pub goes_once : {K : Type 0} (start : Beginning) (what : Operation) (old new : AskingState K)
@@ -96,7 +106,7 @@ module _ (may_give : ℕ → Type 0) where
   goes_once {K} start what old new gives call = record {
     began = ap (λ (s : AskingState K). s.began) call.past;
     table = ap (λ (s : AskingState K). s.table) call.past;
-    calls = subst (λ (s : AskingState K). Further may_give old.past s.past) (sym call.past) (more what gives nothing);
+    calls = (1, one_more none_yet (record { what = what; given = gives; past = ap (λ (s : AskingState K). s.past) call.past }));
   }
 
   pub goes_same : {K : Type 0} (a b : AskingState K) → b ≡ a → GoesFurther may_give a b
@@ -127,9 +137,10 @@ tidies_none {K} hash_of now turn shelves s is some = (
 
 -- calls at one moment are calls at moments that may be given, where this one is
 module _ (may_give : ℕ → Type 0) (now : ℕ) (gives : may_give now) where
-  further_at : (p q : Past) → Further (λ moment. moment ≡ now) p q → Further may_give p q
-  further_at p q nothing = nothing
-  further_at p q (more what is calls) = more what (subst may_give (sym is) gives) (further_at p _ calls)
+  further_at : (p q : Past) (count : ℕ) → Repeats (CallsOnce (at now)) count p q → Repeats (CallsOnce may_give) count p q
+  further_at p q total none_yet = none_yet
+  further_at p q total (one_more {count = count} {mid = mid} calls one) =
+      one_more (further_at p mid count calls) (record { what = one.what; given = subst may_give (sym one.given) gives; past = one.past })
 
   pub goes_at : {K : Type 0} (a b : AskingState K) → GoesFurther (λ moment. moment ≡ now) a b → GoesFurther may_give a b
-  goes_at a b f = record { began = f.began; table = f.table; calls = further_at a.past b.past f.calls }
+  goes_at a b f = record { began = f.began; table = f.table; calls = (f.calls.0, further_at a.past b.past f.calls.0 f.calls.1) }

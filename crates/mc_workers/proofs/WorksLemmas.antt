@@ -1,5 +1,5 @@
 -- A worker's rounds, one after another.
-use Rattle.std.proofs.Common.{◌≡◌, ℕ, List, Bool, true, false, refl, sym, ap, ◌∙◌, subst}
+use Rattle.std.proofs.Common.{◌≡◌, ℕ, ◌+◌, List, Bool, true, false, refl, sym, ap, ◌∙◌, subst}
 use Rattle.mc_shelf.specs.Stores.{StoreState}
 use Rattle.mc_shared.specs.Shown.{CallerState}
 use Rattle.mc_shared.specs.Asking.{AskingState}
@@ -9,7 +9,8 @@ use Rattle.mc_guests.specs.Doors.{OpensForAll, shut}
 use Rattle.mc_workers.specs.Room.{MakesRoom}
 use Rattle.mc_workers.specs.Tending.{asked_by}
 use Rattle.mc_workers.specs.Rounds.{TidiesWhereRisen, MakesRounds}
-use Rattle.mc_workers.specs.Rounds.{WorkState, WorksOnce, Works, nothing, and_once, begins, WorksSince, WorksToEnd}
+use Rattle.mc_workers.specs.Rounds.{WorkState, WorksOnce, WorksOn, begins, WorksSince, WorksToEnd}
+use Rattle.mc_time.specs.Chains.{Repeats, none_yet, one_more}
 use Rattle.mc_guests.specs.declared.door.Door.{Door}
 use Rattle.mc_guests.specs.declared.guests.WorkEnd.{WorkEnd}
 
@@ -17,7 +18,7 @@ module _ {K : Type 0} {hash_of : K → List ℕ → ℕ} {may_give : ℕ → Typ
   -- what it does from one opening to the next, by its calls
   pub once_so : {old new : WorkState K} {tidied : AskingState K} {settled roomy : BooksState} {counted : WorkEnd} {opened goes_on : Bool} → may_give new.moment
       → TidiesWhereRisen hash_of old.moment new.moment old.turn new.turn old.asking tidied
-      → MakesRounds hash_of new.moment tidied new.asking old.books settled old.end counted
+      → MakesRounds hash_of new.moment (tidied, old.books, old.end) (new.asking, settled, counted)
       → MakesRoom settled roomy → OpensForAll old.door new.door roomy new.books counted new.end opened → opened ≡ goes_on
       → WorksOnce hash_of may_give old new goes_on
   once_so {old} {new} {tidied} {settled} {roomy} {counted} given tidies rounds judges opens so =
@@ -33,7 +34,8 @@ module _ {K : Type 0} {hash_of : K → List ℕ → ℕ} {may_give : ℕ → Typ
   works_from moment asking books door given asks most none so greatest closed is = record {
     moment = moment;
     given = given;
-    works = subst (λ (s : WorkState K). Works hash_of may_give (begins first share began caller moment) s) (sym (
+    count = 0;
+    works = subst (λ (s : WorkState K). Repeats (WorksOn hash_of may_give) 0 (begins first share began caller moment) s) (sym (
         ap (λ (a : AskingState K). record { asking = a; books = books; door = door; end = record { served = 0; broken = 0; refused = 0 }; turn = first; moment = moment }) asks
         ∙ ap (λ (b : BooksState). record { asking = asked_by began caller; books = b; door = door; end = record { served = 0; broken = 0; refused = 0 }; turn = first; moment = moment })
         (none ∙ ap (λ (n : ℕ). no_books (unused share n)) so)
@@ -46,12 +48,12 @@ module _ {K : Type 0} {hash_of : K → List ℕ → ℕ} {may_give : ℕ → Typ
           moment = moment;
         })
         (closed ∙ ap shut is)
-        )) nothing;
+        )) none_yet;
   }
 
   pub works_on : {old new : WorkState K} → WorksSince hash_of may_give first share began caller old → WorksOnce hash_of may_give old new true
       → WorksSince hash_of may_give first share began caller new
-  works_on since once = record { moment = since.moment; given = since.given; works = and_once since.works once }
+  works_on since once = record { moment = since.moment; given = since.given; count = since.count + 1; works = one_more since.works once }
 
   pub works_over : {old new : WorkState K} {back : CallerState} → WorksSince hash_of may_give first share began caller old → WorksOnce hash_of may_give old new false
       → back.past ≡ new.asking.past → WorksToEnd hash_of may_give first share began caller (back, new.end)

@@ -1,6 +1,7 @@
 -- What a worker does, round by round.
 use Rattle.std.specs.Prelude.{◌≡◌, ◌<◌, ◌≤◌, ◌%◌, ◌-◌, ℕ, List, Bool, true, false}
 use Rattle.mc_protocol.specs.declared.step.Steps.{Ghosts as Relations}
+use Rattle.mc_time.specs.Chains.{Repeats}
 use Rattle.mc_shelf.specs.Stores.{StoreState}
 use Rattle.mc_shared.specs.Shown.{CallerState}
 use Rattle.mc_shared.specs.Asking.{AskingState, AsksStep, AsksInVain}
@@ -27,6 +28,10 @@ pub record WorkState (K : Type 0) : Type 0 where
   pub turn : ℕ
   pub moment : ℕ
 
+-- what a round changes: the caller, the guests, and what is counted
+abbrev pub RoundState : Type 0 → Type 0
+RoundState K = AskingState K × BooksState × WorkEnd
+
 -- what a worker begins with: no guests, their share, and storage commands may charge as much as its store's greatest
 abbrev pub begins : {K : Type 0} → (first share : ℕ) → StoreState K → CallerState → (moment : ℕ) → WorkState K
 begins first share began caller moment = record {
@@ -47,25 +52,26 @@ module _ {K : Type 0} (hash_of : K → List ℕ → ℕ) where
     pub stands : now ≤ before → (new ≡ old) × (next ≡ turn)
 
   -- one round: all that are awake are visited at a moment, and then those that ended go and those with nothing to do sleep
-  pub record VisitsAndSettles (now : ℕ) (old new : AskingState K) (books later : BooksState) (before after : WorkEnd) : Type 0 where
+  pub record VisitsAndSettles (now : ℕ) (old new : RoundState K) : Type 0 where
     pub visited : BooksState
-    pub visits : VisitsAll (as_caller hash_of) now books visited old new
-    pub settles : SettlesFrom 0 visited later before after
+    pub visits : VisitsAll (as_caller hash_of) now old.1 visited old.0 new.0
+    pub settles : SettlesFrom 0 visited new.1 old.2 new.2
 
-  -- Rounds at a moment. Each round visits the guests that were awake before it. `left` of 64 visits are left. A further
-  -- round is made only while visits are left and a guest is awake.
-  pub data HaveRounds (now : ℕ) : (left : ℕ) (old new : AskingState K) (books later : BooksState) (before after : WorkEnd) → Type 0 where
-    one : {old new : AskingState K} {books later : BooksState} {before after : WorkEnd}
-        → VisitsAndSettles now old new books later before after → HaveRounds now (64 - books.awake) old new books later before after
-    and_one : {left : ℕ} {old between new : AskingState K} {books mid later : BooksState} {before counted after : WorkEnd}
-        → HaveRounds now left old between books mid before counted → 0 < left → quiet mid ≡ false
-        → VisitsAndSettles now between new mid later counted after
-        → HaveRounds now (left - mid.awake) old new books later before after
+  -- A further round is made only while some of 64 visits are left and a guest is awake. It takes a visit for each guest
+  -- that was awake before it. The visits that are left stand beside what rounds change.
+  pub record MakesFurtherRound (now : ℕ) (old new : ℕ × RoundState K) : Type 0 where
+    pub some : 0 < old.0
+    pub busy : quiet old.1.1 ≡ false
+    pub left : new.0 ≡ old.0 - old.1.1.awake
+    pub round : VisitsAndSettles now old.1 new.1
 
-  -- rounds at a moment
-  pub record MakesRounds (now : ℕ) (old new : AskingState K) (books later : BooksState) (before after : WorkEnd) : Type 0 where
+  -- rounds at a moment: one, and further ones
+  pub record MakesRounds (now : ℕ) (old new : RoundState K) : Type 0 where
+    pub first : RoundState K
+    pub round : VisitsAndSettles now old first
+    pub count : ℕ
     pub left : ℕ
-    pub rounds : HaveRounds now left old new books later before after
+    pub further : Repeats (MakesFurtherRound now) count (64 - old.1.awake, first) (left, new)
 
   -- From one opening of the door to the next, at a moment that the clock may give: dead items are dropped when the clock had
   -- risen, rounds are made, the slowest are judged, and the door is opened for those that wait.
@@ -76,22 +82,21 @@ module _ {K : Type 0} (hash_of : K → List ℕ → ℕ) where
     pub roomy : BooksState
     pub counted : WorkEnd
     pub tidies : TidiesWhereRisen old.moment new.moment old.turn new.turn old.asking tidied
-    pub rounds : MakesRounds new.moment tidied new.asking old.books settled old.end counted
+    pub rounds : MakesRounds new.moment (tidied, old.books, old.end) (new.asking, settled, counted)
     pub judges : MakesRoom settled roomy
     pub opens : OpensForAll old.door new.door roomy new.books counted new.end goes_on
 
-  -- openings of the door, one after another; each said that more can come
-  pub data Works (may_give : ℕ → Type 0) : (old new : WorkState K) → Type 0 where
-    nothing : {state : WorkState K} → Works may_give state state
-    and_once : {old between new : WorkState K} → Works may_give old between → WorksOnce may_give between new true
-        → Works may_give old new
+  -- once more, and the opening said that more can come
+  abbrev pub WorksOn : (may_give : ℕ → Type 0) (old new : WorkState K) → Type 0
+  WorksOn may_give old new = WorksOnce may_give old new true
 
   -- from its beginning on it worked, and each opening said that more can come
   pub record WorksSince (may_give : ℕ → Type 0) (first share : ℕ) (began : StoreState K) (caller : CallerState)
       (state : WorkState K) : Type 0 where
     pub moment : ℕ
     pub given : may_give moment
-    pub works : Works may_give (begins first share began caller moment) state
+    pub count : ℕ
+    pub works : Repeats (WorksOn may_give) count (begins first share began caller moment) state
 
   -- It worked until an opening said that nothing can come any more, and gives back the caller that took the steps and what
   -- it counted.

@@ -4,12 +4,36 @@ use Rattle.std.specs.Int.{div_ceil}
 use Rattle.mc_shelf.specs.Stores.{StoreState}
 use Rattle.mc_shared.specs.Shown.{CallerState}
 use Rattle.mc_shared.specs.Asking.{AskingState, AsksOnce}
-use Rattle.mc_shared.specs.History.{Purged, start_of}
+use Rattle.mc_shared.specs.History.{Operation, Stepped, Purged, start_of}
+use Rattle.mc_shared.specs.Past.{Past, call}
+use Rattle.mc_shared.specs.Steps.{entry_of}
 use Rattle.mc_time.specs.Chains.{Repeats}
 
 -- a caller of a store that began so
 abbrev pub asked_by : {K : Type 0} → StoreState K → CallerState → AskingState K
 asked_by began caller = record { began = began; table = caller.table; past = caller.past }
+
+-- the moment of a decision: that of a step or of a purge
+abbrev pub moment_of : Operation → ℕ
+moment_of (Stepped step now reply) = now
+moment_of (Purged shelf now) = now
+
+module _ (may_give : ℕ → Type 0) where
+  -- one further call: a step or a purge, at a moment that the clock may give
+  pub record CallsOnce (old new : Past) : Type 0 where
+    pub what : Operation
+    pub given : may_give (moment_of what)
+    pub past : new ≡ call old (entry_of old what)
+
+  -- from one past to another by further calls alone
+  abbrev pub Further : Past → Past → Type 0
+  Further old new = (count : ℕ) × Repeats CallsOnce count old new
+
+  -- the same caller with further calls
+  pub record GoesFurther {K : Type 0} (old new : AskingState K) : Type 0 where
+    pub began : new.began ≡ old.began
+    pub table : new.table ≡ old.table
+    pub calls : Further old.past new.past
 
 -- the shelf behind one: the first behind the last
 abbrev pub in_turn : (shelves shelf : ℕ) → ℕ

@@ -4,11 +4,11 @@
 //! a round: all workers' clocks rise together, so tidying after visits made three workers wait for
 //! each other.
 ghost use Rattle.std.specs.Prelude.{◌≡◌, ◌-◌, ◌^◌};
-ghost use Rattle.mc_shared.specs.Asking.{GoesFurther, Further};
 ghost use Rattle.mc_shared.specs.History.{start_of};
 ghost use Rattle.mc_shared.specs.Steps.{Agrees};
 ghost use Rattle.mc_workers.specs.Room.{MakesRoom, JudgesUpTo};
 ghost use Rattle.mc_workers.specs.Rounds.{MakesRounds, TidiesWhereRisen, VisitsAndSettles, WorksToEnd};
+ghost use Rattle.mc_workers.specs.Tending.{GoesFurther, Further};
 
 use crate::counting::Counting;
 use crate::tending::Tending;
@@ -134,8 +134,8 @@ fn make_rounds<R: Wait, K: KeyHash + Drop, L: Link + Drop, Q: Links<L>, G: Gate,
     now: Moment,
 )
     ensures further { GoesFurther (λ moment. moment ≡ now) counting.old counting.new }
-    ensures rounds { MakesRounds K.hash_of now counting.old counting.new guests.old guests.new
-        end.old end.new }
+    ensures rounds { MakesRounds K.hash_of now (counting.old, guests.old, end.old)
+        (counting.new, guests.new, end.new) }
 {
     let mut left = VISITS.saturating_sub(guests.awake());
     make_round(alloc, guests, counting, end, now);
@@ -166,8 +166,8 @@ fn make_round<R: Wait, K: KeyHash + Drop, L: Link + Drop, G: Gate, T: Tally>(
     now: Moment,
 )
     ensures further { GoesFurther (λ moment. moment ≡ now) counting.old counting.new }
-    ensures round { VisitsAndSettles K.hash_of now counting.old counting.new guests.old guests.new
-        end.old end.new }
+    ensures round { VisitsAndSettles K.hash_of now (counting.old, guests.old, end.old)
+        (counting.new, guests.new, end.new) }
 {
     guests.visit_all(alloc, counting, now);
     guests.settle(end);

@@ -1,5 +1,5 @@
 use Rattle.std.proofs.Common.{refl}
-use Rattle.mc_shared.specs.Asking.{GoesFurther}
+use Rattle.mc_workers.specs.Tending.{GoesFurther}
 use Rattle.mc_workers.proofs.WorkLemmas.{at, round_keeps, goes_none, goes_same, goes_both, goes_once}
 use Rattle.mc_workers.proofs.worker.make_round.Goals as goal
 

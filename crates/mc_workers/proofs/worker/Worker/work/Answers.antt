@@ -1,9 +1,10 @@
 use Rattle.std.proofs.Common.{sym, ap, ◌∙◌, subst}
-use Rattle.mc_shared.specs.Asking.{AskingState, Further}
+use Rattle.mc_shared.specs.Asking.{AskingState}
 use Rattle.mc_shared.specs.Past.{Past}
 use Rattle.mc_guests.specs.Books.{BooksState, no_books}
 use Rattle.mc_guests.specs.declared.budget.Budget.{Budget}
 use Rattle.mc_workers.specs.Room.{MakesRoom}
+use Rattle.mc_workers.specs.Tending.{Further}
 use Rattle.mc_workers.proofs.WorkLemmas.{goes_same, goes_both, goes_at}
 use Rattle.mc_workers.proofs.WorksLemmas.{works_from, once_so, works_on, works_over}
 use Rattle.mc_workers.proofs.worker.Worker.work.Goals as goal

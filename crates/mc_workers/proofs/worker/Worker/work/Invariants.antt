@@ -1,4 +1,4 @@
-use Rattle.mc_shared.specs.Asking.{GoesFurther}
+use Rattle.mc_workers.specs.Tending.{GoesFurther}
 use Rattle.mc_workers.specs.Rounds.{WorksSince}
 use Rattle.mc_workers.proofs.worker.Worker.work.Given as goal
 
