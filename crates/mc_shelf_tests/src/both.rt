@@ -7,9 +7,9 @@ use crate::parted::begin_and_finish;
 use crate::seen::account_at;
 use crate::stores::set_up;
 use mc_hop::Fnv;
-use mc_protocol::{KeyStep, Reply, StepFault, Steps};
+use mc_protocol::{KeyStep, Reply, StepFault, Steps, Verb};
 use mc_shelf::{Desk, Settings, Store};
-use mc_testing::{Row, ask_step, is_wanted, step_of};
+use mc_testing::{Ask, Row, ask_step, is_wanted, step_of, told_of};
 use mc_time::Moment;
 use std::alloc::{AllocError, Global};
 
@@ -35,6 +35,20 @@ pub(crate) fn asked_in_parts(
             answered => answered,
         },
     }
+}
+
+/// Stores a block under `k` in two parts at 1000. Returns the name of the result, and whether
+/// something was left to the second.
+pub(crate) fn stored_in_parts(
+    store: Store<Fnv>,
+    asked: (Global, Verb, &[u8]),
+) -> (Store<Fnv>, (&'static str, bool)) {
+    let (alloc, verb, block) = asked;
+    let step = step_of(b"k", Ask::Store(verb, 0, block));
+    let mut left = false;
+    let now = Moment::from_seconds_at_most(1000);
+    let (store, answer) = asked_in_parts(store, alloc, &step, now, &mut left);
+    (store, (told_of(&answer), left))
 }
 
 /// Returns whether two desks have the same next number and the same chunks out.

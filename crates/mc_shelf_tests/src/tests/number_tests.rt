@@ -40,7 +40,7 @@ const DELETED: Want<'static> = Want::Told("deleted");
 
 /// Rows, and whether a purge at the row's second follows. Then the number of the shelf's items, and
 /// of those that purges and flushes dropped.
-static COUNTS: [(Row<'static>, bool, usize, u64); 30] = [
+static COUNTS: [(Row<'static>, bool, usize, u64); 16] = [
     ((1000, b"a", Ask::Get, MISS), false, 0, 0),
     ((1000, b"a", X, STORED), false, 1, 0),
     ((1000, b"b", TEN, STORED), false, 2, 0),
@@ -62,20 +62,24 @@ static COUNTS: [(Row<'static>, bool, usize, u64); 30] = [
     ((1025, b"c", Ask::Get, MISS), true, 0, 3),
     ((1025, b"a", X, STORED), false, 1, 3),
     ((1025, b"a", Ask::Flush(0), FLUSHED), false, 0, 4),
-    ((2000, b"a", X, STORED), false, 1, 4),
-    ((2000, b"b", TEN, STORED), false, 2, 4),
-    ((2000, b"c", FIVE, STORED), false, 3, 4),
-    ((2000, b"d", FIVE, STORED), true, 4, 4),
-    ((2005, b"e", Ask::Get, MISS), true, 2, 6),
-    ((2005, b"a", Ask::Delete, DELETED), true, 1, 6),
-    ((2010, b"b", Ask::Get, MISS), true, 0, 6),
-    ((2010, b"a", FIVE, STORED), true, 1, 6),
-    ((2015, b"a", X, STORED), true, 1, 6),
-    ((2015, b"b", X, STORED), true, 2, 6),
-    ((2015, b"", Ask::Flush(5), FLUSHED), true, 2, 6),
-    ((2020, b"e", Ask::Get, MISS), true, 0, 8),
-    ((2020, b"a", X, STORED), true, 1, 8),
-    ((2020, b"", Ask::Flush(0), FLUSHED), true, 0, 9),
+];
+
+/// The same, in a store of its own.
+static DROPPED: [(Row<'static>, bool, usize, u64); 14] = [
+    ((1000, b"a", X, STORED), false, 1, 0),
+    ((1000, b"b", TEN, STORED), false, 2, 0),
+    ((1000, b"c", FIVE, STORED), false, 3, 0),
+    ((1000, b"d", FIVE, STORED), true, 4, 0),
+    ((1005, b"e", Ask::Get, MISS), true, 2, 2),
+    ((1005, b"a", Ask::Delete, DELETED), true, 1, 2),
+    ((1010, b"b", Ask::Get, MISS), true, 0, 2),
+    ((1010, b"a", FIVE, STORED), true, 1, 2),
+    ((1015, b"a", X, STORED), true, 1, 2),
+    ((1015, b"b", X, STORED), true, 2, 2),
+    ((1015, b"", Ask::Flush(5), FLUSHED), true, 2, 2),
+    ((1020, b"e", Ask::Get, MISS), true, 0, 4),
+    ((1020, b"a", X, STORED), true, 1, 4),
+    ((1020, b"", Ask::Flush(0), FLUSHED), true, 0, 5),
 ];
 
 /// Keys of one hash, on the first shelf, with the number 960.
@@ -84,8 +88,18 @@ static COUNTS: [(Row<'static>, bool, usize, u64); 30] = [
 /// isn't counted as dropped.
 #[test]
 fn items_that_purges_and_flushes_drop_are_counted(rt: HostRuntime) -> Result<(), Fail> {
-    let mut store = open_with(rt.alloc(), 64, Constant(5056))?;
-    counts_items(&rt, rt.alloc(), &mut store, &COUNTS)
+    counts_in_new(&rt, rt.alloc(), &COUNTS)?;
+    counts_in_new(&rt, rt.alloc(), &DROPPED)
+}
+
+/// Checks the rows in a new store.
+fn counts_in_new(
+    rt: &impl Abort,
+    alloc: Global,
+    rows: &[(Row<'_>, bool, usize, u64)],
+) -> Result<(), Fail> {
+    let mut store = open_with(alloc, 64, Constant(5056))?;
+    counts_items(rt, alloc, &mut store, rows)
 }
 
 /// Checks the counts after each row, and a purge if there is one.

@@ -3,14 +3,18 @@
 //! If their class has a free chunk, the new item goes into the chunk of the old one. If memory is
 //! refused the store is unchanged, and takes the step at the second try.
 
+use crate::both::stored_in_parts;
 use crate::plays::are_answered;
 use crate::seen::account;
 use crate::stores::{open, small_items};
 use crate::tests::store_tests::answers;
+use core::mem::replace_with;
 use mc_hop::Fnv;
 use mc_protocol::{Bytes, KeyStep, Reply, Verb};
 use mc_shelf::Store;
-use mc_testing::{Act, Ask, Play, Row, Want, ask_step, first_unread};
+use mc_testing::{
+    Act, Ask, Play, Row, Want, ask_step, filled_block, first_unread, is_answered, set,
+};
 use mc_time::Moment;
 use std::alloc::Global;
 use std::process::Abort;
@@ -111,6 +115,55 @@ fn has_account(rt: &impl Abort, store: &mut Store<Fnv>, want: (u32, u32)) {
 fn the_account_of_the_class_stays(rt: HostRuntime) -> Result<(), Fail> {
     let mut store = open(rt.alloc(), 1)?;
     keeps_the_account(&rt, rt.alloc(), &mut store)
+}
+
+/// The charge of a class with 230 chunks in a page. Its blocks are copied in the first part of a set
+/// that takes other chunks than its item has.
+const MIDDLING: u64 = 4544;
+
+/// How many other keys are set, and then `k`: the reply, and whether the second part copies the
+/// block, which then goes into the chunk of the old item. Then the pages and chunks out of the
+/// class, and the unique number of the item of `k`.
+static TAKEN: [(u8, &'static str, bool, (u32, u32), u64); 5] = [
+    (0, "stored", false, (1, 1), 1),
+    (0, "stored", true, (1, 1), 2),
+    (229, "stored", false, (2, 230), 232),
+    (0, "stored", true, (2, 230), 233),
+    (230, "no chunk", false, (2, 460), 233),
+];
+
+/// Sets `many` keys of two bytes, of which `many` is the first. Returns whether all are stored.
+fn set_others(store: &mut Store<Fnv>, alloc: Global, many: u8, block: &[u8]) -> bool {
+    for second in 0..many {
+        let key = [many, second];
+        if !is_answered(store, alloc, set(1000, &key, 0, block, "stored")) {
+            return false;
+        }
+    }
+    true
+}
+
+/// Checks which chunk each set takes, in a store of two pages.
+fn takes_chunks(rt: &impl Abort, alloc: Global, store: &mut Store<Fnv>, block: &[u8]) {
+    for (others, told, left, out, unique) in &TAKEN {
+        assert!(rt; set_others(store, alloc, *others, block));
+        let seen = replace_with(store, (alloc, Verb::Set, block), stored_in_parts);
+        assert_eq!(rt; seen, (*told, *left));
+        assert_eq!(rt; account(store, MIDDLING), *out);
+        let stands: Row<'_> = (1000, b"k", Ask::Get, Want::Hit(*unique, block));
+        assert!(rt; is_answered(store, alloc, stands));
+    }
+}
+
+/// A set goes into the chunk of its item if another is unused, and else into one of a new page.
+///
+/// Without a page it is refused, and the old item stays.
+#[test]
+fn a_set_takes_a_chunk(rt: HostRuntime) -> Result<(), Fail> {
+    let block = filled_block(rt.alloc(), 4000)?;
+    let mut store = open(rt.alloc(), 2)?;
+    takes_chunks(&rt, rt.alloc(), &mut store, block.as_slice());
+    Ok(())
 }
 
 // A page has one chunk for a block of 600,000 bytes.

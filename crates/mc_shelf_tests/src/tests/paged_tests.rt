@@ -1,6 +1,6 @@
 //! Items of several pages: which chunks they take, and what a dead one gives back first.
 
-use crate::both::{Both, asked_in_parts, first_apart, open_both};
+use crate::both::{Both, first_apart, open_both, stored_in_parts};
 use crate::plays::{PAGE, are_answered};
 use crate::seen::account;
 use crate::stores::{large_items, set_up};
@@ -196,24 +196,14 @@ static LEFT: [(Verb, usize, bool); 5] = [
     (Verb::Append, 1, true),
 ];
 
-/// Joins a block to `k` in two parts. Returns whether it is stored, and whether it was left.
-fn joined_in_parts(store: Store<Fnv>, joined: (Global, Verb, &[u8])) -> (Store<Fnv>, (bool, bool)) {
-    let (alloc, verb, block) = joined;
-    let step = step_of(b"k", Ask::Store(verb, 0, block));
-    let mut left = false;
-    let now = Moment::from_seconds_at_most(1000);
-    let (store, answer) = asked_in_parts(store, alloc, &step, now, &mut left);
-    (store, (told_of(&answer) == "stored", left))
-}
-
 /// Checks which joins are left, in a store of 16 pages.
 fn joins_are_left_in(rt: &impl Abort, alloc: Global, store: &mut Store<Fnv>, bytes: &[u8]) {
     let first = set(1000, b"k", 0, front(bytes, 400_000), "stored");
     assert!(rt; is_answered(store, alloc, first));
     for (verb, len, want) in &LEFT {
         let joined = (alloc, *verb, front(bytes, *len));
-        let seen = replace_with(store, joined, joined_in_parts);
-        assert_eq!(rt; seen, (true, *want));
+        let seen = replace_with(store, joined, stored_in_parts);
+        assert_eq!(rt; seen, ("stored", *want));
     }
 }
 
