@@ -2,7 +2,7 @@
 use Rattle.mc_grow.proofs.Words.{◌≡◌, ℕ, zero, suc, cond, replicate, is_some, not, ◌&&◌, Bool, true, false, true≢false, List, [], ◌∷◌, ◌++◌, map, Option, Some, None, ◌+◌, length, get_or}
 use Rattle.mc_grow.proofs.Words.{refl, sym, ap, subst, ◌∙◌, arith, nat_lt, get, len, len-insert, nat_list_cmp_total, lt-ltb, filled, content, AreApart, HopState, Map, at_its_key}
 use Rattle.mc_grow.proofs.Words.{joined_parts, many_entries, no_entries, IndexState, IsPlaceOf, cells, count, holds, HoldsAll, IsIn, drained_items, AreMoved, AreTaken, AreTried, Side}
-use Rattle.mc_grow.proofs.Words.{cells_of, side_of, none_added}
+use Rattle.mc_grow.proofs.Words.{cells_of, side_of}
 use Rattle.mc_grow.proofs.CellLemmas.{get_second}
 use Rattle.mc_grow.proofs.MoveLemmas.{in_second, more_buckets}
 
@@ -22,7 +22,7 @@ module _ {X : Type 0} (hash_of : X → ℕ) (key_of : X → List ℕ) {v now new
     same_k = ap (λ (s : IndexState X). s.k) stays;
     idle = λ _. stays;
     after = side_of v;
-    moved = record { entries = []; many = refl; taken = ap (λ (s : IndexState X). content hash_of key_of s.draining) stays; added = none_added (side_of v) };
+    moved = record { entries = []; many = refl; taken = ap (λ (s : IndexState X). content hash_of key_of s.draining) stays; added = refl };
     goes_on = λ _. ap side_of stays;
     ends = λ e _. absurd (true≢false (sym e ∙ rests));
     dropped = λ _. ap (λ (s : IndexState X). s.draining) stays ∙ none;

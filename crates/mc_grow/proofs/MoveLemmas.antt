@@ -2,7 +2,7 @@
 use Rattle.mc_grow.proofs.Words.{◌≡◌, ℕ, ◌+◌, inl, inr, List, [], ◌∷◌, ◌++◌, map, Option, Some, None, get_or, set, refl, sym, ap, subst, ◌∙◌, arith, length-append, none-some}
 use Rattle.mc_grow.proofs.Words.{map-append, append_assoc, append-nil, option_or, get, insert, get-empty, filled, AreApart, HopState, with_bucket, AreDisjoint, content, Map, at_a_key}
 use Rattle.mc_grow.proofs.Words.{at_its_key, content-back, gone_after, order, filled_inside, apart_joined, apart_parts, entry_absent, get_joined, joined_first, joined_parts, joined_second}
-use Rattle.mc_grow.proofs.Words.{no_entries, apart-taken, HoldsAll, IsIn, IsTaken, AreTaken, IsAdded, Side, cells_of, one_added}
+use Rattle.mc_grow.proofs.Words.{no_entries, apart-taken, HoldsAll, IsIn, IsTaken, AreTaken, IsAdded, AreAdded, Side, cells_of}
 
 -- ---- maps with no key in common
 
@@ -31,6 +31,12 @@ pub record IsOut {X : Type 0} (hash_of : X → ℕ) (key_of : X → List ℕ) (x
   pub back : content hash_of key_of old ≡ insert (content hash_of key_of new) (hash_of x ∷ key_of x) x
   pub gone : get (content hash_of key_of new) (hash_of x ∷ key_of x) ≡ None
   pub apart : AreApart hash_of key_of new
+
+-- an entry more was added
+pub one_added : {X : Type 0} {hash_of : X → ℕ} {key_of : X → List ℕ} {k : ℕ} (entries : List X) (entry : X) (first side last : Side X)
+    → AreAdded hash_of key_of k entries first side → IsAdded hash_of key_of k entry side last → AreAdded hash_of key_of k (entries ++ (entry ∷ [])) first last
+one_added {hash_of = hash_of} {key_of} {k} [] entry first side last same one = (last, subst (λ (s : Side _). IsAdded hash_of key_of k entry s last) same one, refl)
+one_added (e ∷ entries) entry first side last added one = (added.0, added.1, one_added entries entry added.0 side last added.2 one)
 
 -- after so many moves of entries of an old table
 pub record MovedSoFar {X : Type 0} (hash_of : X → ℕ) (key_of : X → List ℕ) (k n : ℕ) (first drained : List (Option X)) (start side : Side X) : Type 0 where

@@ -2,12 +2,11 @@
 use Rattle.mc_grow.proofs.Words.{◌≡◌, ℕ, zero, suc, ◌+◌, ◌-◌, ◌<◌, ◌≤◌, inl, inr, Bool, true, false, if◌then◌else◌, List, [], ◌∷◌, ◌++◌, map, length, take, drop, set, Option, Some, None}
 use Rattle.mc_grow.proofs.Words.{add-one, get_or, refl, sym, ap, subst, ◌∙◌, arith, none-some, cases_eq, append-nil, length-map, take_all, drop-cons, take-suc, swap_remove, get, insert}
 use Rattle.mc_grow.proofs.Words.{IsSwapped, AreApart, content, reads, apart_parts, same_entries, HoldsAll, IsTried, AreAdded, AreTried, IsAdded, Side, cells_of}
-use Rattle.mc_grow.proofs.Words.{one_added}
 use Rattle.std.proofs.lemmas.List.Sorted.{IsPermutation-pop_more, IsPermutation-refl, IsPermutation-swap_remove, length_permutation}
 use Rattle.std.proofs.Math.ListN.{drop_of_length-le}
 use Rattle.std.specs.List.Sorted.{IsPermutation}
 use Rattle.mc_grow.proofs.PartLemmas.{less_at, less_other, stood_less, stray_inside, stray_there}
-use Rattle.mc_grow.proofs.MoveLemmas.{IsOut, moved_back, new_to_each, out_second, out_taken}
+use Rattle.mc_grow.proofs.MoveLemmas.{IsOut, moved_back, new_to_each, one_added, out_second, out_taken}
 
 -- ---- a stray goes out
 

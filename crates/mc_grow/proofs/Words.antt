@@ -23,7 +23,6 @@ pub use Rattle.mc_hop.specs.Contents.{content, AreDisjoint}
 pub use Rattle.mc_hop.specs.Links.{IsSwapped}
 pub use Rattle.mc_hop.specs.Tables.{AreApart, HopState, KeepsKey, with_bucket, HasEntry, IsAt, IsAbsent, home_in}
 pub use Rattle.mc_grow.specs.Adding.{AreMoved, AreTaken, AreTried, Side, cells_of, side_of, AreAdded, IsAdded, IsCrowded, beside}
-pub use Rattle.mc_grow.specs.Adding.AreAdded.{none_added, one_added}
 pub use Rattle.mc_grow.specs.Indexes.{IndexState, IsRemoved, IsUpdated, cells, entry_at, left, IsPlaceOf, count, holds, IsFirstFrom, count_from, binary_digits, digits_in, most_reads}
 pub use Rattle.mc_grow.specs.Moving.{HoldsAll, IsIn, IsTried, IsTaken}
 pub use Rattle.mc_grow.specs.Parts.{IsChanged, drained_items, IsFirstFilled, NoneFilledFrom, NoneFilled}

@@ -1,6 +1,7 @@
 -- How entries come to a table: into a bucket near their homes, or else among the strays.
 use Rattle.std.specs.Prelude.{◌≡◌, ℕ, ◌+◌, ◌<◌, ◌⊎◌, true, false, nat_lt, List, [], ◌∷◌, ◌++◌, Option, Some, map, length, IsPermutation}
 use Rattle.std.specs.FinMap.{insert}
+use Rattle.mc_time.specs.Chains.{Chain}
 use Rattle.mc_hop.specs.Contents.{content}
 use Rattle.mc_hop.specs.Tables.{HopState, NoneFree, home_in}
 use Rattle.mc_displace.specs.Moves.{IsNear, IsStuck}
@@ -47,9 +48,8 @@ IsAdded hash_of key_of k entry old new =
     IsPlaced hash_of key_of k entry old new ⊎ IsStrayed hash_of key_of k entry old new
 
 -- entries were added by the rule, one by one
-pub data AreAdded {X : Type 0} (hash_of : X → ℕ) (key_of : X → List ℕ) (k : ℕ) : List X → Side X → Side X → Type 0 where
-  none_added : (side : Side X) → AreAdded hash_of key_of k [] side side
-  one_added : (entries : List X) (entry : X) (first side last : Side X) → AreAdded hash_of key_of k entries first side → IsAdded hash_of key_of k entry side last → AreAdded hash_of key_of k (entries ++ (entry ∷ [])) first last
+abbrev pub AreAdded : {X : Type 0} → (X → ℕ) → (X → List ℕ) → ℕ → List X → (old new : Side X) → Type 0
+AreAdded hash_of key_of k entries old new = Chain (λ before entry after. IsAdded hash_of key_of k entry before after) old entries new
 
 -- the table and the strays of an index
 abbrev pub side_of : {X : Type 0} → IndexState X → Side X

@@ -5,7 +5,7 @@ use Rattle.mc_shelf.proofs.Common.{length, length-append, List, ltb-false, ltb-t
 use Rattle.std.specs.Prelude.{min, nat_lt, OnOk, OnErr}
 use Rattle.std.proofs.lemmas.Grind.{pow_more}
 use Rattle.std.proofs.lemmas.List.Sorted.{length_permutation}
-use Rattle.mc_grow.specs.Adding.{AreAdded, none_added, one_added, AreMoved, IsAdded, Side}
+use Rattle.mc_grow.specs.Adding.{AreAdded, AreMoved, IsAdded, Side}
 use Rattle.mc_grow.proofs.CellLemmas.{count_parts}
 use Rattle.mc_shelf.specs.Counts.{Begins, BeginsToMove, CatchesUp, GoesOn, GrowthIsDue, IsLoaded}
 use Rattle.mc_grow.specs.Indexes as grow
@@ -23,26 +23,25 @@ added_stray : (k : ℕ) (entry : EntryState) (old new : Side EntryState) → IsA
 added_stray k entry old new (inl placed) = let same = ap (λ (l : List EntryState). length l) placed.strays in omega (arith, same)
 added_stray k entry old new (inr strayed) = let more = ap (λ (l : List EntryState). length l) strayed.strays ∙ length-append old.strays (entry ∷ []) in omega (arith, more)
 
-added_strays : {k : ℕ} {entries : List EntryState} {old new : Side EntryState} → AreAdded hash_in key_in k entries old new → length new.strays ≤ length old.strays + length entries
-added_strays (none_added side) = omega arith
-added_strays {k = k} (one_added entries entry first side last more one) =
-    let so_far = added_strays more in
-    let now = added_stray k entry side last one in
-    let many = length-append entries (entry ∷ []) in
-    omega (arith, so_far, now, many)
+added_strays : (k : ℕ) (entries : List EntryState) (old new : Side EntryState) → AreAdded hash_in key_in k entries old new → length new.strays ≤ length old.strays + length entries
+added_strays k [] old new same = let is = ap (λ (s : Side EntryState). length s.strays) same in omega (arith, is)
+added_strays k (entry ∷ entries) old new added =
+    let first = added_stray k entry old added.0 added.1 in
+    let others = added_strays k entries added.0 new added.2 in
+    omega (arith, first, others)
 
 -- as many strays more at most as entries are moved
 module _ (old new : IndexState EntryState) (n : ℕ) (are : AreMoved hash_in key_in n old new) (runs : old.growing ≡ true) where
   moved_strays_by : (rest : ℕ) → left new ≡ rest → length new.strays ≤ length old.strays + n
   moved_strays_by zero none =
       let tried = are.ends runs none in
-      let before = added_strays are.moved.added in
+      let before = added_strays _ _ _ _ are.moved.added in
       let same = length_permutation are.after.strays tried.tried tried.each in
-      let again = added_strays tried.added in
+      let again = added_strays _ _ _ _ tried.added in
       omega (arith, before, same, again, are.moved.many)
   moved_strays_by (suc rest) some =
       let same = ap (λ (s : Side EntryState). length s.strays) (are.goes_on (omega (arith, some))) in
-      let before = added_strays are.moved.added in
+      let before = added_strays _ _ _ _ are.moved.added in
       omega (arith, before, same, are.moved.many)
 
 module _ (old new : IndexState EntryState) (once : len (items_of old) ≡ count old) where

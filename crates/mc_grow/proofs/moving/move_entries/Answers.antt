@@ -1,4 +1,4 @@
-use Rattle.mc_grow.proofs.Words.{refl, arith, ◌∙◌, beside, [], none_added}
+use Rattle.mc_grow.proofs.Words.{refl, arith, ◌∙◌, []}
 use Rattle.mc_grow.proofs.CellLemmas.{some_filled}
 use Rattle.mc_grow.proofs.MoveLemmas.{moved_more}
 use Rattle.mc_grow.proofs.moving.move_entries.Goals as goal
@@ -6,7 +6,7 @@ use Rattle.mc_grow.proofs.moving.move_entries.Goals as goal
 pub loop-moved-init : goal.loop-moved-init
 loop-moved-init g c = record {
   moves = record {
-    taken = record { entries = []; many = refl; taken = refl; added = none_added (beside c.args.table.now c.args.strays.now.items) };
+    taken = record { entries = []; many = refl; taken = refl; added = refl };
     held = record { same = refl; apart = c.requires.apart };
     left = omega arith;
   };

@@ -1,4 +1,4 @@
-use Rattle.mc_grow.proofs.Words.{◌≡◌, ℕ, ◌+◌, if◌then◌else◌, subst, refl, arith, ◌∙◌, IsTried, beside, [], none_added}
+use Rattle.mc_grow.proofs.Words.{◌≡◌, ℕ, ◌+◌, if◌then◌else◌, subst, refl, arith, ◌∙◌, IsTried, beside, []}
 use Rattle.std.proofs.lemmas.List.Sorted.{IsPermutation-refl}
 use Rattle.mc_grow.proofs.StrayLemmas.{tried_more, all_tried}
 use Rattle.mc_grow.proofs.moving.try_strays.Goals as goal
@@ -11,7 +11,7 @@ loop-turn-init g c = record {
     each = IsPermutation-refl c.args.strays.now.items;
     many = omega arith;
     inside = omega arith;
-    added = none_added (beside c.args.table.now []);
+    added = refl;
     held = record { same = refl; apart = c.requires.apart };
   };
   same_k = refl;
