@@ -1,9 +1,8 @@
 -- Visits tell the texts of their turns.
 use Rattle.std.specs.Prelude.{slice_get}
-use Rattle.std.proofs.Common.{◌≡◌, ◌⊎◌, inl, inr, ℕ, zero, suc, ◌+◌, ◌==◌, Bool, true, false, List, [], ◌∷◌}
-use Rattle.std.proofs.Common.{◌++◌, length, Option, Some, refl, sym, ap, ◌∙◌, subst, arith, append_assoc, append-nil, if◌then◌else◌}
-use Rattle.std.proofs.lemmas.List.{length-append}
-use Rattle.std.proofs.lemmas.Option.{slice_get_within}
+use Rattle.std.proofs.Common.{◌≡◌, inl, inr, ℕ, zero, suc, ◌+◌, ◌==◌, Bool, true, false, List, [], ◌∷◌}
+use Rattle.std.proofs.Common.{◌++◌, Option, Some, refl, sym, ap, ◌∙◌, subst, arith, append_assoc, append-nil, if◌then◌else◌}
+use Rattle.std.proofs.lemmas.Option.{same_Some}
 use Rattle.mc_protocol.specs.declared.step.Steps.{Ghosts as Relations}
 use Rattle.mc_parse.specs.Units.{ProtocolUnit}
 use Rattle.mc_parse.specs.Streams.{is_last}
@@ -11,7 +10,7 @@ use Rattle.mc_session.specs.Turns.{SessionState, TakesTurn, moved, fed, turn_cou
 use Rattle.mc_guests.specs.Links.{LinkState, grown}
 use Rattle.mc_guests.specs.Guests.{GuestState, welcomed, told}
 use Rattle.mc_guests.proofs.LinkLemmas.{grown_nothing, grown_twice}
-use Rattle.mc_guests.specs.Visits.{Does, Visited, GoesRound, nobody, next, WritesFront}
+use Rattle.mc_guests.specs.Visits.{Does, Visited, GoesRound, WritesFront}
 use Rattle.mc_guests.specs.Telling.{TakenTurn, Visits, nothing, visit, texts, turns_of}
 use Rattle.mc_guests.specs.declared.guest.Visit.{Visit}
 use Rattle.mc_guests.specs.declared.guest.Visit.TheVariants.{Wrote, Turned, Read, Later, Served, Broken, Refused}
@@ -160,22 +159,7 @@ module _ {S : Type 0} (relations : Relations S) where
       (append_assoc turns earlier (turns_of relations now answer old last before after visited))
       (visit now answer (visits_go_on turns earlier first mid old visits rest) visited)
 
--- the last of a list, or one of those before it
-split_get : {A : Type 0} (xs : List A) (last x : A) (at : ℕ) → slice_get (xs ++ last ∷ []) at ≡ Some x
-    → (slice_get xs at ≡ Some x) ⊎ ((at ≡ length xs) × (last ≡ x))
-split_get [] last x zero is = inr (refl, cc is)
-split_get [] last x (suc at) is = absurd (cc)
-split_get (y ∷ xs) last x zero is = inl is
-split_get (y ∷ xs) last x (suc at) is =
-    elim (split_get xs last x at is) [ inl before ↦ inl before | inr here ↦ inr (ap suc here.0, here.1) ]
-
 module _ {S : Type 0} (relations : Relations S) (now : ℕ) where
-  round_length : (olds news : List GuestState) (before after : S) → GoesRound relations now olds news before after
-      → length news ≡ length olds
-  round_length olds news before after nobody = refl
-  round_length olds news before after (next {olds = os} {news = ns} {old = o} {new = n} {between = between} goes answer visited) =
-      omega (arith, length-append os (o ∷ []), length-append ns (n ∷ []), round_length os ns before between goes)
-
   one_visit : (answer : Visit) (old new x y : GuestState) (before after : S)
       → Visited relations now answer old new before after → old ≡ x → new ≡ y
       → (turns : List (TakenTurn relations)) × Visits relations turns x y
@@ -187,16 +171,9 @@ module _ {S : Type 0} (relations : Relations S) (now : ℕ) where
   pub round_visits : (at : ℕ) (olds news : List GuestState) (before after : S) (old new : GuestState)
       → GoesRound relations now olds news before after → slice_get olds at ≡ Some old → slice_get news at ≡ Some new
       → (turns : List (TakenTurn relations)) × Visits relations turns old new
-  round_visits at olds news before after x y nobody i j = absurd (cc)
-  round_visits at olds news before after x y (next {olds = os} {news = ns} {old = o} {new = n} {between = between} goes answer visited) i j =
-      let long = round_length os ns before between goes in
-      elim (split_get os o x at i) [
-        | inl this ↦ elim (split_get ns n y at j) [
-          | inl that ↦ round_visits at os ns before between x y goes this that
-          | inr that ↦ absurd (let within = slice_get_within os at x this in let place = that.0 in omega arith)
-        ]
-        | inr this ↦ elim (split_get ns n y at j) [
-          | inl that ↦ absurd (let within = slice_get_within ns at y that in let place = this.0 in omega arith)
-          | inr that ↦ one_visit answer o n x y between after visited this.1 that.1
-        ]
-      ]
+  round_visits at [] news before after x y goes i j = absurd (cc)
+  round_visits at (o ∷ olds) [] before after x y goes i j = absurd (cc)
+  round_visits zero (o ∷ olds) (n ∷ news) before after x y (long, (mid, once, goes)) i j =
+      one_visit once.0 o n x y before mid once.1 (same_Some o x i) (same_Some n y j)
+  round_visits (suc at) (o ∷ olds) (n ∷ news) before after x y (long, (mid, once, goes)) i j =
+      round_visits at olds news mid after x y (omega (arith, long), goes) i j

@@ -1,19 +1,15 @@
 -- The parts of a visit.
-use Rattle.std.proofs.Common.{◌≡◌, ℕ, ◌<◌, ◌≤◌, ◌+◌, List, [], ◌∷◌, ◌++◌, length, take, drop, refl, sym, ap, ◌∙◌}
-use Rattle.std.proofs.Common.{subst, arith, get_or, inl, inr, Option, Some, None, Bool, true, false, ◌⊎◌, IsTrue, IsFalse}
-use Rattle.std.proofs.Math.ListN.{set}
-use Rattle.std.proofs.lemmas.List.{take_more_set, drop-set-lt}
-use Rattle.std.proofs.lemmas.Grind.{drop_more_same}
+use Rattle.std.proofs.Common.{◌≡◌, ℕ, ◌<◌, ◌≤◌, List, [], ◌∷◌, ◌++◌, length, take, drop, refl, sym, ap, ◌∙◌}
+use Rattle.std.proofs.Common.{subst, arith, inl, inr, Option, Some, None, Bool, true, false, ◌⊎◌, IsTrue, IsFalse}
 use Rattle.mc_protocol.specs.declared.step.Steps.{Ghosts as Relations}
 use Rattle.std.proofs.lemmas.List.{take-append-drop, take-append-le, length-append, length-take-le, append-nil}
 use Rattle.mc_bytes.specs.Parts.{IsFront}
 use Rattle.mc_session.specs.Turns.{SessionState, DecidesStep, TurnIsDue, FedPiece, sent, closed}
 use Rattle.mc_guests.specs.Links.{LinkState, IsRoom, asked, grown, gave, took, failed, ended}
 use Rattle.mc_guests.specs.Guests.{GuestState, IsWaiting, IsOffer}
-use Rattle.mc_guests.specs.Visits.{WritesFront, ReadsPiece, WaitsForLink, EndsServed, EndsBroken, RefusesPiece, RefusesTurn, Reads, Does, Visited, GoesRound, next}
+use Rattle.mc_guests.specs.Visits.{WritesFront, ReadsPiece, WaitsForLink, EndsServed, EndsBroken, RefusesPiece, RefusesTurn, Reads, Does}
 use Rattle.mc_guests.specs.declared.guest.Visit.{Visit}
 use Rattle.mc_guests.specs.declared.guest.Visit.TheVariants.{Wrote, Turned, Read, Later, Served, Broken, Refused}
-use Rattle.mc_guests.proofs.RoundLemmas.{front_more}
 
 -- a front of what isn't empty
 is_offer : (all front : List ℕ) → IsFront all front → (all ≡ [] → ⊥) → IsOffer (length front) (length all)
@@ -38,21 +34,6 @@ writes_front old new n front is has some low s l offered =
       offered = subst (λ k. IsOffer k (length old.session.out)) (sym offered) (is_offer old.session.out front is has);
       within = omega (arith, long, low, offered);
     }
-
-pub round_more : {S : Type 0} (relations : Relations S) (now : ℕ) (olds news : List GuestState) (i : ℕ)
-    (x y : GuestState) (before between after : S) (answer : Visit) → length news ≡ length olds
-    → i < length news → x ≡ get_or news i x
-    → GoesRound relations now (take i olds) (take i news) before between × (drop i news ≡ drop i olds)
-    → Visited relations now answer x y between after
-    → GoesRound relations now (take (i + 1) olds) (take (i + 1) (set news i y)) before after
-    × (drop (i + 1) (set news i y) ≡ drop (i + 1) olds)
-round_more {S} relations now olds news i x y before between after answer long inside is goes visit =
-    let one = front_more olds news i x long inside is goes.1 in (
-      subst (λ l. GoesRound relations now l (take (i + 1) (set news i y)) before after) (sym one)
-          (subst (λ l. GoesRound relations now (take i olds ++ x ∷ []) l before after)
-          (sym (take_more_set news i y inside)) (next goes.0 answer visit)),
-      drop-set-lt (i + 1) news i y (omega arith) ∙ drop_more_same news olds i goes.1,
-    )
 
 -- a guest of these parts
 abbrev pub guest_of : SessionState → LinkState → Option Visit → GuestState

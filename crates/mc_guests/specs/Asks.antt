@@ -10,6 +10,7 @@ use Rattle.mc_session.specs.Turns.{SessionState, closed}
 use Rattle.mc_guests.specs.Guests.{GuestState, has_ended}
 use Rattle.mc_guests.specs.Links.{failed}
 use Rattle.mc_guests.specs.Visits.{Visited}
+use Rattle.mc_time.specs.Chains.{Repeats}
 use Rattle.mc_guests.specs.declared.guest.Visit.{Visit}
 use Rattle.mc_guests.specs.declared.guest.Visit.TheVariants.{Broken}
 
@@ -104,11 +105,12 @@ module _ {S : Type 0} (relations : Relations S) (now : ℕ) where
     pub stays : StaysOrLosesLink old new
     pub asks : MayAsk (NamesKey old.session) before after
 
-  -- A round: some guests were visited one after another, and the store goes from each to the next; of a guest that is
-  -- kept waiting it may only have been asked how long a block is.
-  pub data MakesRound : (before after : S) → Type 0 where
-    nobody : {store : S} → MakesRound store store
-    asks : {before between after : S} {session : SessionState} → MakesRound before between
-        → MayAsk (NamesKey session) between after → MakesRound before after
-    visits : {before between after : S} {answer : Visit} {old new : GuestState} → MakesRound before between
-        → Visited relations now answer old new between after → MakesRound before after
+  -- a round comes to one guest: it was visited, or is kept waiting
+  pub record ComesToOne (before after : S) : Type 0 where
+    pub old : GuestState
+    pub new : GuestState
+    pub turn : ((answer : Visit) × AsksAndVisits answer old new before after) ⊎ IsKeptWaiting old new before after
+
+  -- A round comes to guests one after another, and the store goes from each to the next.
+  abbrev pub MakesRound : (before after : S) → Type 0
+  MakesRound before after = (count : ℕ) × Repeats ComesToOne count before after

@@ -5,6 +5,7 @@ use Rattle.mc_guests.specs.Guests.{welcomed}
 use Rattle.mc_guests.specs.Books.{BooksState, Wakes, let_in, one_more, quiet}
 use Rattle.mc_time.specs.Chains.{Repeats}
 use Rattle.mc_guests.specs.declared.guests.WorkEnd.{WorkEnd}
+use Rattle.mc_guests.specs.declared.talk.TheConstants.{NAMES}
 use Rattle.mc_guests.specs.declared.talk.Came.{Came}
 use Rattle.mc_guests.specs.declared.talk.Came.TheVariants.{Link, Later, Closed}
 use Rattle.mc_guests.specs.declared.talk.Talk.{Talk}
@@ -41,11 +42,15 @@ pub record WakesOneNamed (old new : Talk × BooksState) : Type 0 where
 abbrev pub WakesNamed : (talk : Talk) (old : BooksState) (later : Talk) (new : BooksState) → Type 0
 WakesNamed talk old later new = (count : ℕ) × Repeats WakesOneNamed count (talk, old) (later, new)
 
--- the same, until none was named any more, or 1024 were
+-- the most names between two rounds
+abbrev pub most_names : ℕ
+most_names = NAMES
+
+-- the same, until none was named any more, or as many as there may be were
 pub record WakesAllNamed (talk : Talk) (old : BooksState) (later : Talk) (new : BooksState) : Type 0 where
   pub last : Talk
   pub wakes : WakesNamed talk old last new
-  pub over : (later ≡ heard None last) ⊎ ((last.names ≡ 1024) × (later ≡ last))
+  pub over : (later ≡ heard None last) ⊎ ((last.names ≡ most_names) × (later ≡ last))
 
 -- a link came: there is a guest more, who is awake, or the link is counted as refused
 pub record LetsIn (greatest number : ℕ) (old new : BooksState) (before after : WorkEnd) : Type 0 where

@@ -1,11 +1,12 @@
 -- Who is visited in a round, where guests that want much may be kept waiting.
-use Rattle.std.specs.Prelude.{◌≢◌, ◌⊎◌, ℕ, List, [], ◌∷◌, ◌++◌, take, IsTrue, IsFalse}
+use Rattle.std.specs.Prelude.{◌≢◌, ◌⊎◌, ℕ, List, take, IsTrue, IsFalse}
 use Rattle.mc_protocol.specs.declared.step.Steps.{Ghosts as Relations}
 use Rattle.mc_guests.specs.Asks.{AsksAndVisits, IsKeptWaiting}
 use Rattle.mc_guests.specs.Books.{BooksState, KeepsBooks}
 use Rattle.mc_guests.specs.Retries.{LetsOn, IsWhole}
 use Rattle.mc_guests.specs.Budgets.{uncounted, IsHeldBack, IsCounted, Recounts, CountsAll}
 use Rattle.mc_guests.specs.Guests.{RowGuest}
+use Rattle.mc_guests.specs.Visits.{OneByOne}
 use Rattle.mc_guests.specs.declared.budget.Budget.{Budget}
 use Rattle.mc_guests.specs.declared.guest.Visit.{Visit}
 use Rattle.mc_guests.specs.declared.guest.Visit.TheVariants.{Wrote}
@@ -25,16 +26,13 @@ module _ {S : Type 0} (relations : Relations S) (now : ℕ) where
     pub waits : IsTrue new.waits
 
   -- a guest was visited, or is kept waiting, and the budget counts it anew
-  pub record HasTurn (old new : RowGuest) (before after : S) (budget later : Budget) : Type 0 where
-    pub turn : IsVisited old new before after later ⊎ WaitsForRoom old new before after budget
-    pub counts : Recounts old new budget later
+  pub record HasTurn (before : S × Budget) (guest : RowGuest × RowGuest) (after : S × Budget) : Type 0 where
+    pub turn : IsVisited guest.0 guest.1 before.0 after.0 after.1 ⊎ WaitsForRoom guest.0 guest.1 before.0 after.0 before.1
+    pub counts : Recounts guest.0 guest.1 before.1 after.1
 
   -- the guests have their turns in order, once each; the store and the budget go from each to the next
-  pub data HaveTurns : (old new : List RowGuest) (before after : S) (budget later : Budget) → Type 0 where
-    nobody : {store : S} {budget : Budget} → HaveTurns [] [] store store budget budget
-    next : {olds news : List RowGuest} {old new : RowGuest} {before between after : S} {budget mid later : Budget}
-        → HaveTurns olds news before between budget mid → HasTurn old new between after mid later
-        → HaveTurns (olds ++ old ∷ []) (news ++ new ∷ []) before after budget later
+  abbrev pub HaveTurns : (olds news : List RowGuest) (before after : S) (budget later : Budget) → Type 0
+  HaveTurns olds news before after budget later = OneByOne HasTurn olds news (before, budget) (after, later)
 
   -- Those that are awake have their turns, by a budget of the guests' share that counts all guests, each of whom has a
   -- number. Who sleeps, all numbers, who is awake, and the queue stay.

@@ -1,9 +1,10 @@
 -- What a visit does.
-use Rattle.std.specs.Prelude.{◌≡◌, ◌⊎◌, ◌<◌, ◌≤◌, ℕ, true, false, List, [], ◌∷◌, ◌++◌, length, Some, IsTrue, IsFalse}
+use Rattle.std.specs.Prelude.{◌≡◌, ◌⊎◌, ◌<◌, ◌≤◌, ℕ, true, false, List, [], ◌++◌, length, zip, Some, IsTrue, IsFalse}
 use Rattle.mc_protocol.specs.declared.step.Steps.{Ghosts as Relations}
 use Rattle.mc_session.specs.Turns.{TakesTurn, DecidesStep, closed, fed}
 use Rattle.mc_guests.specs.Links.{IsRoom, asked, gave, took, failed, ended}
 use Rattle.mc_guests.specs.Guests.{GuestState, ends, has_ended, IsTurnDue, IsWaiting, AwaitsLink, wants, IsOffer, IsDemand}
+use Rattle.mc_time.specs.Chains.{Chain}
 use Rattle.mc_guests.specs.declared.guest.Visit.{Visit}
 use Rattle.mc_guests.specs.declared.guest.Visit.TheVariants.{Wrote, Turned, Read, Later, Served, Broken, Refused}
 
@@ -78,6 +79,11 @@ pub record FindsEnded {S : Type 0} (answer : Visit) (old new : GuestState) (befo
   pub guest : new ≡ old
   pub store : after ≡ before
 
+-- Guests as they were and as they are, one by one: from the state before to the state after there is a step for each of
+-- them, in order.
+abbrev pub OneByOne : {S G : Type 0} (Step : S → G × G → S → Type 0) → (olds news : List G) (before after : S) → Type 0
+OneByOne Step olds news before after = (length news ≡ length olds) × Chain Step before (zip olds news) after
+
 module _ {S : Type 0} (relations : Relations S) (now : ℕ) where
   -- a turn was due, and was taken
   pub record MakesTurn (old new : GuestState) (before after : S) : Type 0 where
@@ -115,10 +121,10 @@ module _ {S : Type 0} (relations : Relations S) (now : ℕ) where
   Visited answer old new before after =
       FindsEnded answer old new before after ⊎ DoesDue answer old new before after
 
+  -- a guest was visited, with some answer
+  abbrev pub VisitsOnce : (before : S) (guest : GuestState × GuestState) (after : S) → Type 0
+  VisitsOnce before guest after = (answer : Visit) × Visited answer guest.0 guest.1 before after
+
   -- A round: the guests are visited in order, once each, and the store goes from each to the next.
-  pub data GoesRound : (old new : List GuestState) (before after : S) → Type 0 where
-    nobody : {store : S} → GoesRound [] [] store store
-    next : {olds news : List GuestState} {old new : GuestState} {before between after : S}
-        → GoesRound olds news before between
-        → (answer : Visit) → Visited answer old new between after
-        → GoesRound (olds ++ old ∷ []) (news ++ new ∷ []) before after
+  abbrev pub GoesRound : (olds news : List GuestState) (before after : S) → Type 0
+  GoesRound olds news before after = OneByOne VisitsOnce olds news before after

@@ -3,7 +3,7 @@
 //! Links show nothing to contracts, so the calls are noted in `Talk`: the next link, the names, the
 //! rest. That the notes are true is read in three short functions.
 ghost use Rattle.std.specs.Prelude.{◌≡◌, ◌↔◌, ◌<◌, ◌&&◌, ◌==◌, Some, IsTrue};
-ghost use Rattle.mc_guests.specs.Doors.{unasked, came, came_of, heard, WakesAllNamed, ComesNothing};
+ghost use Rattle.mc_guests.specs.Doors.{unasked, came, came_of, heard, most_names, WakesAllNamed, ComesNothing};
 ghost use Rattle.mc_guests.specs.declared.talk.Came.TheVariants.{Link as ALink};
 
 use crate::guests::Guests;
@@ -78,7 +78,7 @@ impl Talk {
 
     /// Gets the name of a link that may give or take more.
     fn ready<L: Link + Drop, Q: Links<L>>(&mut self, links: &mut Q) -> Option<u64>
-        requires { self.old.names < 1024 }
+        requires { self.old.names < most_names }
         ensures { self.new ≡ heard result self.old }
     {
         match links.ready() {
