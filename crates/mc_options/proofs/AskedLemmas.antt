@@ -2,7 +2,7 @@
 use Rattle.std.proofs.Common.{◌≡◌, ◌∙◌, sym, refl, subst, arith, ℕ, ◌≤◌, min, max, Option, Some, None}
 use Rattle.mc_shelf.specs.Ranges.{IsShelfCount}
 use Rattle.mc_shelf.proofs.RangeLemmas.{few_shelves}
-use Rattle.mc_options.specs.Asked.{IsAskedFor, IsTimeoutFor, IsGreatestFor, AsksNoShelfCount}
+use Rattle.mc_options.specs.Asked.{IsAskedFor, IsTimeoutFor, usual_greatest, IsGreatestFor, AsksNoShelfCount}
 
 pub clamped : (asked : Option ℕ) (usual most n taken : ℕ)
     → asked ≡ Some n → taken ≡ max 1 (min n most) → 1 ≤ most → IsAskedFor asked usual most taken
@@ -13,7 +13,7 @@ clamped asked usual most n taken is clamps some = record {
 }
 
 pub kept_in_pages : (asked : Option ℕ) (n taken : ℕ)
-    → asked ≡ Some n → taken ≡ max 1048576 (min n 8388608) → IsGreatestFor asked taken
+    → asked ≡ Some n → taken ≡ max usual_greatest (min n 8388608) → IsGreatestFor asked taken
 kept_in_pages asked n taken is clamps = record {
   unasked = λ none. let no : Some n ≡ None = sym is ∙ none in cc;
   asked_for = λ m said fits.

@@ -26,10 +26,14 @@ pub record IsTimeoutFor (asked : Option ℕ) (most taken : ℕ) : Type 0 where
   pub asked_for : (n : ℕ) → asked ≡ Some n → n ≤ most → taken ≡ n
   pub range : taken ≤ most
 
+-- the greatest charge of an item if none is asked for: that of a page
+abbrev pub usual_greatest : ℕ
+usual_greatest = 1048576
+
 -- the greatest charge of an item that is asked for, if it is that of 1 to 8 pages; another such if
--- it isn't, and that of a page if nothing is asked for
+-- it isn't, and the usual one if nothing is asked for
 pub record IsGreatestFor (asked : Option ℕ) (taken : ℕ) : Type 0 where
-  pub unasked : asked ≡ None → taken ≡ 1048576
+  pub unasked : asked ≡ None → taken ≡ usual_greatest
   pub asked_for : (n : ℕ) → asked ≡ Some n → IsGreatestCharge n → taken ≡ n
   pub range : IsGreatestCharge taken
 
