@@ -29,7 +29,7 @@ pub use Rattle.mc_shelf.specs.Numbers.{HasPlaces, KeysAreCounted}
 pub use Rattle.mc_shelf.specs.Parts.{ArePartsOf, GoesByStep, GoesTo, IsDeskOf, IsShelfOf, shelf_of}
 pub use Rattle.mc_shelf.specs.Places.{entries_of, hashes_of, IsKeyAt, IsKeyFound, ItemIsChanged, items_of, KeyComes, KeyGoes}
 pub use Rattle.mc_shelf.specs.Plans.{answered, back_at, block_beside, block_in, CanWrite, counts, dead_chunks, drafted, gives_way, GivesBack, GoesOver, has_need, is_gone, IsDropped, IsKnown}
-pub use Rattle.mc_shelf.specs.Plans.{IsOut, IsPut, IsSpent, IsWriteOf, item_in, made_block, NeedsPages, next_by, next_of, PlanIsSettled, row_at, StepTaken, stood, wants_desk, WantsDesk}
+pub use Rattle.mc_shelf.specs.Plans.{IsOut, IsPut, IsSpent, item_in, made_block, NeedsPages, next_by, next_of, PlanIsSettled, row_at, StepTaken, stood, wants_desk, WantsDesk}
 pub use Rattle.mc_shelf.specs.Plans.{with_item}
 pub use Rattle.mc_shelf.specs.States.{CanStandAt, charge_in, DeskState, EntryState, Hashes, IsHash, nothing_held, parts_of, ShelfContent, ShelfState, StandsAt}
 pub use Rattle.mc_shelf.specs.Stores.{FewMoveAt, NoneRises}
@@ -37,7 +37,7 @@ pub use Rattle.mc_shelf.specs.Sweeps.{count_among, GivesFor, IsPurged}
 pub use Rattle.mc_shelf.specs.Unions.{lefts, plain_of}
 pub use Rattle.mc_shelf.specs.declared.counts.ShelfCounts.{ShelfCounts}
 pub use Rattle.mc_shelf.specs.declared.plan.Action.{Action}
-pub use Rattle.mc_shelf.specs.declared.plan.Action.TheVariants.{Answer, Discard, Expire, Write}
+pub use Rattle.mc_shelf.specs.declared.plan.Action.TheVariants.{Answer, Discard, Expire, Left, Write}
 pub use Rattle.mc_shelf.specs.declared.settings.Settings.{Settings}
 pub use Rattle.mc_shelf.specs.declared.soonest.Soonest.{Soonest}
 pub use Rattle.mc_slab.proofs.ClassLemmas.{chunks_a_page-least, length-chunk_sizes, size_of-last}

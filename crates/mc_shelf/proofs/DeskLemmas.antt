@@ -1,7 +1,7 @@
 -- Which plans need the desk: those of a step that drops an item, writes one, finds no chunk, or finds the numbers spent.
 use Rattle.mc_shelf.proofs.Common.{◌&&◌, ◌+◌, ◌-◌, ◌^◌, ◌↔◌, ◌∙◌, ◌≡◌, ◌≢◌, ◌≤◌, ◌⊎◌, Action, Answer, Answered, answered, ap, arith, block_need, Bool, CanStandAt, charge, cond_both, Deletes}
 use Rattle.mc_shelf.proofs.Common.{DeskState, Discard, Draft, Entry, eqb, Err, Expire, Expiry, false, full_fault, get, has_room_with, hit_of, if◌then◌else◌, inl, inr, is_gone, is_none}
-use Rattle.mc_shelf.proofs.Common.{is_some, IsOnKey, keeps_chunk, key_of, KeyStep, le-ltb, List, ltb, NeedState, next_by, next_of, NoChunk, None, none-some, Option, out_of, Outcome}
+use Rattle.mc_shelf.proofs.Common.{is_some, IsOnKey, keeps_chunk, key_of, KeyStep, Left, le-ltb, List, ltb, NeedState, next_by, next_of, NoChunk, None, none-some, Option, out_of, Outcome}
 use Rattle.mc_shelf.proofs.Common.{pages_of, Plain, plain, Reads, refl, refusal_reply, Refuses, Reply, Result, Row, row_at, ShelfContent, SlabState, Some, Spent, StandsAt, stood, subst, sym}
 use Rattle.mc_shelf.proofs.Common.{TakeFault, TellsFull, TooLarge, Touches, true, true≢false, wants_desk, WantsDesk, WantsPages, with_chunk, Write, write_reply, Writes, written, ℕ}
 use Rattle.std.proofs.Common.{IfErr}
@@ -94,6 +94,7 @@ module _ (shelf : ShelfContent) (desk : DeskState) (step : KeyStep) (now : ℕ) 
   pub wanted_needs : (next : Action) → next ≡ next_of shelf step now → wants_desk next ≡ true → NeedsDesk its_key s (plain s step now)
   wanted_needs (Discard reply) is e = discard_needs reply is
   wanted_needs (Write size draft) is e = write_needs size draft is
+  wanted_needs (Left unique chunks draft) is e = absurd (does (Left unique chunks draft) is)
   wanted_needs next is e = absurd (true≢false (sym e))
 
   -- an item that was found is still there

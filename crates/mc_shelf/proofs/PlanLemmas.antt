@@ -1,7 +1,7 @@
 -- What the plan of a step says of the plain machine at the key.
 use Rattle.mc_shelf.proofs.Common.{◌&&◌, ◌∙◌, ◌≡◌, ◌≤◌, Action, alive, Answer, Answered, answered, ap, Appended, block_in, block_of, Body, changed, charge, cond_both, Deleted, Deletes}
 use Rattle.mc_shelf.proofs.Common.{DeskState, Discard, Draft, Entry, Expire, expiring, Expiry, false, get, Given, hit_of, if◌then◌else◌, insert, is_dead, is_gone, is_none, is_some, IsOnKey}
-use Rattle.mc_shelf.proofs.Common.{keeps_chunk, key_of, KeyStep, List, ltb, ltb-false, ltb-true, made_block, next_by, next_of, None, Option, Outcome, Plain, Prepended, Reads, refl}
+use Rattle.mc_shelf.proofs.Common.{keeps_chunk, key_of, KeyStep, Left, List, ltb, ltb-false, ltb-true, made_block, next_by, next_of, None, Option, Outcome, Plain, Prepended, Reads, refl}
 use Rattle.mc_shelf.proofs.Common.{refusal_reply, Refuses, remove, Reply, Row, row_at, row_of, ShelfContent, Some, StandsAt, stood, subst, sym, TooLarge, Touched, Touches, true, true≢false}
 use Rattle.mc_shelf.proofs.Common.{Write, write_reply, Writes, written_block, wrote, ℕ}
 use Rattle.std.proofs.Common.{append-nil}
@@ -84,6 +84,7 @@ module _ (shelf : ShelfContent) (step : KeyStep) (now : ℕ) where
   Does s outcome (Expire expiry reply) = (item : Entry) × (stands ≡ Some item) × (outcome ≡ Answered reply (record s { items = insert s.items (key_of step) (record item { expiry = expiry }) }))
   Does s outcome (Discard reply) = (old : Entry) × (found ≡ Some old) × (outcome ≡ Answered reply (record s { items = remove s.items (key_of step) }))
   Does s outcome (Write size draft) = (outcome ≡ wrote_at shelf step now draft s) × IsDrafted shelf step now size draft
+  Does s outcome (Left unique chunks draft) = ⊥
 
   -- a dead item was found, and none stands
   pub dead_found : (f st : Option Entry) → is_some f && is_none st ≡ true → ((old : Entry) × (f ≡ Some old)) × (st ≡ None)

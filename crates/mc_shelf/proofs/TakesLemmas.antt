@@ -1,14 +1,14 @@
 -- What a shelf and a desk make of a plan is what the plain machine makes of the step.
 use Rattle.mc_shelf.proofs.Common.{[], ◌&&◌, ◌*◌, ◌+◌, ◌-◌, ◌<◌, ◌==◌, ◌^◌, ◌||◌, ◌∙◌, ◌≡◌, ◌≢◌, ◌≤◌, Action, alive, and_parts, and_right, Answer, Answered, ap, arith, back_at, block_beside}
-use Rattle.mc_shelf.proofs.Common.{block_in, block_need, block_of, Body, Bool, CanStandAt, changed, charge, chunks_a_page, chunks_in, count-remove, count_of, Counted, counts, dead_chunks}
+use Rattle.mc_shelf.proofs.Common.{block_in, block_need, block_of, Body, Bool, CanStandAt, changed, charge, chunks_a_page, chunks_in, ChunksState, count-remove, count_of, Counted, counts, dead_chunks}
 use Rattle.mc_shelf.proofs.Common.{DeskState, Discard, Draft, drafted, empty, Entry, eqb, eqb-true, Expire, Expiry, false, get, Given, given, gives_way, GivesBack, GoesOver, has_need}
-use Rattle.mc_shelf.proofs.Common.{has_room, if◌then◌else◌, insert, is_gone, is_none, is_some, IsClass, IsDropped, IsHash, IsNeed, IsOnKey, IsOut, IsPut, IsSlab, IsSpent, IsWriteOf}
-use Rattle.mc_shelf.proofs.Common.{item_need, keeps_chunk, key_of, KeyStep, le-leb, leb-true, List, lt-ltb, made_block, made_ready, need_for, NeedState, next_of, NoChunk, None, not}
+use Rattle.mc_shelf.proofs.Common.{has_room, if◌then◌else◌, insert, is_gone, is_none, is_some, IsClass, IsDropped, IsHash, IsNeed, IsOnKey, IsOut, IsPut, IsSlab, IsSpent}
+use Rattle.mc_shelf.proofs.Common.{item_need, keeps_chunk, key_of, KeyStep, le-leb, Left, leb-true, List, lt-ltb, made_block, made_ready, need_for, NeedState, next_of, NoChunk, None, not}
 use Rattle.mc_shelf.proofs.Common.{of_class, Option, or_right, out_of, Plain, plain, Prepended, refl, remove, Reply, row_at, same_need, same_Some, ShelfContent, ShelfState, SlabState, Some}
 use Rattle.mc_shelf.proofs.Common.{StandsAt, StepTaken, stood, subst, sym, taken, true, true≢false, with_chunk, Write, write_reply, written, written_block, wrote, ℕ}
 use Rattle.std.proofs.Common.{decimal}
-use Rattle.mc_shelf.specs.declared.write.Write.{Write as Writing}
-use Rattle.mc_shelf.specs.Plans.{GivesChunks, GoesApart, LiesInNeed, TakesStepAtKey, readied, way_given}
+use Rattle.mc_shelf.specs.declared.plan.Plan.{Plan}
+use Rattle.mc_shelf.specs.Plans.{GivesChunks, GoesApart, IsPlan, LiesInNeed, TakesStepAtKey, readied, way_given}
 use Rattle.mc_shelf.proofs.StandLemmas.{base, step_is, at_none, at_dropped, at_put_again, counts_put, given_taken, out-given, out-taken, out-way, out_found, out_some, pages-way, pages_after}
 use Rattle.mc_shelf.proofs.StandLemmas.{pages_are, pages_stay, ready_unused, room_by_free, room_is, taken_is_slab, weight, weight_here, wrote_full, wrote_kept, wrote_spent, wrote_taken}
 use Rattle.mc_shelf.proofs.NeedLemmas.{need_class, needs_same}
@@ -37,6 +37,10 @@ module _ (shelf : ShelfContent) (step : KeyStep) (now : ℕ) where
 
   pub discarded_is : (reply : Reply) → Discard reply ≡ next_of shelf step now → (item : Entry) × (get shelf.items (key_of step) ≡ Some item)
   discarded_is reply is = let d = does_yet (Discard reply) is in (d.0, d.1)
+
+  -- no step is begun before it is looked up
+  pub begun_never : (unique : ℕ) (chunks : Option ChunksState) (draft : Draft) → Left unique chunks draft ≡ next_of shelf step now → ⊥
+  begun_never unique chunks draft is = does_yet (Left unique chunks draft) is
 
 -- the chunks of the key's item are out
 pub is_out : (key : List ℕ) (shelf : ShelfContent) (desk : DeskState) → CanStandAt key shelf desk → IsOut key shelf desk
@@ -119,11 +123,11 @@ not_reused true body true need slab e = e
 not_reused true body false need slab e = refl
 
 -- a write that goes into others reuses none
-pub reuses_none : {write : Writing} {step : KeyStep} {shelf : ShelfContent} {need : NeedState} {slab : SlabState} {back : ℕ} → GoesApart write step shelf need slab back
-    → reuses shelf.cut write.moment (key_of step) (get shelf.items (key_of step)) need write.draft.body ≡ false
-reuses_none {write} {step} {shelf} {need} {slab} apart =
+pub reuses_none : {plan : Plan} {draft : Draft} {step : KeyStep} {shelf : ShelfContent} {need : NeedState} {slab : SlabState} {back : ℕ} → GoesApart plan draft step shelf need slab back
+    → reuses shelf.cut plan.moment (key_of step) (get shelf.items (key_of step)) need draft.body ≡ false
+reuses_none {plan} {draft} {step} {shelf} {need} {slab} apart =
     let found = get shelf.items (key_of step) in
-    not_reused (has_need (key_of step) found need) write.draft.body (is_gone shelf.cut write.moment found) need slab apart.other
+    not_reused (has_need (key_of step) found need) draft.body (is_gone shelf.cut plan.moment found) need slab apart.other
 
 -- where a write goes over an item without reusing its chunks, as many others are unused
 unused_over : (body : Body) (gone : Bool) (need : NeedState) (slab : SlabState) → plans.goes_over body gone need slab ≡ true → counts body || gone ≡ false
@@ -230,9 +234,9 @@ pub record Writes (step : KeyStep) (now : ℕ) (shelf : ShelfContent) (desk : De
   pub next : Write size draft ≡ next_of shelf step now
   pub need_is : need ≡ need_for size
 
-pub writes_so : {write : Writing} {shelf : ShelfContent} {step : KeyStep} {need : NeedState} (desk : DeskState) → IsWriteOf write shelf step → need ≡ need_for write.charge
-    → Writes step write.moment shelf desk write.charge write.draft need
-writes_so desk is need_is = record { on = is.on_key; next = sym is.next; need_is = need_is }
+pub writes_so : {plan : Plan} {shelf : ShelfContent} {step : KeyStep} {size : ℕ} {draft : Draft} {need : NeedState} (desk : DeskState) → IsPlan plan shelf step plan.moment
+    → plan.next ≡ Write size draft → need ≡ need_for size → Writes step plan.moment shelf desk size draft need
+writes_so desk is next need_is = record { on = is.on_key; next = sym next ∙ is.next; need_is = need_is }
 
 module _ {step : KeyStep} {now : ℕ} {shelf : ShelfContent} {desk : DeskState} {size : ℕ} {draft : Draft} {need : NeedState} (w : Writes step now shelf desk size draft need) where
   abbrev its_key : List ℕ

@@ -24,11 +24,8 @@ use Rattle.mc_shelf.specs.States.{EntryState, ShelfContent, ShelfState, DeskStat
 use Rattle.mc_shelf.specs.Counts.{CatchesUp, counts_of}
 use Rattle.mc_grow.specs.declared.index.Place.{Place}
 use Rattle.mc_shelf.specs.declared.plan.Action.{Action}
-use Rattle.mc_shelf.specs.declared.plan.Action.TheVariants.{Answer, Expire, Discard, Write}
+use Rattle.mc_shelf.specs.declared.plan.Action.TheVariants.{Answer, Expire, Discard, Write, Left}
 use Rattle.mc_shelf.specs.declared.plan.Plan.{Plan}
-use Rattle.mc_shelf.specs.declared.write.Write.{Write as Writing}
-use Rattle.mc_shelf.specs.declared.begun.Begun.{Begun}
-use Rattle.mc_shelf.specs.declared.begun.Begun.TheVariants.{Done, Full, Left}
 
 -- the item of a lent entry
 abbrev pub item_in : Option (Bor EntryState) → Option Entry
@@ -88,12 +85,11 @@ row_at shelf step now = row_of step now (stood shelf step now)
 abbrev pub next_of : ShelfContent → KeyStep → ℕ → Action
 next_of shelf step now = next_found shelf.greatest shelf.cut step now (get shelf.items (key_of step))
 
--- it needs the desk: it drops an item, or writes one if there is a number and a chunk
+-- it needs the desk, or has begun at it: it drops an item, or writes one if there is a number and a chunk
 abbrev pub wants_desk : Action → Bool
 wants_desk (Answer reply) = false
 wants_desk (Expire expiry reply) = false
-wants_desk (Discard reply) = true
-wants_desk (Write size draft) = true
+wants_desk next = true
 
 -- it writes
 abbrev pub writes : Action → Bool
@@ -227,13 +223,6 @@ abbrev pub counts : Body → Bool
 counts (Counted number) = true
 counts body = false
 
--- a write that comes next in a step, of a key that is known
-pub record IsWriteOf (write : Writing) (shelf : ShelfContent) (step : KeyStep) : Type 0 where
-  pub on_key : IsOnKey step
-  pub short : length (key_of step) ≤ longest_key
-  pub next : next_of shelf step write.moment ≡ Write write.charge write.draft
-  pub known : IsKnown shelf (key_of step) write.hash write.place
-
 -- the item of a draft with this block
 abbrev pub drafted : Draft → (block : List ℕ) → (unique updated : ℕ) → Entry
 drafted draft block unique updated =
@@ -257,15 +246,22 @@ goes_over Prepended gone need slab = gone
 goes_over body gone need slab = gone || nat_le need.count (slabs.unused slab need.class)
 
 -- a write goes into the chunks of the key's item, which are those that it needs
-pub record GoesInto (write : Writing) (step : KeyStep) (shelf : ShelfContent) (need : NeedState) (slab : SlabState) : Type 0 where
+pub record GoesInto (plan : Plan) (draft : Draft) (step : KeyStep) (shelf : ShelfContent) (need : NeedState) (slab : SlabState) : Type 0 where
   pub has : has_need (key_of step) (get shelf.items (key_of step)) need ≡ true
-  pub over : goes_over write.draft.body (is_gone shelf.cut write.moment (get shelf.items (key_of step))) need slab ≡ true
+  pub over : goes_over draft.body (is_gone shelf.cut plan.moment (get shelf.items (key_of step))) need slab ≡ true
 
 -- it goes into others, before which a dead item gives back so many of their class
-pub record GoesApart (write : Writing) (step : KeyStep) (shelf : ShelfContent) (need : NeedState) (slab : SlabState) (back : ℕ) : Type 0 where
+pub record GoesApart (plan : Plan) (draft : Draft) (step : KeyStep) (shelf : ShelfContent) (need : NeedState) (slab : SlabState) (back : ℕ) : Type 0 where
   pub other : has_need (key_of step) (get shelf.items (key_of step)) need
-      && goes_over write.draft.body (is_gone shelf.cut write.moment (get shelf.items (key_of step))) need slab ≡ false
-  pub back_is : back ≡ back_at shelf (key_of step) write.moment need
+      && goes_over draft.body (is_gone shelf.cut plan.moment (get shelf.items (key_of step))) need slab ≡ false
+  pub back_is : back ≡ back_at shelf (key_of step) plan.moment need
+
+-- a write that comes next and goes into the chunks of the key's item leaves what the shelf holds until it is finished, unless it
+-- is a number's
+abbrev pub StaysUntil : Plan → Action → KeyStep → (old : ShelfContent) → SlabState → (new : ShelfContent) → Type 0
+StaysUntil plan (Write size draft) step old slab new =
+    counts draft.body ≡ false → GoesInto plan draft step old (need_for size) slab → new ≡ old
+StaysUntil plan next step old slab new = Unit {0}
 
 -- a shelf after this item came under a key: into chunks that wait for it, and then with a hash, or
 -- else into those of the key's item, whose hash stays
@@ -274,46 +270,27 @@ with_item None key own item shelf = record shelf { items = insert shelf.items ke
 with_item (Some chunks) key own item shelf =
     record shelf { items = insert shelf.items key item; hashes = insert shelf.hashes key own }
 
--- what is left of a write: its unique number, and the chunks of its item, or none if it goes into those of the key's item
-abbrev pub Rest : Type 0
-Rest = ℕ × Option ChunksState
-
--- a shelf after what is left of a write, whose block is made beside the item that the shelf has under the step's key
-abbrev pub written : Writing → Option Rest → KeyStep → ShelfContent → ShelfContent
-written write None step shelf = shelf
-written write (Some rest) step shelf =
-    with_item rest.1 (key_of step) write.hash (drafted write.draft (block_beside shelf step write.draft) rest.0 write.moment) shelf
-
--- the write of a plan
-abbrev pub write_of : Plan → (charge : ℕ) → Draft → Writing
-write_of plan charge draft =
-    record { hash = plan.hash; place = plan.place; moment = plan.moment; charge = charge; draft = draft }
-
--- what is left of a step that was begun
-abbrev pub left_of : Begun → Option Rest
-left_of (Left unique chunks) = Some (unique, chunks)
-left_of begun = None
+-- a shelf after the item of a plan's draft came under its key, whose block is made beside the item that the shelf has there
+abbrev pub written : Plan → Draft → (unique : ℕ) → Option ChunksState → KeyStep → ShelfContent → ShelfContent
+written plan draft unique chunks step shelf =
+    with_item chunks (key_of step) plan.hash (drafted draft (block_beside shelf step draft) unique plan.moment) shelf
 
 -- a shelf after what is left of a step that comes next so was written
-abbrev pub written_next : Plan → Action → Option Rest → KeyStep → ShelfContent → ShelfContent
-written_next plan (Write charge draft) rest step shelf = written (write_of plan charge draft) rest step shelf
-written_next plan next rest step shelf = shelf
+abbrev pub written_next : Plan → Action → KeyStep → ShelfContent → ShelfContent
+written_next plan (Left unique chunks draft) step shelf = written plan draft unique chunks step shelf
+written_next plan next step shelf = shelf
 
--- a shelf after what is left of a step that was begun
-abbrev pub finished : Plan → Begun → KeyStep → ShelfContent → ShelfContent
-finished plan begun step shelf = written_next plan plan.next (left_of begun) step shelf
+-- a shelf after a plan that was begun is finished
+abbrev pub finished : Plan → KeyStep → ShelfContent → ShelfContent
+finished plan step shelf = written_next plan plan.next step shelf
 
--- the answer of a write that was begun
-abbrev pub write_told : Body → Begun → Reply
-write_told body Full = NoChunk
-write_told body begun = write_reply body
-
--- the answer of a step that comes next so and was begun
-abbrev pub told_next : Action → Begun → Reply
-told_next (Answer reply) begun = reply
-told_next (Expire expiry reply) begun = reply
-told_next (Discard reply) begun = reply
-told_next (Write charge draft) begun = write_told draft.body begun
+-- the answer of a step that comes next so, if it was begun
+abbrev pub told_next : Action → Reply
+told_next (Answer reply) = reply
+told_next (Expire expiry reply) = reply
+told_next (Discard reply) = reply
+told_next (Write size draft) = write_reply draft.body
+told_next (Left unique chunks draft) = write_reply draft.body
 
 -- chunks are those that a key and a block need
 pub record Suits (chunks : ChunksState) (key block : List ℕ) : Type 0 where
@@ -338,10 +315,10 @@ abbrev pub ChunksAreReady : Option ChunksState → Body → (key block : List �
 ChunksAreReady None body key block shelf = GoesOver body × LiesInNeed key block shelf
 ChunksAreReady (Some chunks) body key block shelf = AreChunksFor chunks key block shelf
 
--- what stood under a key, where it had this item: the entry of the key and the item, or none; nothing
--- is known where no chunks waited
+-- the entry that stood under a key, where it had this item, and that others' chunks replaced: none
+-- where it had none, or where no chunks waited
 abbrev pub StoodBefore : Option ChunksState → (key : List ℕ) → Option Entry → Option EntryState → Type 0
-StoodBefore None key found before = Unit {0}
+StoodBefore None key found before = before ≡ None
 StoodBefore (Some chunks) key found None = found ≡ None
 StoodBefore (Some chunks) key found (Some entry) = (entry.key ≡ key) × (found ≡ Some entry.item)
 
@@ -353,28 +330,28 @@ pub record IsSought (shelf : ShelfContent) (key : List ℕ) (own : ℕ) (found :
 
 -- what is left of a write can be done: the key is known, and chunks are ready for what it makes beside
 -- the key's item
-pub record CanWriteBlock (write : Writing) (chunks : Option ChunksState) (step : KeyStep) (shelf : ShelfState) : Type 0
+pub record CanWriteBlock (plan : Plan) (draft : Draft) (chunks : Option ChunksState) (step : KeyStep) (shelf : ShelfState) : Type 0
   where
     pub short : length (key_of step) ≤ longest_key
-    pub sought : IsSought shelf.content (key_of step) write.hash write.place
-    pub ready : ChunksAreReady chunks write.draft.body (key_of step)
-        (block_beside shelf.content step write.draft) shelf
+    pub sought : IsSought shelf.content (key_of step) plan.hash plan.place
+    pub ready : ChunksAreReady chunks draft.body (key_of step)
+        (block_beside shelf.content step draft) shelf
 
 -- a write is left: what is left can be done, and is no number where it goes into the item's own chunks
-pub record IsLeft (write : Writing) (chunks : Option ChunksState) (step : KeyStep) (shelf : ShelfState) : Type 0
+pub record IsLeft (plan : Plan) (draft : Draft) (chunks : Option ChunksState) (step : KeyStep) (shelf : ShelfState) : Type 0
   where
-    pub can : CanWriteBlock write chunks step shelf
-    pub own : chunks ≡ None → counts write.draft.body ≡ false
+    pub can : CanWriteBlock plan draft chunks step shelf
+    pub own : chunks ≡ None → counts draft.body ≡ false
 
--- what is left of a step that comes next so can be done; nothing is asked unless it writes
-abbrev pub CanWriteNext : Plan → Action → Option ChunksState → KeyStep → ShelfState → Type 0
-CanWriteNext plan (Write charge draft) chunks step shelf = IsLeft (write_of plan charge draft) chunks step shelf
-CanWriteNext plan next chunks step shelf = Unit {0}
+-- what is left of a step that comes next so can be done: it is begun if it writes, and then chunks are ready
+abbrev pub CanWriteNext : Plan → Action → KeyStep → ShelfState → Type 0
+CanWriteNext plan (Write size draft) step shelf = ⊥
+CanWriteNext plan (Left unique chunks draft) step shelf = IsLeft plan draft chunks step shelf
+CanWriteNext plan next step shelf = Unit {0}
 
--- what is left of a step that was begun can be done
-abbrev pub CanFinish : Plan → Begun → KeyStep → ShelfState → Type 0
-CanFinish plan begun step shelf =
-    IfSome (left_of begun) (λ rest. CanWriteNext plan plan.next rest.1 step shelf)
+-- a plan that was begun can be finished
+abbrev pub CanFinish : Plan → KeyStep → ShelfState → Type 0
+CanFinish plan step shelf = CanWriteNext plan plan.next step shelf
 
 -- chunks, where they are pages
 abbrev pub pages_in : NeedState → Option NeedState
@@ -407,10 +384,10 @@ IsOut key shelf desk =
 
 -- the item of a write can be put under its key, which may have lost its item since it was looked up: there is room for a new
 -- key's entry, and the chunks of the key's item are out
-pub record CanPut (write : Writing) (step : KeyStep) (shelf : ShelfState) (desk : DeskState) : Type 0
+pub record CanPut (plan : Plan) (step : KeyStep) (shelf : ShelfState) (desk : DeskState) : Type 0
   where
     pub short : length (key_of step) ≤ longest_key
-    pub sought : IsSought shelf.content (key_of step) write.hash write.place
+    pub sought : IsSought shelf.content (key_of step) plan.hash plan.place
     pub room : get shelf.content.items (key_of step) ≡ None → 1 ≤ shelf.room
     pub out : IsOut (key_of step) shelf.content desk
 

@@ -62,15 +62,16 @@ impl Entry {
     /// Writes an item of this head into chunks, with a block of `block_len` unspecified bytes.
     ///
     /// It copies the key, at most 250 bytes.
-    pub(crate) fn begin(chunks: Chunks, head: Head<'_>, block_len: usize) -> Entry
-        requires key { length head.key.now ≤ longest_key }
-        requires need { need_in chunks ≡ need_for (header_size + length head.key.now + block_len) }
-        requires room { header_size + length head.key.now + block_len ≤ length chunks.bytes }
-        ensures value { result ≡ entry_with head.entry result.item.block }
+    pub(crate) fn begin(chunks: Chunks, head: &Head<'_>, block_len: usize) -> Entry
+        requires key { length head.now.key.now ≤ longest_key }
+        requires need { need_in chunks
+            ≡ need_for (header_size + length head.now.key.now + block_len) }
+        requires room { header_size + length head.now.key.now + block_len ≤ length chunks.bytes }
+        ensures value { result ≡ entry_with head.now result.item.block }
         ensures length { length result.item.block ≡ block_len }
     {
         Entry {
-            item: Item::begin(chunks, Head { ..head }, block_len),
+            item: Item::begin(chunks, Head { ..*head }, block_len),
         }
     }
 
@@ -117,28 +118,16 @@ impl Entry {
     /// Appends bytes to its block in place, and sets flags, expiry, unique number and `updated`.
     ///
     /// Its chunks must be those that the new charge needs. The key and its hash are unchanged.
-    pub(crate) fn extend(
-        &mut self,
-        more: &[u8],
-        flags: u32,
-        expiry: Expiry,
-        unique: u64,
-        updated: Moment,
-    )
+    pub(crate) fn extend(&mut self, more: &[u8], head: &Head<'_>)
         requires { item_need self.old.key self.old.item
             ≡ need_for (charge self.old.key (self.old.item.block ++ more.now)) }
         ensures { self.new ≡ record self.old {
-          item = record {
-            flags = flags;
-            expiry = expiry;
-            block = self.old.item.block ++ more.now;
-            unique = unique;
-            updated = updated;
-          };
+          item = (entry_with head.now (self.old.item.block ++ more.now)).item;
         } }
     {
         self.lies_in_need();
-        self.item.extend(more, flags, expiry, unique, updated);
+        self.item
+            .extend(more, head.flags, head.expiry, head.unique, head.updated);
     }
 
     /// Returns when its block was last written.

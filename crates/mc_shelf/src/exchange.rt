@@ -6,19 +6,21 @@
 //! the item keeps its own until `finish` has copied it and frees them. If memory for them is
 //! refused, the copy is made at the desk.
 
-ghost use Rattle.std.specs.Prelude.{◌≡◌, ℕ, IfOk, OnErr, None, is_some, true, false};
+ghost use Rattle.std.specs.Prelude.{◌≡◌, ◌-◌, ◌<◌, ◌^◌, ℕ, IfOk, IfSome, OnErr, None, is_some};
+ghost use Rattle.std.specs.Prelude.{true, false};
 ghost use Rattle.std.specs.FinMap.{get};
 ghost use Rattle.mc_slab.specs.Chunks.{need_in};
 ghost use Rattle.mc_slab.specs.Needs.{NeedState};
 ghost use Rattle.mc_protocol.specs.declared.step.KeyStep.{KeyStep as Step};
-ghost use Rattle.mc_shelf.specs.Plans.{GivesBack, IsOut, IsPlan, IsSought, exchange_for};
+ghost use Rattle.mc_protocol.specs.Commands.{key_of};
+ghost use Rattle.mc_shelf.specs.Plans.{GivesBack, IsOut, IsPlan, IsSought, drawn, exchange_for};
 ghost use Rattle.mc_shelf.specs.Plans.{left_behind, need_brought, pages_in};
 
 use crate::desk::Desk;
 use crate::plan::{Action, Plan};
 use crate::shelf::Shelf;
-use crate::write::{Write, has_need, is_same};
-use mc_protocol::Body;
+use crate::write::{has_need, is_same};
+use mc_protocol::{Body, KeyStep};
 use mc_slab::{Chunks, Need, Pages, Slab};
 use std::alloc::{AllocError, Global};
 
@@ -88,29 +90,34 @@ impl Shelf {
 
     /// Gives the desk chunks in exchange for those of the key's item, if they are of the same need.
     ///
-    /// Returns whether it did; other chunks are freed. The item keeps its own.
-    pub(crate) fn exchanges(
+    /// It then draws the number of the write and returns it, and the item keeps its own chunks.
+    /// Other chunks are freed.
+    pub(crate) fn exchange_drawn(
         &self,
-        write: &Write,
-        key: &[u8],
+        plan: &Plan<'_>,
+        step: &KeyStep<'_>,
         exchange: Option<Chunks>,
         desk: &mut Desk,
-    ) -> bool
-        requires sought { IsSought self.now.content key.now write.now.hash write.now.place }
-        requires out { IsOut key.now self.now.content desk.old }
-        ensures given { result ≡ true →
-            GivesBack key.now (get self.now.content.items key.now) desk.old desk.new }
-        ensures kept { result ≡ false → desk.new ≡ desk.old }
+    ) -> Option<u64>
+        requires sought { IsSought self.now.content (key_of step.now) plan.now.hash
+            plan.now.place }
+        requires out { IsOut (key_of step.now) self.now.content desk.old }
+        requires number { desk.old.next_unique < 2 ^ 64 - 1 }
+        ensures given { IfSome result (λ unique. (unique ≡ desk.old.next_unique)
+            × GivesBack (key_of step.now) (get self.now.content.items (key_of step.now))
+            (drawn desk.old) desk.new) }
+        ensures kept { result ≡ None → desk.new ≡ desk.old }
     {
         let Some(chunks) = exchange else {
-            return false;
+            return None;
         };
-        let item = self.entry(write.place, write.hash, key);
+        let item = self.entry(plan.place, plan.hash, step.key());
         if !has_need(item, chunks.need()) {
-            return false;
+            return None;
         }
+        let unique = desk.draw();
         desk.give(chunks);
-        true
+        Some(unique)
     }
 }
 

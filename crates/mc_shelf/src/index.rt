@@ -9,22 +9,23 @@ ghost use Rattle.std.specs.Prelude.{Some, None, IfOk, IfSome, OnOk, nat_lt, opti
 ghost use Rattle.std.specs.FinMap.{empty, get, len};
 ghost use Rattle.mc_slab.specs.Needs.{need_for};
 ghost use Rattle.mc_protocol.specs.Plain.{charge, item_need};
-ghost use Rattle.mc_shelf.specs.Plans.{GoesOver, drafted, made_block};
+ghost use Rattle.mc_shelf.specs.Plans.{GoesOver, made_block};
 ghost use Rattle.mc_grow.specs.Indexes.{IsFilled, IsNext, KeepsLower, count, entry_at, left};
 ghost use Rattle.mc_shelf.specs.Counts.{CatchesUp, CaughtUp, FitTogether, KeepsTable, MovesFew, counts_in};
 ghost use Rattle.mc_shelf.specs.Deaths.{DieNoSooner, NoneIsDead};
 ghost use Rattle.mc_shelf.specs.KeyMaps.{IsHashOf, EntriesAreKeyed};
-ghost use Rattle.mc_shelf.specs.States.{EntryState};
+ghost use Rattle.mc_shelf.specs.States.{EntryState, entry_with};
 ghost use Rattle.mc_shelf.specs.Places.{ItemIsChanged, IsEntryOf, IsKeyAt, IsKeyFound, IsOfClass};
 ghost use Rattle.mc_shelf.specs.Places.{KeyGoes, KeyComes, entries_of, hashes_of, items_of};
 
 use crate::counts::ShelfCounts;
 use crate::entry::Entry;
 use crate::soonest::Soonest;
-use crate::write::Write;
+use crate::write::write_over;
 pub(crate) use mc_grow::Place;
 use mc_hop::Keyed;
-use mc_protocol::{Bytes, Standing};
+use mc_item::Head;
+use mc_protocol::{Body, Bytes, Standing};
 use mc_slab::Class;
 use mc_time::{Expiry, Moment};
 use std::alloc::{AllocError, Global};
@@ -192,39 +193,61 @@ impl EntryIndex {
         self.entries.update(place, |before| (entry, before))
     }
 
-    /// Writes the item of a write into the chunks of the item at a place: over its block, or behind
-    /// it.
+    /// Writes the item that a body makes into the chunks of the item at a place: over its block, or
+    /// behind it.
     ///
     /// They must be the chunks that the new charge needs. It takes no memory.
     pub(crate) fn write_over<'a>(
         &mut self,
         place: Place,
-        write: &Write,
-        unique: u64,
-        key: &'a [u8],
+        head: &Head<'a>,
+        body: Body,
         block: &Bytes<'a>,
     )
-        requires body { GoesOver write.now.draft.body }
-        requires key { IsKeyAt self.old key.now place }
-        requires short { length key.now ≤ longest_key }
-        requires need { (at : IsKeyAt self.old key.now place) →
-            item_need key.now at.entry.item ≡ need_for (charge key.now
-            (made_block write.now.draft.body block.now at.entry.item.block)) }
-        ensures { (at : IsKeyAt self.old key.now place) → ItemIsChanged self.old self.new key.now
-            (drafted write.now.draft
-            (made_block write.now.draft.body block.now at.entry.item.block)
-            unique write.now.moment) }
+        requires body { GoesOver body }
+        requires key { IsKeyAt self.old head.now.key.now place }
+        requires short { length head.now.key.now ≤ longest_key }
+        requires need { (at : IsKeyAt self.old head.now.key.now place) →
+            item_need head.now.key.now at.entry.item ≡ need_for (charge head.now.key.now
+            (made_block body block.now at.entry.item.block)) }
+        ensures { (at : IsKeyAt self.old head.now.key.now place) →
+            ItemIsChanged self.old self.new head.now.key.now
+            (entry_with head.now (made_block body block.now at.entry.item.block)).item }
     {
-        self.soonest.note(write.draft.expiry, write.moment);
+        let Head {
+            hash,
+            key,
+            flags,
+            expiry,
+            unique,
+            updated,
+        } = *head;
+        self.soonest.note(expiry, updated);
         let bytes = block.as_slice();
         // A closure captures plain references alone, so that its contract is known.
         match block.lent() {
             Some(lent) => self.entries.update(place, |mut entry| {
-                write.write_over(&mut entry, unique, key, bytes, Some(lent));
+                let head = Head {
+                    hash,
+                    key,
+                    flags,
+                    expiry,
+                    unique,
+                    updated,
+                };
+                write_over(&mut entry, &head, body, &Bytes::of_lent(lent));
                 (entry, ())
             }),
             None => self.entries.update(place, |mut entry| {
-                write.write_over(&mut entry, unique, key, bytes, None);
+                let head = Head {
+                    hash,
+                    key,
+                    flags,
+                    expiry,
+                    unique,
+                    updated,
+                };
+                write_over(&mut entry, &head, body, &Bytes::of(bytes));
                 (entry, ())
             }),
         }

@@ -26,7 +26,6 @@
 #![tactic(auto)]
 
 mod aside;
-mod begun;
 mod collector;
 mod counts;
 mod desk;
@@ -43,7 +42,6 @@ mod soonest;
 mod store;
 mod write;
 
-pub use begun::Begun;
 pub use counts::ShelfCounts;
 pub use desk::{Desk, WantedPages};
 pub use entry::Entry;

@@ -22,6 +22,7 @@ use crate::index::Place;
 use itoa::Buffer;
 use mc_protocol as command;
 use mc_protocol::{Block, Body, Bytes, CHUNK_HEAD, Draft, KeyStep, Reply, Row, Standing};
+use mc_slab::Chunks;
 use mc_time::{Expiry, Moment, is_dead};
 use std::alloc::{AllocError, Global};
 
@@ -36,6 +37,13 @@ pub(crate) enum Action {
     Discard(Reply),
     /// An item of this charge is written, if there is a unique number and room for it.
     Write(u64, Draft),
+    /// The item of a write that was begun is still to be written, with this unique number.
+    ///
+    /// It goes into these chunks, or if there are none into those of the key's item. The block is a
+    /// large one of a new key, one of any size that goes over or behind that of the key's item in
+    /// its chunks, or one that is joined with it in others. The key's item is then freed with its
+    /// own chunks, since the desk got others in exchange.
+    Left(u64, Option<Chunks>, Draft),
 }
 
 /// What a step does at its key, as a shelf found.
@@ -67,8 +75,8 @@ impl<'a> Plan<'a> {
         }
     }
 
-    /// Returns whether the step needs the desk: it removes or writes an item, even if the write is
-    /// refused.
+    /// Returns whether the step needs the desk, or has begun at it: it removes or writes an item,
+    /// even if the write is refused.
     pub fn needs_desk(&self) -> bool
         ensures told { result ≡ wants_desk self.now.next }
         ensures needed { (shelf : ShelfContent) (desk : DeskState) (step : Step) (now : ℕ) →
@@ -77,7 +85,7 @@ impl<'a> Plan<'a> {
     {
         match self.next {
             Action::Answer(_) | Action::Expire(..) => false,
-            Action::Discard(_) | Action::Write(..) => true,
+            Action::Discard(_) | Action::Write(..) | Action::Left(..) => true,
         }
     }
 
@@ -89,13 +97,22 @@ impl<'a> Plan<'a> {
         self.place.is_none()
     }
 
+    /// Returns whether the plan was begun, and its item is still to be written.
+    pub fn is_left(&self) -> bool {
+        match self.next {
+            Action::Left(..) => true,
+            Action::Answer(_) | Action::Expire(..) | Action::Discard(_) | Action::Write(..) =>
+                false,
+        }
+    }
+
     /// Returns whether the step writes an item, if there is a unique number and room for it.
     pub(crate) fn writes(&self) -> bool
         ensures { result ≡ writes self.now.next }
     {
         match self.next {
-            Action::Answer(_) | Action::Expire(..) | Action::Discard(_) => false,
             Action::Write(..) => true,
+            Action::Answer(_) | Action::Expire(..) | Action::Discard(_) | Action::Left(..) => false,
         }
     }
 }

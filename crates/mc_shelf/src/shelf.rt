@@ -25,7 +25,6 @@ ghost use Rattle.mc_shelf.specs.Plans.{back_at, finished, gives_way_to, has_no_n
 ghost use Rattle.mc_shelf.specs.Plans.{next_of, row_at, told_next, writes};
 ghost use Rattle.mc_shelf.specs.Sweeps.{AreOut, GivesFor};
 
-use crate::begun::Begun;
 use crate::counts::{ShelfCounts, counted_up};
 use crate::desk::{Desk, WantedPages};
 use crate::entry::Entry;
@@ -33,12 +32,13 @@ use crate::exchange::Brought;
 use crate::index::{EntryIndex, Place};
 use crate::plan::{Action, Plan, next_of};
 use crate::soonest::Soonest;
-use crate::write::{Write, dead_chunks, gives_way};
+use crate::write::{dead_chunks, gives_way};
 use mc_protocol::{Bytes, KeyStep, Reply, StepFault};
 use mc_slab::{Need, need_of};
 use mc_time::{Expiry, Moment};
 use std::alloc::{AllocError, Global};
 use std::marker::Model;
+use std::mem;
 
 /// The number of numbers that keys have.
 pub const NUMBERS: usize = 4096;
@@ -243,7 +243,7 @@ impl Shelf {
                 reply
             }
             // A plan that needs the desk isn't settled, by what this call requires.
-            Action::Discard(_) | Action::Write(..) => unreachable!(),
+            Action::Discard(_) | Action::Write(..) | Action::Left(..) => unreachable!(),
         }
     }
 
@@ -284,8 +284,8 @@ impl Shelf {
             pages: None,
             exchange: None,
         };
-        match self.begin(alloc, &plan, step, desk, brought) {
-            Ok(begun) => Ok(self.finish(&mut plan, begun, step)),
+        match self.begin(alloc, &mut plan, step, desk, brought) {
+            Ok(()) => Ok(self.finish(plan, step)),
             Err(fault) => Err(fault),
         }
     }
@@ -315,9 +315,12 @@ impl Shelf {
         desk.wanted_pages(need, self.back(plan, need))
     }
 
-    /// Does the part of a plan's step that needs the desk. `finish` does the rest.
+    /// Does the part of a plan's step that needs the desk. The plan then has what `finish` does.
     ///
-    /// `finish` takes the same plan, before any other call of the shelf.
+    /// `finish` takes the plan before any other call of the shelf. A block isn't copied while the
+    /// desk is held: the number, the chunks and all counts are decided here, and `finish` copies. A
+    /// block under 4096 bytes is copied at the desk, since coming back costs about 400
+    /// instructions.
     ///
     /// A write goes into the chunks of the key's old item if they are those that it needs, and one
     /// of these holds: the item is dead; the write is a number that incr or decr counts; as many
@@ -329,54 +332,67 @@ impl Shelf {
     /// (`exchange`).
     ///
     /// Only pages that the slab gives to a class take memory; the given pages are used if they are
-    /// enough and of that class. After an error the shelf holds what it held, and the desk is
-    /// unchanged. It moves no entry of an old table, though the key's own may be removed.
+    /// enough and of that class. After an error the shelf holds what it held, and the desk and the
+    /// plan are unchanged. It moves no entry of an old table, though the key's own may be removed.
     #[tactic(auto, using(crate::proofs::CountLemmas::table_rules))]
     pub fn begin(
         &mut self,
         alloc: Global,
-        plan: &Plan<'_>,
+        plan: &mut Plan<'_>,
         step: &KeyStep<'_>,
         desk: &mut Desk,
         brought: Brought,
-    ) -> Result<Begun, StepFault>
-        requires plan { IsPlan plan.now self.old.content step.now plan.now.moment }
-        requires room { CanWrite plan.now.next self.old.content (key_of step.now) plan.now.moment
-            desk.old → HasRoom plan.now self.old step.now }
+    ) -> Result<(), StepFault>
+        requires plan { IsPlan plan.old self.old.content step.now plan.old.moment }
+        requires room { CanWrite plan.old.next self.old.content (key_of step.now) plan.old.moment
+            desk.old → HasRoom plan.old self.old step.now }
         requires key { length (key_of step.now) ≤ longest_key }
         requires stands { CanStandAt (key_of step.now) self.old.content desk.old }
-        ensures took { IfOk result (λ begun. StepTaken step.now plan.now.moment plan.now.hash
-            self.old.content desk.old (told_next plan.now.next begun)
-            (finished plan.now begun step.now self.new.content) desk.new) }
-        ensures left { IfOk result (λ begun. CanFinish plan.now begun step.now self.new) }
+        ensures took { OnOk result (StepTaken step.now plan.old.moment plan.old.hash
+            self.old.content desk.old (told_next plan.new.next)
+            (finished plan.new step.now self.new.content) desk.new) }
+        ensures left { OnOk result (CanFinish plan.new step.now self.new) }
+        ensures same { plan.new ≡ record plan.old { next = plan.new.next } }
         ensures spent { result ≡ Err StepFault.NumbersSpent
-            ↔ ((writes plan.now.next ≡ true) × has_no_number desk.old) }
-        ensures refused { result ≡ Err StepFault.NoMemory → NeedsPages plan.now.next
-            self.old.content (key_of step.now) plan.now.moment desk.old }
+            ↔ ((writes plan.old.next ≡ true) × has_no_number desk.old) }
+        ensures refused { result ≡ Err StepFault.NoMemory → NeedsPages plan.old.next
+            self.old.content (key_of step.now) plan.old.moment desk.old }
         ensures table { KeepsTable 1 (counts_of self.old) (counts_of self.new) }
-        ensures err { OnErr result
-            ((self.new.content ≡ self.old.content) × (desk.new ≡ desk.old)) }
+        ensures err { OnErr result ((self.new.content ≡ self.old.content)
+            × (desk.new ≡ desk.old) × (plan.new ≡ plan.old)) }
     {
         match plan.next {
-            Action::Answer(_) => Ok(Begun::Done),
-            Action::Expire(expiry, _) => {
-                self.expire(plan.place, plan.hash, step.key(), expiry);
-                Ok(Begun::Done)
+            Action::Answer(_) => {}
+            Action::Expire(expiry, _) => self.expire(plan.place, plan.hash, step.key(), expiry),
+            Action::Discard(_) => self.discard(plan.place, plan.hash, step, desk),
+            Action::Write(..) => plan.next = self.write(alloc, plan, step, desk, brought)?,
+            // A look plans no step as begun, and this call requires such a plan.
+            Action::Left(..) => unreachable!(),
+        }
+        Ok(())
+    }
+
+    /// Finishes a planned step that was begun at this shelf, and returns its reply.
+    ///
+    /// No other step may come between. It copies the step's block if that is left, and the item
+    /// that the block is joined with in other chunks. It takes no memory, and moves no entry of an
+    /// old table.
+    #[tactic(auto, using(crate::proofs::CountLemmas::table_rules))]
+    pub fn finish(&mut self, mut plan: Plan<'_>, step: &KeyStep<'_>) -> Reply
+        requires { CanFinish plan step.now self.old }
+        ensures reply { result ≡ told_next plan.entry.next }
+        ensures content { self.new.content ≡ finished plan.entry step.now self.old.content }
+        ensures table { KeepsTable 0 (counts_of self.old) (counts_of self.new) }
+    {
+        match mem::replace(&mut plan.next, Action::Answer(Reply::Miss)) {
+            Action::Answer(reply) | Action::Expire(_, reply) | Action::Discard(reply) => reply,
+            Action::Left(unique, chunks, draft) => {
+                // the old item's chunks are freed: the desk got others in exchange
+                let _old = self.write_block(&plan, &draft, unique, chunks, step);
+                draft.body.reply()
             }
-            Action::Discard(_) => {
-                self.discard(plan.place, plan.hash, step, desk);
-                Ok(Begun::Done)
-            }
-            Action::Write(charge, draft) => {
-                let write = Write {
-                    hash: plan.hash,
-                    place: plan.place,
-                    moment: plan.moment,
-                    charge,
-                    draft,
-                };
-                self.write(alloc, &write, step, desk, brought)
-            }
+            // A write that is still to be begun can't be finished, by what this call requires.
+            Action::Write(..) => unreachable!(),
         }
     }
 

@@ -1,59 +1,63 @@
-use Rattle.mc_shelf.proofs.Common.{◌-◌, ◌<◌, ◌^◌, ◌∙◌, ◌≡◌, ◌≤◌, ap, AreChunksOf, arith, back_at, block_beside, charge, ChunksState, DeskState, Draft, drafted, Entry, given, GivesBack}
-use Rattle.mc_shelf.proofs.Common.{has_room_with, inr, IsNeed, IsOut, IsPut, IsSlab, IsWriteOf, key_of, KeyStep, length, List, made_ready, need_for, NeedState, None, none-some, Option}
-use Rattle.mc_shelf.proofs.Common.{out_of, refl, rules, ShelfContent, ShelfState, size_in, SlabState, StepTaken, subst, sym, taken, true, with_item, write_reply, ℕ}
-use Rattle.mc_shelf.specs.declared.write.Write.{Write as Writing}
-use Rattle.mc_shelf.specs.Plans.{CanWriteBlock, GoesInto, Suits, drawn, left_of, written}
-use Rattle.mc_shelf.proofs.ShelfLemmas.{known_sought, put_over}
+use Rattle.mc_shelf.proofs.Common.{◌&&◌, ◌-◌, ◌<◌, ◌^◌, ◌∙◌, ◌≡◌, ◌≤◌, Action, ap, AreChunksOf, arith, back_at, block_beside, Bool, CanStandAt, CanWrite, charge, ChunksState, DeskState}
+use Rattle.mc_shelf.proofs.Common.{Draft, drafted, Entry, given, GivesBack, has_room_with, inl, inr, IsClass, IsHash, IsKnown, IsNeed, IsOut, IsPut, IsSlab, key_of, KeyStep, length, List}
+use Rattle.mc_shelf.proofs.Common.{made_ready, need_for, NeedState, None, none-some, Option, out_of, refl, Reply, ShelfContent, ShelfState, size_in, SlabState, StepTaken, subst, sym, taken}
+use Rattle.mc_shelf.proofs.Common.{true, true≢false, with_item, Write, write_reply, ℕ}
+use Rattle.mc_shelf.specs.declared.plan.Plan.{Plan}
+use Rattle.mc_protocol.specs.Commands.{longest_key}
+use Rattle.mc_shelf.specs.Plans.{CanWriteBlock, GoesInto, StaysUntil, Suits, drawn, gives_way_to, written_next}
+use Rattle.mc_shelf.proofs.ShelfLemmas.{known_sought, put_new, put_over}
 use Rattle.mc_shelf.proofs.TakesLemmas.{Writes, charge_beside, drafts, gave_way, is_out, is_out_taken, item_over, may_go, put_after_drop, reuses_none, room_by, takes_anew, takes_full}
 use Rattle.mc_shelf.proofs.TakesLemmas.{takes_over, takes_way, way_is, way_out, writes_so}
 use Rattle.mc_shelf.proofs.shelf.Shelf.write.Goals as goal
 
 pub need_for-need-requires : goal.need_for-need-requires
 need_for-need-requires c =
-    let write = c.args.write.now in
-    (drafts c.args.self.now.content c.args.step.now write.moment write.charge write.draft (sym c.requires.write.next)).fits
+    (drafts c.args.self.now.content c.args.step.now c.args.plan.now.moment c.in-Write.charge c.in-Write.draft (sym c.in-Write.is ∙ c.requires.plan.next)).fits
 
 -- ---- into the chunks of the key's item
 
 -- what comes of a write that goes, or is left to go, into the chunks of the key's item
-over : {write : Writing} {step : KeyStep} {shelf new : ShelfContent} {desk desk' : DeskState} {need : NeedState} {unique : ℕ}
-    → IsWriteOf write shelf step → need ≡ need_for write.charge → IsNeed need → IsSlab desk.slab → desk.next_unique < 2 ^ 64 - 1 → unique ≡ desk.next_unique
-    → new ≡ with_item None (key_of step) write.hash (drafted write.draft (block_beside shelf step write.draft) unique write.moment) shelf
-    → GoesInto write step shelf need desk.slab → desk' ≡ drawn desk → StepTaken step write.moment write.hash shelf desk (write_reply write.draft.body) new desk'
-over {write} {step} {shelf} {desk = desk} {unique = unique} is need_is is_need is_slab number drawn new_is into taken =
-    let item = drafted write.draft (block_beside shelf step write.draft) unique write.moment in
-    takes_over (writes_so desk is need_is) is_need is_slab number drawn
-    (subst (λ (s : ShelfContent). IsPut (key_of step) write.hash shelf s item) (sym new_is) (put_over (key_of step) write.hash shelf item is.known.hash))
+over : {plan : Plan} {size : ℕ} {draft : Draft} {step : KeyStep} {shelf new : ShelfContent} {desk desk' : DeskState} {need : NeedState} {unique : ℕ}
+    → IsHash shelf (key_of step) plan.hash → Writes step plan.moment shelf desk size draft need → IsNeed need → IsSlab desk.slab → desk.next_unique < 2 ^ 64 - 1 → unique ≡ desk.next_unique
+    → new ≡ with_item None (key_of step) plan.hash (drafted draft (block_beside shelf step draft) unique plan.moment) shelf
+    → GoesInto plan draft step shelf need desk.slab → desk' ≡ drawn desk → StepTaken step plan.moment plan.hash shelf desk (write_reply draft.body) new desk'
+over {plan} {draft = draft} {step} {shelf} {unique = unique} has w is_need is_slab number drawn new_is into taken =
+    let item = drafted draft (block_beside shelf step draft) unique plan.moment in
+    takes_over w is_need is_slab number drawn
+    (subst (λ (s : ShelfContent). IsPut (key_of step) plan.hash shelf s item) (sym new_is) (put_over (key_of step) plan.hash shelf item has))
     into.has into.over refl taken
 
 -- and it can be done
-can_write : {write : Writing} {step : KeyStep} {shelf : ShelfState} {desk : DeskState} {need : NeedState} {slab : SlabState} → IsWriteOf write shelf.content step
-    → Writes step write.moment shelf.content desk write.charge write.draft need → GoesInto write step shelf.content need slab
-    → CanWriteBlock write None step shelf
-can_write {write} {step} {shelf} {slab = slab} is w into = record {
-  short = is.short;
-  sought = known_sought _ (key_of step) write.hash write.place is.known;
+can_write : {plan : Plan} {size : ℕ} {draft : Draft} {step : KeyStep} {shelf : ShelfState} {desk : DeskState} {need : NeedState} {slab : SlabState} → length (key_of step) ≤ longest_key
+    → IsKnown shelf.content (key_of step) plan.hash plan.place → Writes step plan.moment shelf.content desk size draft need → GoesInto plan draft step shelf.content need slab
+    → CanWriteBlock plan draft None step shelf
+can_write {plan} {step = step} {shelf} {slab = slab} short known w into = record {
+  short = short;
+  sought = known_sought _ (key_of step) plan.hash plan.place known;
   ready = (may_go w slab into.over, item_over w shelf refl into.has);
 }
 
 pub write_block-none-requires : goal.write_block-none-requires
-write_block-none-requires c = can_write c.requires.write (writes_so c.args.desk.now c.requires.write c.need_for-need.ensures.value) (c.fit.ensures.over c.in_default.is)
+write_block-none-requires c =
+    can_write c.requires.key c.requires.plan.known (writes_so c.args.desk.now c.requires.plan c.in-Write.is c.need_for-need.ensures.value) (c.fit.ensures.over c.in_default-fit.is)
 
 pub returns-then-counts-clause-took : goal.returns-then-counts-clause-took
 returns-then-counts-clause-took c =
-    over c.requires.write c.need_for-need.ensures.value c.need_for-need.ensures.is_need c.is_spent.ensures.slab (c.is_spent.ensures.left c.if-is_spent.false) c.draw-unique.ensures.number
-    c.write_block-none.ensures.content (c.fit.ensures.over c.in_default.is) c.draw-unique.ensures.drawn
+    subst (λ (r : Reply). StepTaken c.args.step.now c.args.plan.now.moment c.args.plan.now.hash c.args.self.now.content c.args.desk.now r c.write_block-none.new.self.content c.draw-unique.new.self)
+    (sym c.reply.ensures)
+    (over c.requires.plan.known.hash (writes_so c.args.desk.now c.requires.plan c.in-Write.is c.need_for-need.ensures.value) c.need_for-need.ensures.is_need c.is_spent.ensures.slab
+    (c.is_spent.ensures.left c.if-is_spent.false) c.draw-unique.ensures.number c.write_block-none.ensures.content (c.fit.ensures.over c.in_default-fit.is) c.draw-unique.ensures.drawn)
 
-pub returns-in_default-clause-left : goal.returns-in_default-clause-left
-returns-in_default-clause-left c = record {
-  can = can_write c.requires.write (writes_so c.args.desk.now c.requires.write c.need_for-need.ensures.value) (c.fit.ensures.over c.in_default.is);
+pub returns-in_default-fit-clause-left : goal.returns-in_default-fit-clause-left
+returns-in_default-fit-clause-left c = record {
+  can = can_write c.requires.key c.requires.plan.known (writes_so c.args.desk.now c.requires.plan c.in-Write.is c.need_for-need.ensures.value) (c.fit.ensures.over c.in_default-fit.is);
   own = λ _. sym c.counts.ensures ∙ c.if-counts.false;
 }
 
-pub returns-in_default-clause-took : goal.returns-in_default-clause-took
-returns-in_default-clause-took c =
-    over c.requires.write c.need_for-need.ensures.value c.need_for-need.ensures.is_need c.is_spent.ensures.slab (c.is_spent.ensures.left c.if-is_spent.false) c.draw-unique.ensures.number
-    refl (c.fit.ensures.over c.in_default.is) c.draw-unique.ensures.drawn
+pub returns-in_default-fit-clause-took : goal.returns-in_default-fit-clause-took
+returns-in_default-fit-clause-took c =
+    over c.requires.plan.known.hash (writes_so c.args.desk.now c.requires.plan c.in-Write.is c.need_for-need.ensures.value) c.need_for-need.ensures.is_need c.is_spent.ensures.slab
+    (c.is_spent.ensures.left c.if-is_spent.false) c.draw-unique.ensures.number refl (c.fit.ensures.over c.in_default-fit.is) c.draw-unique.ensures.drawn
 
 -- ---- into others
 
@@ -73,41 +77,96 @@ drop_dead-requires-clause-out c = is_out (key_of c.args.step.now) c.args.self.no
 pub returns-then-not-has_room-clause-took : goal.returns-then-not-has_room-clause-took
 returns-then-not-has_room-clause-took c =
     let apart = c.in-Some.ensures.apart in
-    let w = writes_so c.args.desk.now c.requires.write c.need_for-need.ensures.value in
+    let w = writes_so c.args.desk.now c.requires.plan c.in-Write.is c.need_for-need.ensures.value in
     takes_full w c.need_for-need.ensures.is_need c.is_spent.ensures.slab (c.is_spent.ensures.left c.if-is_spent.false) (reuses_none apart)
-    (room_by w apart.back_is c.has_room.ensures.value c.if-not-has_room.true) c.requires.write.known.hash c.drop_dead.ensures.dead c.drop_dead.ensures.alive
+    (room_by w apart.back_is c.has_room.ensures.value c.if-not-has_room.true) c.requires.plan.known.hash c.drop_dead.ensures.dead c.drop_dead.ensures.alive
 
-pub put-requires-2-clause-chunks : goal.put-requires-2-clause-chunks
-put-requires-2-clause-chunks c =
-    suits (writes_so c.args.desk.now c.requires.write c.need_for-need.ensures.value) c.args.self.now.content c.need_for-need.ensures.holds c.in_ok-chunks.ensures.chunks refl
+-- it can be taken
+can_take : (plan : Plan) {size : ℕ} {draft : Draft} {step : KeyStep} {shelf : ShelfContent} {desk : DeskState} {need : NeedState} {told : ℕ} {has : Bool}
+    → Writes step plan.moment shelf desk size draft need → plan.next ≡ Write size draft → desk.next_unique < 2 ^ 64 - 1 → told ≡ back_at shelf (key_of step) plan.moment need
+    → has ≡ has_room_with desk.slab need told → has ≡ true → CanWrite plan.next shelf (key_of step) plan.moment desk
+can_take plan {size} {draft} {step} {shelf} {desk} w is number back has e = record {
+  size = size;
+  draft = draft;
+  writes_it = is;
+  number = λ spent. omega (arith, number, spent);
+  chunks = subst (λ (n : NeedState). has_room_with desk.slab n (back_at shelf (key_of step) plan.moment n) ≡ true) w.need_is (room_by w back has e);
+}
 
-pub put-requires-2-clause-can : goal.put-requires-2-clause-can
-put-requires-2-clause-can c =
-    let desk = c.args.desk.now in
+-- the chunks of the key's item are out once its own were taken
+taken_out : (key : List ℕ) (shelf : ShelfContent) (desk : DeskState) (need : NeedState) {took : DeskState} → CanStandAt key shelf desk → IsSlab desk.slab → IsClass need.class
+    → took ≡ record desk { slab = taken desk.slab need } → IsOut key shelf took
+taken_out key shelf desk need can is is_class same = subst (λ (d : DeskState). IsOut key shelf d) (sym same) (is_out_taken key shelf desk need can is is_class desk.next_unique)
+
+pub exchange_drawn-requires-clause-out : goal.exchange_drawn-requires-clause-out
+exchange_drawn-requires-clause-out c =
+    taken_out (key_of c.args.step.now) c.args.self.now.content c.args.desk.now c.need_for-need.result c.requires.stands c.take.ensures.slab c.need_for-need.ensures.is_need.is_class c.in_ok-chunks.ensures.taken
+
+pub put-requires-in-None-clause-chunks : goal.put-requires-in-None-clause-chunks
+put-requires-in-None-clause-chunks c =
+    suits (writes_so c.args.desk.now c.requires.plan c.in-Write.is c.need_for-need.ensures.value) c.args.self.now.content c.need_for-need.ensures.holds c.in_ok-chunks.ensures.chunks refl
+
+pub put-requires-in-None-clause-can : goal.put-requires-in-None-clause-can
+put-requires-in-None-clause-can c =
+    let w = writes_so c.args.desk.now c.requires.plan c.in-Write.is c.need_for-need.ensures.value in
+    let can = can_take c.args.plan.now w c.in-Write.is (c.is_spent.ensures.left c.if-is_spent.false) c.in-Some.ensures.apart.back_is c.has_room.ensures.value c.if-not-has_room.false in
     record {
-      short = c.requires.write.short;
-      sought = known_sought _ (key_of c.args.step.now) c.args.write.now.hash c.args.write.now.place c.requires.write.known;
-      room = search rules;
-      out = subst (λ (d : DeskState). IsOut (key_of c.args.step.now) c.args.self.now.content d) (sym c.in_ok-chunks.ensures.taken)
-          (is_out_taken (key_of c.args.step.now) c.args.self.now.content desk c.need_for-need.result c.requires.stands
-          c.take.ensures.slab c.need_for-need.ensures.is_need.is_class desk.next_unique);
+      short = c.requires.key;
+      sought = known_sought _ (key_of c.args.step.now) c.args.plan.now.hash c.args.plan.now.place c.requires.plan.known;
+      room = λ none. c.requires.room can c.requires.writes (inl none);
+      out = taken_out (key_of c.args.step.now) c.args.self.now.content c.args.desk.now c.need_for-need.result c.requires.stands c.take.ensures.slab c.need_for-need.ensures.is_need.is_class
+          (c.exchange_drawn.ensures.kept c.in-None.is ∙ c.in_ok-chunks.ensures.taken);
     }
 
-pub returns-clause-took : goal.returns-clause-took
-returns-clause-took c =
-    let w = writes_so c.args.desk.now c.requires.write c.need_for-need.ensures.value in
+pub returns-in-None-clause-took : goal.returns-in-None-clause-took
+returns-in-None-clause-took c =
+    let w = writes_so c.args.desk.now c.requires.plan c.in-Write.is c.need_for-need.ensures.value in
     let apart = c.in-Some.ensures.apart in
     let none : c.in-Some.back ≡ 0 = let least = c.if-back-gt0.false in omega (arith, least) in
+    let took = c.exchange_drawn.ensures.kept c.in-None.is ∙ c.in_ok-chunks.ensures.taken in
     takes_anew w c.need_for-need.ensures.is_need c.take.ensures.slab (c.is_spent.ensures.left c.if-is_spent.false)
-    (ap (λ (d : DeskState). d.next_unique) c.in_ok-chunks.ensures.taken) c.put-2.ensures.put
+    (ap (λ (d : DeskState). d.next_unique) took) c.put-in-None.ensures.put
     (reuses_none apart) (sym apart.back_is ∙ none) (room_by w apart.back_is c.has_room.ensures.value c.if-not-has_room.false)
-    c.put-2.ensures.told (ap drawn c.in_ok-chunks.ensures.taken) c.put-2.ensures.given
+    c.put-in-None.ensures.told (ap drawn took) c.put-in-None.ensures.given
+
+-- ---- into others, which the desk has in exchange
+
+pub returns-in-Some-exchange_drawn-clause-took : goal.returns-in-Some-exchange_drawn-clause-took
+returns-in-Some-exchange_drawn-clause-took c =
+    let shelf = c.args.self.now.content in
+    let plan = c.args.plan.now in
+    let draft = c.in-Write.draft in
+    let w = writes_so c.args.desk.now c.requires.plan c.in-Write.is c.need_for-need.ensures.value in
+    let apart = c.in-Some.ensures.apart in
+    let none : c.in-Some.back ≡ 0 = let least = c.if-back-gt0.false in omega (arith, least) in
+    let took = c.in_ok-chunks.ensures.taken in
+    let given = c.in-Some-exchange_drawn.ensures.given in
+    takes_anew w c.need_for-need.ensures.is_need c.take.ensures.slab (c.is_spent.ensures.left c.if-is_spent.false)
+    (given.0 ∙ ap (λ (d : DeskState). d.next_unique) took)
+    (put_new (key_of c.args.step.now) plan.hash shelf c.in_ok-chunks.chunks (drafted draft (block_beside shelf c.args.step.now draft) c.in-Some-exchange_drawn.unique plan.moment))
+    (reuses_none apart) (sym apart.back_is ∙ none) (room_by w apart.back_is c.has_room.ensures.value c.if-not-has_room.false) refl (ap drawn took) given.1
+
+pub returns-in-Some-exchange_drawn-clause-left : goal.returns-in-Some-exchange_drawn-clause-left
+returns-in-Some-exchange_drawn-clause-left c =
+    let w = writes_so c.args.desk.now c.requires.plan c.in-Write.is c.need_for-need.ensures.value in
+    let can = can_take c.args.plan.now w c.in-Write.is (c.is_spent.ensures.left c.if-is_spent.false) c.in-Some.ensures.apart.back_is c.has_room.ensures.value c.if-not-has_room.false in
+    record {
+      can = record {
+        short = c.requires.key;
+        sought = known_sought _ (key_of c.args.step.now) c.args.plan.now.hash c.args.plan.now.place c.requires.plan.known;
+        ready = record {
+          room = λ none. c.requires.room can c.requires.writes (inl none);
+          suits = suits w c.args.self.now.content c.need_for-need.ensures.holds c.in_ok-chunks.ensures.chunks refl;
+        };
+      };
+      own = λ e. absurd (none-some _ (sym e));
+    }
 
 -- ---- a dead item gives its chunks back first
 
 pub ready-requires-clause-back : goal.ready-requires-clause-back
 ready-requires-clause-back c =
-    let w = writes_so c.args.desk.now c.requires.write c.need_for-need.ensures.value in
+    let w = writes_so c.args.desk.now c.requires.plan c.in-Write.is c.need_for-need.ensures.value in
     let apart = c.in-Some.ensures.apart in
     subst (λ (n : ℕ). n ≤ out_of c.args.desk.now.slab c.need_for-need.result.class) (sym apart.back_is)
     (way_out w (reuses_none apart) (subst (λ (n : ℕ). 0 < n) apart.back_is c.if-back-gt0.true) c.requires.stands)
@@ -120,30 +179,24 @@ discard-requires-clause-out c =
 pub take_unused-chunks-requires : goal.take_unused-chunks-requires
 take_unused-chunks-requires c =
     let apart = c.in-Some.ensures.apart in
-    (gave_way (writes_so c.args.desk.now c.requires.write c.need_for-need.ensures.value) (reuses_none apart) c.is_spent.ensures.slab c.requires.stands apart.back_is c.if-back-gt0.true
+    (gave_way (writes_so c.args.desk.now c.requires.plan c.in-Write.is c.need_for-need.ensures.value) (reuses_none apart) c.is_spent.ensures.slab c.requires.stands apart.back_is c.if-back-gt0.true
     c.in_ok-ready.ensures.ready c.discard.ensures.dropped c.discard.ensures.given).2
 
 pub put-requires-clause-can : goal.put-requires-clause-can
 put-requires-clause-can c =
     let shelf = c.args.self.now.content in
     let desk = c.args.desk.now in
-    let write = c.args.write.now in
+    let plan = c.args.plan.now in
     let need_is = c.need_for-need.ensures.value in
-    let w = writes_so desk c.requires.write need_is in
+    let w = writes_so desk c.requires.plan c.in-Write.is need_is in
     let apart = c.in-Some.ensures.apart in
     let number = c.is_spent.ensures.left c.if-is_spent.false in
     let way = gave_way w (reuses_none apart) c.is_spent.ensures.slab c.requires.stands apart.back_is c.if-back-gt0.true
     c.in_ok-ready.ensures.ready c.discard.ensures.dropped c.discard.ensures.given in
-    let room = c.requires.room (record {
-      size = write.charge;
-      draft = write.draft;
-      writes_it = refl;
-      number = λ spent. omega (arith, number, spent);
-      chunks = subst (λ (n : NeedState). has_room_with desk.slab n (back_at shelf (key_of c.args.step.now) write.moment n) ≡ true) need_is
-          (room_by w apart.back_is c.has_room.ensures.value c.if-not-has_room.false);
-    }) (inr (way_is w (reuses_none apart) (subst (λ (n : ℕ). 0 < n) apart.back_is c.if-back-gt0.true)).5) in
+    let room = c.requires.room (can_take c.args.plan.now w c.in-Write.is number apart.back_is c.has_room.ensures.value c.if-not-has_room.false) c.requires.writes
+    (inr (ap (λ (n : Action). gives_way_to n shelf (key_of c.args.step.now) plan.moment) c.in-Write.is ∙ (way_is w (reuses_none apart) (subst (λ (n : ℕ). 0 < n) apart.back_is c.if-back-gt0.true)).5)) in
     record {
-      short = c.requires.write.short;
+      short = c.requires.key;
       sought = record { hash = way.0.hash; none = λ _. way.0.item };
       room = λ _. omega (arith, c.discard.ensures.room, room);
       out = λ item found is_class. absurd (none-some item (sym way.0.item ∙ found));
@@ -151,30 +204,40 @@ put-requires-clause-can c =
 
 pub put-requires-clause-chunks : goal.put-requires-clause-chunks
 put-requires-clause-chunks c =
-    let w = writes_so c.args.desk.now c.requires.write c.need_for-need.ensures.value in
+    let w = writes_so c.args.desk.now c.requires.plan c.in-Write.is c.need_for-need.ensures.value in
     let apart = c.in-Some.ensures.apart in
     let way = gave_way w (reuses_none apart) c.is_spent.ensures.slab c.requires.stands apart.back_is c.if-back-gt0.true
     c.in_ok-ready.ensures.ready c.discard.ensures.dropped c.discard.ensures.given in
     suits w c.discard.new.self.content c.need_for-need.ensures.holds c.take_unused-chunks.ensures.chunks way.3
 
+pub returns-then-back-gt0-clause-stays : goal.returns-then-back-gt0-clause-stays
+returns-then-back-gt0-clause-stays c =
+    let plan = c.args.plan.now in
+    let step = c.args.step.now in
+    let old = c.args.self.now.content in
+    let slab = c.args.desk.now.slab in
+    subst (λ (n : Action). StaysUntil plan n step old slab c.put.new.self.content) (sym c.in-Write.is) (λ free into.
+    let there = subst (λ (n : NeedState). GoesInto plan c.in-Write.draft step old n slab) (sym c.need_for-need.ensures.value) into in
+    absurd (true≢false (sym (λ i. there.has i && there.over i) ∙ c.in-Some.ensures.apart.other)))
+
 pub returns-then-back-gt0-clause-took : goal.returns-then-back-gt0-clause-took
 returns-then-back-gt0-clause-took c =
     let desk = c.args.desk.now in
-    let write = c.args.write.now in
+    let plan = c.args.plan.now in
     let step = c.args.step.now in
     let need = c.need_for-need.result in
     let mid = c.discard.new.self.content in
-    let w = writes_so desk c.requires.write c.need_for-need.ensures.value in
+    let w = writes_so desk c.requires.plan c.in-Write.is c.need_for-need.ensures.value in
     let apart = c.in-Some.ensures.apart in
     let way = gave_way w (reuses_none apart) c.is_spent.ensures.slab c.requires.stands apart.back_is c.if-back-gt0.true
     c.in_ok-ready.ensures.ready c.discard.ensures.dropped c.discard.ensures.given in
     let took = c.take_unused-chunks.new.self in
-    let back = back_at c.args.self.now.content (key_of step) write.moment need in
+    let back = back_at c.args.self.now.content (key_of step) plan.moment need in
     let took_is : took ≡ record desk { slab = taken (given (made_ready desk.slab need back) need.class back) need } =
     c.take_unused-chunks.ensures.taken ∙ ap (λ (d : DeskState). record d { slab = taken d.slab need }) way.1 in
-    let new = written write (left_of c.put.result) step c.put.new.self.content in
+    let new = written_next plan c.put.result step c.put.new.self.content in
     takes_way w c.need_for-need.ensures.is_need c.is_spent.ensures.slab (c.is_spent.ensures.left c.if-is_spent.false) (ap (λ (d : DeskState). d.next_unique) took_is)
-    (put_after_drop (key_of step) write.hash c.args.self.now.content mid new _ way.0
-    (subst (λ (l : List ℕ). IsPut (key_of step) write.hash mid new (drafted write.draft l took.next_unique write.moment)) way.3 c.put.ensures.put))
+    (put_after_drop (key_of step) plan.hash c.args.self.now.content mid new _ way.0
+    (subst (λ (l : List ℕ). IsPut (key_of step) plan.hash mid new (drafted c.in-Write.draft l took.next_unique plan.moment)) way.3 c.put.ensures.put))
     (reuses_none apart) (subst (λ (n : ℕ). 0 < n) apart.back_is c.if-back-gt0.true) (room_by w apart.back_is c.has_room.ensures.value c.if-not-has_room.false) c.put.ensures.told
     (subst (λ (o : Option Entry). GivesBack (key_of step) o (drawn took) c.put.new.desk) way.0.item c.put.ensures.given ∙ ap drawn took_is)
