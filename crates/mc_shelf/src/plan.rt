@@ -14,7 +14,7 @@ ghost use Rattle.mc_protocol.specs.Plain.{hit_of, row_of};
 ghost use Rattle.mc_shelf.specs.declared.plan.Action.TheVariants.{Answer};
 ghost use Rattle.mc_shelf.specs.States.{CanStandAt, DeskState, ShelfContent};
 ghost use Rattle.mc_shelf.specs.Plans as plans;
-ghost use Rattle.mc_shelf.specs.Plans.{IsPlan, WantsDesk, block_in, charge_of, item_in, is_gone};
+ghost use Rattle.mc_shelf.specs.Plans.{IsPlan, WantsDesk, block_in, charge_of, item_in, is_gone, is_left};
 ghost use Rattle.mc_shelf.specs.Plans.{made_block, next_found, wants_desk, writes};
 
 use crate::entry::Entry;
@@ -98,7 +98,9 @@ impl<'a> Plan<'a> {
     }
 
     /// Returns whether the plan was begun, and its item is still to be written.
-    pub fn is_left(&self) -> bool {
+    pub fn is_left(&self) -> bool
+        ensures { result ≡ is_left self.now.next }
+    {
         match self.next {
             Action::Left(..) => true,
             Action::Answer(_) | Action::Expire(..) | Action::Discard(_) | Action::Write(..) =>

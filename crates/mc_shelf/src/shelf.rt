@@ -19,10 +19,10 @@ ghost use Rattle.mc_shelf.specs.States.{CanStandAt, IsHash, nothing_held};
 ghost use Rattle.mc_shelf.specs.Numbers.{KeysAreCounted, HasPlaces, numbers};
 ghost use Rattle.mc_shelf.specs.Plans.{CanFinish, CanLook, CanSettle, CanWrite, GivesBack};
 ghost use Rattle.mc_shelf.specs.Plans.{HasCaughtUp, HasRoom, IsDropped, IsKnown, IsOut, IsPlan};
-ghost use Rattle.mc_shelf.specs.Plans.{IsPut, PlanIsSettled, IsSought, IsSpent, StepTaken};
+ghost use Rattle.mc_shelf.specs.Plans.{IsPut, PlanIsSettled, IsSought, IsSpent, StaysUntil};
 ghost use Rattle.mc_shelf.specs.Plans.{LookTakesMemory, MayWantMemory, NeedsPages, PutsEntry};
 ghost use Rattle.mc_shelf.specs.Plans.{back_at, finished, gives_way_to, has_no_number, item_in};
-ghost use Rattle.mc_shelf.specs.Plans.{next_of, row_at, told_next, writes};
+ghost use Rattle.mc_shelf.specs.Plans.{StepTaken, next_of, row_at, told_next, writes};
 ghost use Rattle.mc_shelf.specs.Sweeps.{AreOut, GivesFor};
 
 use crate::counts::{ShelfCounts, counted_up};
@@ -353,6 +353,8 @@ impl Shelf {
             (finished plan.new step.now self.new.content) desk.new) }
         ensures left { OnOk result (CanFinish plan.new step.now self.new) }
         ensures same { plan.new ≡ record plan.old { next = plan.new.next } }
+        ensures stays { OnOk result (StaysUntil plan.old plan.old.next step.now self.old.content
+            desk.old.slab self.new.content) }
         ensures spent { result ≡ Err StepFault.NumbersSpent
             ↔ ((writes plan.old.next ≡ true) × has_no_number desk.old) }
         ensures refused { result ≡ Err StepFault.NoMemory → NeedsPages plan.old.next

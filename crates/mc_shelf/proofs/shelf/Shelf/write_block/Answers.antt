@@ -1,5 +1,5 @@
 use Rattle.mc_shelf.proofs.Common.{◌∙◌, ◌≡◌, ap, block_beside, block_in, block_of, ChunksState, drafted, EntryState, get, hashes_of, item_in, ItemIsChanged, key_of, List, made_block, Option}
-use Rattle.mc_shelf.proofs.Common.{ShelfState, Some, stood, subst, sym, with_item, ℕ}
+use Rattle.mc_shelf.proofs.Common.{ShelfState, Some, subst, sym, with_item, ℕ}
 use Rattle.mc_shelf.proofs.ShelfLemmas.{moved_is}
 use Rattle.mc_shelf.proofs.shelf.Shelf.write_block.Goals as goal
 
