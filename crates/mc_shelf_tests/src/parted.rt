@@ -8,7 +8,7 @@ ghost use Rattle.mc_shelf.specs.Plans.{CanLook, StepTaken, IsPlan, HasRoom};
 
 use mc_hop::KeyHash;
 use mc_protocol::{KeyStep, Reply, StepFault};
-use mc_shelf::{Begun, Brought, Desk, Plan, Shelf, Store, StoreParts};
+use mc_shelf::{Brought, Desk, Plan, Shelf, Store, StoreParts};
 use mc_time::Moment;
 use std::alloc::Global;
 
@@ -19,14 +19,6 @@ struct HashedStep<'a> {
     hash: u64,
 }
 
-/// Returns whether something of a step is left.
-fn is_left(begun: &Begun) -> bool {
-    match begun {
-        Begun::Left(..) => true,
-        Begun::Done | Begun::Full => false,
-    }
-}
-
 /// Takes a step that was planned. Returns whether something was left to its second part.
 ///
 /// A join gets pages in exchange for those of its item.
@@ -34,27 +26,27 @@ fn take_planned(
     alloc: Global,
     shelf: &mut Shelf,
     desk: &mut Desk,
-    plan: &mut Plan<'_>,
+    mut plan: Plan<'_>,
     step: &KeyStep<'_>,
     left: &mut bool,
 ) -> Result<Reply, StepFault>
-    requires plan { IsPlan plan.old shelf.old.content step.now plan.old.moment }
-    requires room { HasRoom plan.old shelf.old step.now }
+    requires plan { IsPlan plan shelf.old.content step.now plan.moment }
+    requires room { HasRoom plan shelf.old step.now }
     requires key { length (key_of step.now) ≤ 250 }
     requires stands { CanStandAt (key_of step.now) shelf.old.content desk.old }
-    ensures took { IfOk result (λ reply. StepTaken step.now plan.old.moment plan.old.hash
+    ensures took { IfOk result (λ reply. StepTaken step.now plan.entry.moment plan.entry.hash
         shelf.old.content desk.old reply shelf.new.content desk.new) }
     ensures err { OnErr result
         ((shelf.new.content ≡ shelf.old.content) × (desk.new ≡ desk.old)) }
 {
-    let exchange = shelf.exchange(alloc, plan)?;
+    let exchange = shelf.exchange(alloc, &plan)?;
     let brought = Brought {
         pages: None,
         exchange,
     };
-    let begun = shelf.begin(alloc, plan, step, desk, brought)?;
-    *left = is_left(&begun);
-    Ok(shelf.finish(plan, begun, step))
+    shelf.begin(alloc, &mut plan, step, desk, brought)?;
+    *left = plan.is_left();
+    Ok(shelf.finish(plan, step))
 }
 
 /// Takes a step on a shelf's key in two parts. Returns whether something was left to the second.
@@ -76,8 +68,8 @@ fn step_in_parts(
         ((shelf.new.content ≡ shelf.old.content) × (desk.new ≡ desk.old)) }
 {
     let HashedStep { step, hash } = *hashed;
-    let mut plan = shelf.look(alloc, step, hash, now)?;
-    take_planned(alloc, shelf, desk, &mut plan, step, left)
+    let plan = shelf.look(alloc, step, hash, now)?;
+    take_planned(alloc, shelf, desk, plan, step, left)
 }
 
 /// Takes a step at its key's shelf in two parts. Returns whether something was left to the second.
