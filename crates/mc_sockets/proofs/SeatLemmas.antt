@@ -16,7 +16,7 @@ use Rattle.mc_sockets.specs.declared.seats.Patrol.{Patrol}
 use Rattle.mc_sockets.specs.declared.seats.Seats.{Seats}
 use Rattle.mc_sockets.specs.Places.{Notes}
 use Rattle.mc_sockets.specs.Readiness.{report_of}
-use Rattle.mc_sockets.specs.Seats.{Acts, AnswersAt, AreHeard, AtEach, Hears, IsFull, LooksAtNext, LooksInTurn, Patrols, SendsAt, sweep, no_event, none_yet, one_first, one_more}
+use Rattle.mc_sockets.specs.Seats.{Acts, AnswersAt, AreHeard, AtEach, Hears, IsFull, LooksAtNext, LooksInTurn, Patrols, SendsAt, sweep}
 use Rattle.mc_sockets.specs.Watches.{due, is_too_soon, turn}
 use Rattle.mc_sockets.specs.declared.idle.Watch.{Watch}
 
@@ -56,11 +56,11 @@ module _ {F : Type 0} (step : ℕ → Seats F → Seats F → Type 0) where
 
   -- no place is before the first
   pub made_none : (seats : Seats F) → MadeBefore 0 seats seats
-  made_none seats n is = subst (λ k. AtEach step k seats seats) (sym is) (none_yet seats)
+  made_none seats n is = subst (λ k. AtEach step k seats seats) (sym is) chains.none_yet
 
   -- the step was made at one more place
   pub made_more : (at : ℕ) (old mid new : Seats F) → MadeBefore at old mid → step at mid new → MadeBefore (at + 1) old new
-  made_more at old mid new before made n is = subst (λ k. AtEach step k old new) (sym is) (one_more at old mid new (before at refl) made)
+  made_more at old mid new before made n is = subst (λ k. AtEach step k old new) (sym is) (chains.one_more (before at refl) (made, refl))
 
 -- an event of a link is heard at the place of its token
 pub hears_link : {F R : Type 0} (known : F → Option Readiness) (sends : R → ℕ → R → Type 0) (event : Event) (token : Token) (report : Report)
@@ -87,20 +87,19 @@ module _ {F R : Type 0} (hears : Event → Seats F → Seats F → R → R → T
       → HeardBut left all old mid old_rests mid_rests → hears event mid new mid_rests new_rests → HeardBut others all old new old_rests new_rests
   heard_next left others all event old mid new old_rests mid_rests new_rests is so_far heard end end_rests rest =
       so_far end end_rests
-      (subst (λ events. AreHeard hears events mid end mid_rests end_rests) (sym is) (one_first event others mid new end mid_rests new_rests end_rests heard rest))
+      (subst (λ events. AreHeard hears events mid end mid_rests end_rests) (sym is) ((new, new_rests), heard, rest))
 
   -- no event is left
   pub heard_all : (left all : List Event) (old new : Seats F) (old_rests new_rests : R) → length left ≡ 0 → HeardBut left all old new old_rests new_rests
       → AreHeard hears all old new old_rests new_rests
-  heard_all [] all old new old_rests new_rests is so_far = so_far new new_rests (no_event new new_rests)
+  heard_all [] all old new old_rests new_rests is so_far = so_far new new_rests refl
   heard_all (event ∷ others) all old new old_rests new_rests is so_far = absurd (grind (arith, is))
 
   -- no event was there
   pub heard_nothing : (all : List Event) (old new : Seats F) (old_rests new_rests : R) → all ≡ [] → new ≡ old → new_rests ≡ old_rests
       → AreHeard hears all old new old_rests new_rests
   heard_nothing all old new old_rests new_rests is same same_rests =
-      subst (λ events. AreHeard hears events old new old_rests new_rests) (sym is)
-      (subst (λ end. AreHeard hears [] old end old_rests new_rests) (sym same) (subst (λ end. AreHeard hears [] old old old_rests end) (sym same_rests) (no_event old old_rests)))
+      subst (λ events. AreHeard hears events old new old_rests new_rests) (sym is) (λ i. (same i, same_rests i))
 
 -- the watch, where the moment of a look is noted
 abbrev pub noted : Instant → Watch → Watch
@@ -123,11 +122,12 @@ module _ {F R : Type 0} (known : F → Option Readiness) (sends : R → ℕ → 
     same = is ∙ ap (λ (at : ℕ). record (noted now first) { at = at }) (sym (ap (λ (w : Watch). w.at) is));
   }
 
-  pub looked_more : (count : ℕ) (limit : Duration) (mid later : Watch) (between new : Seats F) (mid_rests new_rests : R) → limit ≡ first.limit
-      → Looked count mid between mid_rests → LooksAtNext sends (act limit) (sweep mid.at between mid_rests) (sweep later.at new new_rests)
-      → later ≡ record mid { at = later.at } → Looked (count + 1) later new new_rests
-  looked_more count limit mid later between new mid_rests new_rests by_limit looked next is =
-      let one = subst (λ (d : Duration). LooksAtNext sends (act d) (sweep mid.at between mid_rests) (sweep later.at new new_rests)) by_limit next in
+  pub looked_more : (count : ℕ) (mid later : Watch) (between new : Seats F) (mid_rests new_rests : R) → Looked count mid between mid_rests
+      → LooksAtNext sends (act mid.limit) (sweep mid.at between mid_rests) (sweep later.at new new_rests) → later ≡ record mid { at = later.at }
+      → Looked (count + 1) later new new_rests
+  looked_more count mid later between new mid_rests new_rests looked next is =
+      let limit : mid.limit ≡ first.limit = ap (λ (w : Watch). w.limit) looked.same in
+      let one = subst (λ (d : Duration). LooksAtNext sends (act d) (sweep mid.at between mid_rests) (sweep later.at new new_rests)) limit next in
       record {
         looks = λ n more. subst (λ (k : ℕ). Repeats (LooksAtNext sends (act first.limit)) k (sweep first.at old old_rests) (sweep later.at new new_rests)) (sym more)
             (chains.one_more (looked.looks count refl) one);
@@ -148,13 +148,15 @@ count_of count all places len looked now least most is long =
     let same : count ≡ all = omega (arith, least, most) in
     same ∙ is ∙ ap (λ (n : ℕ). due looked now n) long
 
--- the place in turn was looked at, and what a dropped link left there was sent
-pub looked_at : {F R : Type 0} (sends : R → ℕ → R → Type 0) (act : Seats F → Bool → LinkRecord F → LinkRecord F → List ℕ → List ℕ → Type 0) (at place later len : ℕ) (old new : Seats F)
-    (old_rests new_rests : R) (answer : Bool) → place ≡ turn at len → len ≡ length old.places.items → later ≡ place + 1 → AnswersAt (act old) place answer old new
-    → MatchBool answer (sends old_rests place new_rests) (new_rests ≡ old_rests) → LooksAtNext sends act (sweep at old old_rests) (sweep later new new_rests)
-looked_at sends act at place later len old new old_rests new_rests answer is long next answers rest =
+-- the place in turn was looked at by the watch's limit, and what a dropped link left there was sent
+pub looked_at : {F R : Type 0} (sends : R → ℕ → R → Type 0) (act : Duration → Seats F → Bool → LinkRecord F → LinkRecord F → List ℕ → List ℕ → Type 0) (limit first : Duration)
+    (at place later len : ℕ) (old new : Seats F) (old_rests new_rests : R) (answer : Bool) → limit ≡ first → place ≡ turn at len → len ≡ length old.places.items → later ≡ place + 1
+    → AnswersAt (act limit old) place answer old new → MatchBool answer (sends old_rests place new_rests) (new_rests ≡ old_rests)
+    → LooksAtNext sends (act first) (sweep at old old_rests) (sweep later new new_rests)
+looked_at sends act limit first at place later len old new old_rests new_rests answer by_limit is long next answers rest =
     let there : place ≡ turn at (length old.places.items) = is ∙ ap (λ (n : ℕ). turn at n) long in
+    let answered = subst (λ (d : Duration). AnswersAt (act d old) place answer old new) by_limit answers in
     record {
-      looks = subst (λ (n : ℕ). SendsAt sends (act old) n old new old_rests new_rests) there (record { answer = answer; answers = answers; rest = rest });
+      looks = subst (λ (n : ℕ). SendsAt sends (act first old) n old new old_rests new_rests) there (record { answer = answer; answers = answered; rest = rest });
       next = next ∙ ap (λ (n : ℕ). n + 1) there;
     }

@@ -1,6 +1,7 @@
 -- The law of wake-ups.
 use Rattle.std.specs.Prelude.{nat_lt}
 use Rattle.std.proofs.Common.{◌≡◌, ◌⊎◌, ℕ, Bool, true, false, not, ◌&&◌, ◌||◌, refl, ◌∙◌, inl, inr}
+use Rattle.mc_time.specs.Chains.{Repeats, none_yet, one_more}
 use Rattle.mc_sockets.specs.declared.readiness.Readiness.{Readiness}
 use Rattle.mc_sockets.specs.declared.readiness.Report.{Report}
 use Rattle.mc_sockets.specs.declared.stream.Hindrance.TheVariants.{WouldBlock, Interrupted, Fault}
@@ -9,9 +10,9 @@ use Rattle.mc_sockets.specs.declared.stream.Received.TheVariants as received
 use Rattle.mc_sockets.specs.declared.stream.Sent.{Sent}
 use Rattle.mc_sockets.specs.declared.stream.Sent.TheVariants as sent
 use Rattle.mc_sockets.specs.Readiness.{Happening, Read, Wrote, Paused, Reported, AskedAgain, Ended, after, names}
-use Rattle.mc_sockets.specs.Wakeups.{Watched, Step, Steps, MissesNothing, IsCall, LeavesInput, LeavesRoom}
+use Rattle.mc_sockets.specs.Wakeups.{Watched, Step, MissesNothing, IsCall, LeavesInput, LeavesRoom}
 use Rattle.mc_sockets.specs.Wakeups.{input_comes, room_comes, end_comes, urgent_comes, reads, reads_nothing, writes, writes_nothing}
-use Rattle.mc_sockets.specs.Wakeups.{pauses, asks_again, ends, pays, drops, reports_beside, none_yet, one_more}
+use Rattle.mc_sockets.specs.Wakeups.{pauses, asks_again, ends, pays, drops, reports_beside}
 
 -- what is owed stays owed if more is
 still : (owed more : Bool) → owed ≡ true → (owed || more) ≡ true
@@ -214,11 +215,11 @@ misses_step old _ (reports_beside _ report) missed = record {
 }
 
 -- nothing is missed after any steps from the registration
-pub misses_never : (first last : Watched) → first.owed ≡ true → Steps first last → MissesNothing last
-misses_never first _ owed (none_yet _) =
+pub misses_never : (count : ℕ) (first last : Watched) → first.owed ≡ true → Repeats Step count first last → MissesNothing last
+misses_never _ first _ owed none_yet =
     record { input = λ _ _. owed; room = λ _ _. owed; end = λ _ _. owed; urgent = λ _ _. owed }
-misses_never first last owed (one_more _ old _ steps step) =
-    misses_step old last step (misses_never first old owed steps)
+misses_never _ first last owed (one_more {count = n} {mid = mid} steps step) =
+    misses_step mid last step (misses_never n first mid owed steps)
 
 -- a link that waits does so until it is named or called
 pub waits_until : (known : Readiness) (happening : Happening) → known.waits ≡ true → (IsCall happening → ⊥)

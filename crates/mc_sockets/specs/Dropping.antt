@@ -4,14 +4,19 @@ use Rattle.mc_time.specs.Chains.{Repeats}
 use Rattle.mc_sockets.specs.declared.dropping.Drain.{Drain}
 use Rattle.mc_sockets.specs.declared.dropping.Drain.TheVariants.{Going, Waiting, Done}
 use Rattle.mc_sockets.specs.declared.dropping.Dropping.{Dropping}
+use Rattle.mc_sockets.specs.declared.dropping.TheConstants.{MOST_DROPPED}
 use Rattle.mc_sockets.specs.declared.stream.Hindrance.TheVariants.{WouldBlock, Interrupted, Fault}
 use Rattle.mc_sockets.specs.declared.stream.Received.{Received}
 use Rattle.mc_sockets.specs.declared.stream.Received.TheVariants as received
 use Rattle.mc_sockets.specs.Streams.{into_some}
 
--- after less than 1 MiB of dropped bytes there may be more to drop
+-- the most input bytes that are dropped behind the last answer
+abbrev pub most_dropped : ℕ
+most_dropped = MOST_DROPPED
+
+-- after fewer dropped bytes there may be more to drop
 abbrev pub state_after : (bytes : ℕ) → Drain
-state_after bytes = if nat_lt bytes 1_048_576 then Going else Done
+state_after bytes = if nat_lt bytes most_dropped then Going else Done
 
 -- What was dropped after a read that was answered so: its bytes more. Nothing more is to be dropped at
 -- the end and after a fault, and nothing now where the read would block.

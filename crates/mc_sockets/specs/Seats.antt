@@ -6,7 +6,7 @@ use Rattle.mio.specs.Event.{event_token}
 use Rattle.std.specs.Duration.{as_nanos}
 use Rattle.std.specs.declared.time.Duration.{Duration}
 use Rattle.std.specs.declared.time.Instant.{Instant}
-use Rattle.mc_time.specs.Chains.{Repeats}
+use Rattle.mc_time.specs.Chains.{Chain, Repeats}
 use Rattle.mc_sockets.specs.Places.{AsksOrCloses, EndsIfIdle, HappensTo, Notes}
 use Rattle.mc_sockets.specs.Readiness.{Ended, report_of}
 use Rattle.mc_sockets.specs.Watches.{due, is_too_soon, turn}
@@ -49,9 +49,9 @@ module _ {F : Type 0} where
   ActsAt act at old new = MatchOption (slice_get old.places.items at) (new ≡ old) (λ place. Acts act at place old new)
 
   -- a step at each place before this one, from the first on
-  pub data AtEach (step : ℕ → Seats F → Seats F → Type 0) : ℕ → Seats F → Seats F → Type 0 where
-    none_yet : (seats : Seats F) → AtEach step 0 seats seats
-    one_more : (at : ℕ) (old mid new : Seats F) → AtEach step at old mid → step at mid new → AtEach step (at + 1) old new
+  abbrev pub AtEach : (step : ℕ → Seats F → Seats F → Type 0) → ℕ → Seats F → Seats F → Type 0
+  AtEach step count old new =
+      Repeats {S = ℕ × Seats F} (λ here there. step here.0 here.1 there.1 × (there.0 ≡ here.0 + 1)) count (0, old) (count, new)
 
   -- that is done at a place, and answered; without a record there nothing is done, and the answer is no
   abbrev pub AnswersAt : (act : Bool → LinkRecord F → LinkRecord F → List ℕ → List ℕ → Type 0) → ℕ → (answer : Bool) → Seats F → Seats F → Type 0
@@ -78,11 +78,9 @@ module _ {F : Type 0} where
         → SendsAt sends (Notes known (report_of event) (IsFull old)) ((event_token event).0 - 1) old new old_rests new_rests
 
   -- each event of a list is noted once, from the first to the last, and nothing else happens
-  pub data AreHeard {R : Type 0} (hears : Event → Seats F → Seats F → R → R → Type 0) : List Event → (old new : Seats F) → (old_rests new_rests : R) → Type 0 where
-    no_event : (seats : Seats F) (rests : R) → AreHeard hears [] seats seats rests rests
-    one_first : (event : Event) (others : List Event) (old mid new : Seats F) (old_rests mid_rests new_rests : R)
-        → hears event old mid old_rests mid_rests → AreHeard hears others mid new mid_rests new_rests
-        → AreHeard hears (event ∷ others) old new old_rests new_rests
+  abbrev pub AreHeard : {R : Type 0} (hears : Event → Seats F → Seats F → R → R → Type 0) → List Event → (old new : Seats F) → (old_rests new_rests : R) → Type 0
+  AreHeard {R} hears events old new old_rests new_rests =
+      Chain {S = Seats F × R} (λ before event after. hears event before.0 after.0 before.1 after.1) (old, old_rests) events (new, new_rests)
 
   -- The place in turn is looked at: that is done there, and what a dropped link left is sent exactly if the answer is yes.
   pub record LooksAtNext {R : Type 0} (sends : R → ℕ → R → Type 0)

@@ -65,11 +65,6 @@ pub data Step : Watched → Watched → Type 0 where
   drops : (old : Watched) → old.input ≡ false → old.room ≡ false → old.end ≡ false → old.urgent ≡ false → Step old (record old { owed = false })
   reports_beside : (old : Watched) (report : Report) → Step old (record old { known = after old.known (Reported report) })
 
--- steps, one after another
-pub data Steps : Watched → Watched → Type 0 where
-  none_yet : (watched : Watched) → Steps watched watched
-  one_more : (first old new : Watched) → Steps first old → Step old new → Steps first new
-
 -- Nothing is missed: where a link would wait although it could go on, a report is owed. That is so for
 -- input, for room, and for the end and urgent data, behind which a short read doesn't take all.
 pub record MissesNothing (watched : Watched) : Type 0 where

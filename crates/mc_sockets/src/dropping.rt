@@ -8,7 +8,7 @@ ghost use Rattle.mc_sockets.specs.Dropping.{after_drop, state_after, DropsInput}
 use crate::stream::{Hindrance, Received, Stream};
 
 /// The most input bytes that are dropped behind the last answer.
-const MOST: usize = 1_048_576;
+const MOST_DROPPED: usize = 1_048_576;
 
 /// The most bytes of a read whose bytes are dropped.
 const PIECE: usize = 16_384;
@@ -82,7 +82,7 @@ impl Dropping {
     {
         Dropping {
             bytes,
-            drain: if bytes >= MOST {
+            drain: if bytes >= MOST_DROPPED {
                 Drain::Done
             } else {
                 Drain::Going

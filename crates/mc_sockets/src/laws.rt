@@ -1,12 +1,13 @@
 //! Laws of readiness, each the contract of a function that does nothing.
 
 ghost use Rattle.std.specs.Prelude.{◌≡◌, ◌⊎◌, ℕ, true};
+ghost use Rattle.mc_time.specs.Chains.{Repeats};
 ghost use Rattle.mc_sockets.specs.declared.readiness.Readiness.{Readiness};
 ghost use Rattle.mc_sockets.specs.declared.readiness.Report.{Report};
 ghost use Rattle.mc_sockets.specs.declared.stream.Hindrance.TheVariants.{WouldBlock};
 ghost use Rattle.mc_sockets.specs.declared.stream.Received.TheVariants as received;
 ghost use Rattle.mc_sockets.specs.Readiness.{Happening, Read, Reported, after, names};
-ghost use Rattle.mc_sockets.specs.Wakeups.{Watched, Steps, MissesNothing, IsCall};
+ghost use Rattle.mc_sockets.specs.Wakeups.{Watched, Step, MissesNothing, IsCall};
 
 /// States that no wake-up is lost, and that only links that wait are named.
 ///
@@ -17,8 +18,8 @@ ghost use Rattle.mc_sockets.specs.Wakeups.{Watched, Steps, MissesNothing, IsCall
 /// named or called, and no other is named.
 #[tactic(auto, using(crate::proofs::WakeupLemmas::wakeups))]
 pub fn no_wake_up_is_lost()
-    ensures owed { (first last : Watched) → first.owed ≡ true → Steps first last →
-        MissesNothing last }
+    ensures owed { (count : ℕ) (first last : Watched) → first.owed ≡ true →
+        Repeats Step count first last → MissesNothing last }
     ensures later { (known : Readiness) (piece : ℕ) →
         (after known (Read (received.Hindered WouldBlock) piece)).waits ≡ true }
     ensures waits { (known : Readiness) (happening : Happening) → known.waits ≡ true →

@@ -74,6 +74,7 @@ impl LinkContext {
     }
 
     /// Sends what the link at this place has left behind.
+    #[inline(never)]
     fn send_rest(&self, at: usize) {
         if let Ok(mut yard) = self.yard.try_borrow_mut() {
             yard.send_rest(at);
@@ -241,8 +242,8 @@ impl<'a, R: Wait + Clock> SocketLinks<'a, R> {
             before now) self.old.watch self.new.watch self.old.seats self.new.seats
             self.old.common self.new.common }
     {
-        let patrol = Patrol::EndIdle(self.quiet);
         if let Some(watch) = &mut self.watch {
+            let patrol = Patrol::EndIdle(self.quiet);
             self.seats
                 .look_in_turn(watch, patrol, before, now, &mut self.common);
         }

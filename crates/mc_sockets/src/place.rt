@@ -75,7 +75,7 @@ impl<F: ReadinessCell + Drop> LinkRecord<F> {
         self.waits_since = None;
         self.asked_since = None;
         let known = self.readiness.look();
-        self.go_on(known, known.after_report(report), named);
+        self.go_on(known.waits, known.after_report(report), named);
         known.leaves
     }
 
@@ -87,7 +87,7 @@ impl<F: ReadinessCell + Drop> LinkRecord<F> {
         ensures number { self.new.number ≡ self.old.number }
     {
         let known = self.readiness.look();
-        self.go_on(known, known.asked_again(), named);
+        self.go_on(known.waits, known.asked_again(), named);
     }
 
     /// Ends the connection for this reason, and names its link if it waits. Returns whether the
@@ -100,7 +100,7 @@ impl<F: ReadinessCell + Drop> LinkRecord<F> {
     {
         self.waits_since = None;
         let known = self.readiness.look();
-        self.go_on(known, known.ending(parting), named);
+        self.go_on(known.waits, known.ending(parting), named);
         known.leaves
     }
 
@@ -130,20 +130,26 @@ impl<F: ReadinessCell + Drop> LinkRecord<F> {
         }
     }
 
-    /// Notes what is known next, and names the link if it waited.
+    /// Notes what is known next, and names the link if it waits.
     ///
     /// There is room for its number, which was reserved with its place. Without room it waits on.
-    fn go_on(&mut self, known: Readiness, next: Readiness, named: &mut VecDeque<u64>)
-        ensures names { NamesIf known.waits self.old.number
+    #[inline(always)]
+    fn go_on(&mut self, waits: bool, next: Readiness, named: &mut VecDeque<u64>)
+        ensures names { NamesIf waits self.old.number
             (deque_capacity named.old ≤ deque_len named.old) next (F.known self.new.readiness)
             named.old.items named.new.items }
         ensures same { self.new ≡ record self.old { readiness = self.new.readiness } }
     {
-        let waits_on = known.waits && named.push_back(self.number).is_err();
         self.readiness.note(Readiness {
-            waits: waits_on,
+            waits: false,
             ..next
         });
+        if waits && named.push_back(self.number).is_err() {
+            self.readiness.note(Readiness {
+                waits: true,
+                ..next
+            });
+        }
     }
 
     /// Returns whether its write side was shut down for the look's limit. It does so once.

@@ -230,7 +230,7 @@ impl<F: ReadinessCell + Drop> Seats<F> {
     /// Looks at the places that are due by the watch, in turn, and acts at each by the patrol.
     ///
     /// What a dropped link left is sent.
-    #[inline]
+    #[inline(always)]
     pub fn look_in_turn<R: Rests>(
         &mut self,
         watch: &mut Watch,
@@ -242,10 +242,8 @@ impl<F: ReadinessCell + Drop> Seats<F> {
         ensures { LooksInTurn F.known R.sends patrol before now watch.old watch.new self.old
             self.new rests.old rests.new }
     {
-        let limit = watch.limit();
-        let look = Look { limit, before, now };
         for _one in 0..watch.due(self.places.len(), now) {
-            self.look_at_next(watch, patrol, look, rests);
+            self.look_at_next(watch, patrol, before, now, rests);
         }
     }
 
@@ -255,15 +253,18 @@ impl<F: ReadinessCell + Drop> Seats<F> {
         &mut self,
         watch: &mut Watch,
         patrol: Patrol,
-        look: Look,
+        before: Instant,
+        now: Instant,
         rests: &mut R,
     )
-        ensures looks { LooksAtNext R.sends (Patrols F.known patrol look)
+        ensures looks { LooksAtNext R.sends (Patrols F.known patrol
+            (record { limit = watch.old.limit; before = before; now = now }))
             (sweep watch.old.at self.old rests.old) (sweep watch.new.at self.new rests.new) }
         ensures same { watch.new ≡ record watch.old { at = watch.new.at } }
     {
+        let limit = watch.limit();
         let at = watch.turn(self.places.len());
-        let was_dropped = self.look_at(at, patrol, look);
+        let was_dropped = self.look_at(at, patrol, Look { limit, before, now });
         send_rest_if(was_dropped, at, rests);
     }
 
@@ -302,6 +303,7 @@ impl<F: ReadinessCell + Drop> Seats<F> {
 }
 
 /// Sends what the link at a place left, if it was dropped.
+#[inline(always)]
 fn send_rest_if<R: Rests>(was_dropped: bool, at: usize, rests: &mut R)
     ensures { MatchBool was_dropped (R.sends rests.old at rests.new) (rests.new ≡ rests.old) }
 {

@@ -8,7 +8,7 @@ loop-one-init g c = looked_none _ _ _ _ _ _ _ _ c.due-one-end.new.self c.due-one
 pub loop-one-preserved : goal.loop-one-preserved
 loop-one-preserved g c =
     looked_more g.F.ReadinessCell.known g.R.Rests.sends c.args.patrol c.args.before c.args.now c.args.watch.now c.args.self.now c.args.rests.now
-    _ c.limit-limit.result _ _ _ _ _ _ c.limit-limit.ensures c.loop-one.invariant c.look_at_next.ensures.looks c.look_at_next.ensures.same
+    _ _ _ _ _ _ _ c.loop-one.invariant c.look_at_next.ensures.looks c.look_at_next.ensures.same
 
 pub returns : goal.returns
 returns g c =
