@@ -1,5 +1,6 @@
 -- The promises of the shared store's calls.
 use Rattle.std.specs.Prelude.{◌≡◌, ℕ, ◌≤◌, ◌⊎◌, Bool, true, List, [], ◌∷◌, ◌++◌, Some, None}
+use Rattle.mc_slab.specs.Needs.{largest_charge}
 use Rattle.mc_protocol.specs.declared.step.KeyStep.{KeyStep}
 use Rattle.mc_protocol.specs.declared.reply.Reply.{Reply}
 use Rattle.mc_protocol.specs.declared.step.StepFault.{StepFault}
@@ -59,7 +60,7 @@ pub record IsPlanned (plan : Plan) (shelf : ShelfState) (step : KeyStep) (hash n
     pub is_plan : IsPlan plan shelf.content step now
     pub hashed : plan.hash ≡ hash
     pub room : HasRoom plan shelf step
-    pub most : shelf.content.greatest ≤ 8388608
+    pub most : shelf.content.greatest ≤ largest_charge
 
 -- Why a tried step wasn't taken. The bay is busy only if its word was 1, so not if the past is
 -- whole; it is the key's shelf or the desk.

@@ -5,6 +5,7 @@
 ghost use Rattle.std.specs.Prelude.{ℕ, ◌≡◌, ◌<◌, ◌≤◌, []};
 ghost use Rattle.std.specs.Prelude.{length, vec_len, vec_capacity, IfOk, IfSome, OnErr};
 ghost use Rattle.std.specs.List.{All};
+ghost use Rattle.mc_slab.specs.Needs.{largest_charge};
 ghost use Rattle.mc_protocol.specs.declared.step.KeyStep.{KeyStep as Step};
 ghost use Rattle.mc_protocol.specs.declared.reply.Reply.{Reply as Told};
 ghost use Rattle.mc_shelf.specs.Bare.{IsBare};
@@ -52,7 +53,7 @@ const TIMES: usize = 4;
 
 /// Makes `count` empty shelves. The only error is a refused allocation.
 fn bare_shelves(alloc: Global, count: usize, greatest: u64) -> Result<Vec<Shelf>, AllocError>
-    requires { greatest ≤ 8388608 }
+    requires { greatest ≤ largest_charge }
     ensures { IfOk result (λ list. (vec_len list ≡ count) × All IsBare list.items) }
 {
     let mut list = Vec::with_capacity(alloc, count)?;

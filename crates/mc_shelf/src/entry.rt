@@ -3,7 +3,7 @@
 ghost use Rattle.std.specs.Prelude.{◌≡◌, ◌+◌, ◌<◌, ◌≤◌, ◌++◌, [], length, drop, slice_get, Some, IfSome, OnOk, OnErr};
 ghost use Rattle.std.specs.List.{concat, list_all};
 ghost use Rattle.mc_slab.specs.Needs.{IsNeed, need_for};
-ghost use Rattle.mc_slab.specs.Chunks.{need_in, with_part};
+ghost use Rattle.mc_slab.specs.Chunks.{need_in, with_part, largest_block};
 ghost use Rattle.mc_protocol.specs.Words.{is_space};
 ghost use Rattle.mc_protocol.specs.Plain.{charge, item_need, number_of};
 ghost use Rattle.mc_shelf.specs.States.{charge_in, entry_in, entry_with, parts_of};
@@ -148,7 +148,7 @@ impl Entry {
     /// Returns the length of its block, at most 8388560 bytes.
     pub(crate) fn block_len(&self) -> usize
         ensures value { result ≡ length self.now.item.block }
-        ensures most { result ≤ 8388560 }
+        ensures most { result ≤ largest_block }
     {
         self.item.block_len()
     }

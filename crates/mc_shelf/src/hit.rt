@@ -3,6 +3,7 @@
 ghost use Rattle.std.specs.Prelude.{◌≡◌, ◌<◌, ◌≤◌, length, slice_get, Some, IfSome, true, false};
 ghost use Rattle.std.specs.List.{concat};
 ghost use Rattle.std.specs.FinMap.{get};
+ghost use Rattle.mc_slab.specs.Chunks.{largest_block};
 ghost use Rattle.mc_protocol.specs.Commands.{key_of};
 ghost use Rattle.mc_protocol.specs.Plain.{hit_of, item_need};
 ghost use Rattle.mc_shelf.specs.States.{IsHash, parts_of};
@@ -54,7 +55,7 @@ impl<'a> Hit<'a> {
     /// Returns the length of the item's block, at most 8388560 bytes.
     pub fn block_len(&self) -> usize
         ensures value { result ≡ length self.now.item.block }
-        ensures most { result ≤ 8388560 }
+        ensures most { result ≤ largest_block }
     {
         self.entry.block_len()
     }

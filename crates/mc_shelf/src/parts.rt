@@ -1,6 +1,7 @@
 //! The parts of a store: its shelves, and the desk that they share.
 
 ghost use Rattle.std.specs.Prelude.{◌≡◌, ◌==◌, ◌≤◌, ℕ, List, map, replicate, true, false, IfOk};
+ghost use Rattle.mc_slab.specs.Needs.{largest_charge};
 ghost use Rattle.mc_protocol.specs.declared.step.KeyStep.{KeyStep};
 ghost use Rattle.mc_protocol.specs.declared.reply.Reply.{Reply};
 ghost use Rattle.mc_protocol.specs.Commands.{key_of};
@@ -53,7 +54,7 @@ pub fn refusals_are_plain()
         IsOnKey step → writes (next_of shelf step now) ≡ true → has_no_number desk →
         IsSpent step now shelf desk }
     ensures pages { (step : KeyStep) (now : ℕ) (shelf : ShelfContent) (desk : DeskState) →
-        IsOnKey step → IsSlab desk.slab → shelf.greatest ≤ 8388608 →
+        IsOnKey step → IsSlab desk.slab → shelf.greatest ≤ largest_charge →
         NeedsPages (next_of shelf step now) shelf (key_of step) now desk →
         MayWantMemory step now shelf desk }
 {}
@@ -138,7 +139,7 @@ pub(crate) fn empty_shelves(
     count: u32,
     greatest: u64,
 ) -> Result<Vec<Shelf>, AllocError>
-    requires { greatest ≤ 8388608 }
+    requires { greatest ≤ largest_charge }
     ensures content { IfOk result (λ list.
         map (λ shelf. shelf.content) list.items ≡ replicate count (nothing_held greatest)) }
     ensures left { IfOk result (λ list. lefts list.items ≡ replicate count 0) }

@@ -5,6 +5,7 @@
 
 ghost use Rattle.std.specs.Prelude.{◌≡◌, ◌↔◌, ℕ, List, ◌≤◌, length, true, is_none, Option, IfOk, OnErr};
 ghost use Rattle.std.specs.FinMap.{get};
+ghost use Rattle.mc_slab.specs.Chunks.{largest_block};
 ghost use Rattle.mc_time.specs.declared.expiry.Expiry.{Expiry as Expires};
 ghost use Rattle.mc_protocol.specs.declared.step.KeyStep.{KeyStep as Step};
 ghost use Rattle.mc_protocol.specs.declared.row.Row.TheVariants.{Reads};
@@ -217,7 +218,7 @@ fn charge_of(step: &KeyStep<'_>, item: Option<&Entry>, draft: Draft) -> u64
 /// Returns the length of an item's block in bytes, or 0 without an item.
 pub(crate) fn block_len(item: Option<&Entry>) -> usize
     ensures value { result ≡ length (block_in (item_in item.entry)) }
-    ensures most { result ≤ 8388560 }
+    ensures most { result ≤ largest_block }
 {
     match item {
         Some(old) => old.block_len(),
@@ -228,7 +229,7 @@ pub(crate) fn block_len(item: Option<&Entry>) -> usize
 /// Returns the charge of the block that a body makes from a step's block and an old one.
 fn charge(key: &[u8], block: &[u8], old_len: usize, body: Body) -> u64
     requires key { length key.now ≤ longest_key }
-    requires old { old_len ≤ 8388560 }
+    requires old { old_len ≤ largest_block }
     ensures { (old : List ℕ) → length old ≡ old_len →
         result ≡ machine.charge key.now (made_block body block.now old) }
 {

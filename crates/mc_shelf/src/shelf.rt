@@ -8,7 +8,7 @@ ghost use Rattle.std.specs.Prelude.{◌≡◌, ◌↔◌, ℕ, ◌+◌, ◌-◌,
 ghost use Rattle.std.specs.Prelude.{Option, Some, None, Err, IfOk, IfSome, OnErr, OnOk, is_some, nat_lt, true, false};
 ghost use Rattle.std.specs.FinMap.{empty, get, len};
 ghost use Rattle.mc_time.specs.declared.expiry.Expiry.{Expiry as Expires};
-ghost use Rattle.mc_slab.specs.Needs.{IsNeed, need_for, size_in};
+ghost use Rattle.mc_slab.specs.Needs.{IsNeed, need_for, size_in, largest_charge};
 ghost use Rattle.mc_slab.specs.Slabs.{IsSlab, pages_wanted};
 ghost use Rattle.mc_protocol.specs.declared.step.KeyStep.{KeyStep as Step};
 ghost use Rattle.mc_protocol.specs.declared.row.Row.TheVariants.{Reads};
@@ -89,7 +89,9 @@ impl Model for Shelf {
       reclaimed = s.reclaimed;
     } };
 
-    ghost invariant = { λ s. s.greatest ≤ 8388608 };
+    ghost use Rattle.mc_slab.specs.Needs.{largest_charge};
+
+    ghost invariant = { λ s. s.greatest ≤ largest_charge };
 }
 
 impl Shelf {
@@ -99,7 +101,7 @@ impl Shelf {
     ///
     /// The only error is a refused allocation.
     pub fn new(alloc: Global, greatest: u64) -> Result<Shelf, AllocError>
-        requires { greatest ≤ 8388608 }
+        requires { greatest ≤ largest_charge }
         ensures content { IfOk result (λ shelf. shelf.content ≡ nothing_held greatest) }
         ensures homes { IfOk result (λ shelf. shelf.homes ≡ 64) }
         ensures left { IfOk result (λ shelf. shelf.left ≡ 0) }
@@ -210,7 +212,7 @@ impl Shelf {
         ensures lags { IfOk result (λ plan. HasCaughtUp plan self.old self.new step.now) }
         ensures idle { IfOk result (λ plan. writes plan.next ≡ false → self.new ≡ self.old) }
         ensures asked { OnErr result (LookTakesMemory step.now now self.old.content) }
-        ensures most { self.old.content.greatest ≤ 8388608 }
+        ensures most { self.old.content.greatest ≤ largest_charge }
     {
         let plan = self.plan(alloc, step, hash, now)?;
         if plan.writes() && (plan.place.is_none() || self.gives_way(&plan)) {
@@ -487,7 +489,7 @@ impl Shelf {
         ensures hash { IfOk result (λ plan. plan.hash ≡ hash) }
         ensures asked { OnErr result ((expiry : Option Expires)
             × (row_at self.now.content step.now now ≡ Reads expiry)) }
-        ensures most { self.now.content.greatest ≤ 8388608 }
+        ensures most { self.now.content.greatest ≤ largest_charge }
     {
         let place = self.index.find(hash, step.key());
         let found = self.index.found_entry(place);
