@@ -7,15 +7,18 @@
 //! store unchanged. A [`KeyTest`] selects the keys of a purge.
 //!
 //! The definitions (commands, steps, replies, the table, the laws) are in the crate `mc_protocol`,
-//! since the libraries of the program need no plain store.
+//! since the libraries of the program need no plain store. By the law [`numbers_of_the_protocol`] the
+//! constants that these cite have the values of memcached.
 //!
 //! Begin with `src/plain.rt`.
 //!
 //! Tests: mc_session_tests, src/tests/plain_tests.rt.
 #![tactic(auto)]
 
+mod laws;
 mod plain;
 
+pub use laws::numbers_of_the_protocol;
 pub use mc_protocol::{
     Answer, Block, Body, Bytes, Command, CommandOf, Draft, KeyStep, Keys, LineFault, Lone, Refusal,
     Reply, Row, Standing, StepFault, Steps, Unanswered, Verb, Words, a_front_tells_the_number,

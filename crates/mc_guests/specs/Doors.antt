@@ -5,7 +5,6 @@ use Rattle.mc_guests.specs.Guests.{welcomed}
 use Rattle.mc_guests.specs.Books.{BooksState, Wakes, let_in, one_more, quiet}
 use Rattle.mc_time.specs.Chains.{Repeats}
 use Rattle.mc_guests.specs.declared.guests.WorkEnd.{WorkEnd}
-use Rattle.mc_guests.specs.declared.talk.TheConstants.{NAMES}
 use Rattle.mc_guests.specs.declared.talk.Came.{Came}
 use Rattle.mc_guests.specs.declared.talk.Came.TheVariants.{Link, Later, Closed}
 use Rattle.mc_guests.specs.declared.talk.Talk.{Talk}
@@ -44,7 +43,7 @@ WakesNamed talk old later new = (count : ℕ) × Repeats WakesOneNamed count (ta
 
 -- the most names between two rounds
 abbrev pub most_names : ℕ
-most_names = NAMES
+most_names = 1024
 
 -- the same, until none was named any more, or as many as there may be were
 pub record WakesAllNamed (talk : Talk) (old : BooksState) (later : Talk) (new : BooksState) : Type 0 where

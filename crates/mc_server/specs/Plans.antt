@@ -8,12 +8,15 @@ use Rattle.mc_server.specs.declared.plan.Entrance.{Entrance}
 use Rattle.mc_server.specs.declared.plan.OwnTask.{OwnTask}
 use Rattle.mc_server.specs.declared.plan.OwnTask.TheVariants.{Accept, AnswerScrapes}
 use Rattle.mc_server.specs.declared.plan.ServerPlan.{ServerPlan}
-use Rattle.mc_server.specs.declared.plan.TheConstants.{MIB}
 use Rattle.mc_server.specs.declared.plan.WorkerPlan.{WorkerPlan}
+
+-- how many bytes a MiB has
+abbrev pub mib : ℕ
+mib = 1048576
 
 -- how many bytes the connections of a worker may hold: its part of seven eighths of the limit of buffers
 abbrev pub held_of : Options → ℕ
-held_of options = ((((options.buffers * MIB) / 8) * 7) / (max options.workers 1))
+held_of options = ((((options.buffers * mib) / 8) * 7) / (max options.workers 1))
 
 -- a worker has the moment of a clock that stands and the idle timeout of the options, and its part of the limit of buffers
 pub record IsWorkerOf (options : Options) (plan : WorkerPlan) : Type 0 where
@@ -29,7 +32,7 @@ held_together plans = sum_by (λ plan. plan.held) plans
 pub record ArePlansOf (options : Options) (plans : List WorkerPlan) : Type 0 where
   pub count : length plans ≡ options.workers
   pub each : All (IsWorkerOf options) plans
-  pub together : held_together plans ≤ options.buffers * MIB
+  pub together : held_together plans ≤ options.buffers * mib
 
 -- one thread accepts at the first listener, and counts connections in this crowd: the program's own, or another while that
 -- one answers scrapes

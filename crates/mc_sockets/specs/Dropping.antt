@@ -4,7 +4,6 @@ use Rattle.mc_time.specs.Chains.{Repeats}
 use Rattle.mc_sockets.specs.declared.dropping.Drain.{Drain}
 use Rattle.mc_sockets.specs.declared.dropping.Drain.TheVariants.{Going, Waiting, Done}
 use Rattle.mc_sockets.specs.declared.dropping.Dropping.{Dropping}
-use Rattle.mc_sockets.specs.declared.dropping.TheConstants.{MOST_DROPPED}
 use Rattle.mc_sockets.specs.declared.stream.Hindrance.TheVariants.{WouldBlock, Interrupted, Fault}
 use Rattle.mc_sockets.specs.declared.stream.Received.{Received}
 use Rattle.mc_sockets.specs.declared.stream.Received.TheVariants as received
@@ -12,7 +11,7 @@ use Rattle.mc_sockets.specs.Streams.{into_some}
 
 -- the most input bytes that are dropped behind the last answer
 abbrev pub most_dropped : ℕ
-most_dropped = MOST_DROPPED
+most_dropped = 1_048_576
 
 -- after fewer dropped bytes there may be more to drop
 abbrev pub state_after : (bytes : ℕ) → Drain
