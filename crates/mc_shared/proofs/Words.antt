@@ -68,7 +68,6 @@ pub use Rattle.mc_shared.specs.Emptied.{AreEmptied, IsEmptied, IsFresh}
 pub use Rattle.mc_shared.specs.Survey.{AreCountsAfter, IsAccountAfter}
 pub use Rattle.mc_shared.specs.Telling.{AreLentParts, CameOfRead, IsDelivered, IsLentPart, IsTold}
 pub use Rattle.mc_shared.specs.declared.ask.Ask.{Ask}
-pub use Rattle.mc_shared.specs.declared.ask.Looked.{Looked}
 pub use Rattle.mc_shelf.proofs.FlushLemmas.{AreFlushedTo, flushed_all, flushed_more, flushed_none, out_before}
 pub use Rattle.mc_shelf.specs.Counts.{counts_of}
 pub use Rattle.mc_shelf.specs.Hits.{found_of, is_read}

@@ -1,9 +1,10 @@
 -- What a seat holds: a shelf, or a shelf and the desk.
-use Rattle.std.specs.Prelude.{◌≡◌, ℕ, ◌<◌, ◌≤◌, ◌⊎◌, List, length, true}
+use Rattle.std.specs.Prelude.{◌≡◌, ℕ, ◌<◌, ◌≤◌, ◌⊎◌, List, length, true, Option, Some, None}
 use Rattle.mc_protocol.specs.declared.step.KeyStep.{KeyStep}
 use Rattle.mc_protocol.specs.Commands.{key_of, longest_key}
 use Rattle.mc_shelf.specs.States.{ShelfState, ShelfContent, DeskState}
 use Rattle.mc_shelf.specs.Plans.{writes, next_of}
+use Rattle.mc_shelf.specs.declared.plan.Plan.{Plan}
 use Rattle.mc_shared.specs.Bays.{OfShelf, OfDesk}
 use Rattle.mc_shared.specs.History.{Beginning, Purged, start_of, shelf_in}
 use Rattle.mc_shared.specs.Past.{Past, Lives, Whole, call}
@@ -16,8 +17,6 @@ use Rattle.mc_protocol.specs.declared.step.StepFault.TheVariants.{NoMemory as Ou
 use Rattle.mc_shared.specs.declared.fault.TryFault.{TryFault}
 use Rattle.mc_shared.specs.declared.fault.TryFault.TheVariants.{Busy as IsBusy, NoMemory, NumbersSpent}
 use Rattle.mc_shared.specs.declared.ask.Ask.{Ask}
-use Rattle.mc_shared.specs.declared.ask.Looked.{Looked}
-use Rattle.mc_shared.specs.declared.ask.Looked.TheVariants.{Planned, AskAgainAtDesk}
 use Rattle.mc_shared.specs.declared.ask.Untaken.{Untaken}
 use Rattle.mc_shared.specs.declared.ask.Untaken.TheVariants.{Met, Refused}
 
@@ -70,10 +69,11 @@ pub record IsAsked {K : Type 0} (hash_of : K → List ℕ → ℕ) (shared : Sha
   pub own : shelf_in (start_of hash_of shared.began) (key_of ask.step.now) ≡ ask.at
   pub inside : ask.at < shared.began.settings.shelves
 
--- the result of looking a step up at a shelf: a plan of the step, or that only the desk can decide
-abbrev pub IsLooked : Looked → ShelfState → Ask → Type 0
-IsLooked (Planned plan) shelf ask = IsPlanned plan shelf ask.step.now ask.hash ask.moment
-IsLooked AskAgainAtDesk shelf ask = writes (next_of shelf.content ask.step.now ask.moment) ≡ true
+-- the result of looking a step up at a shelf: a plan of the step, or none, since only the desk can
+-- decide a write
+abbrev pub IsLooked : Option Plan → ShelfState → Ask → Type 0
+IsLooked (Some plan) shelf ask = IsPlanned plan shelf ask.step.now ask.hash ask.moment
+IsLooked None shelf ask = writes (next_of shelf.content ask.step.now ask.moment) ≡ true
 
 -- another caller holds the bay, since its word was 1; not so if the past is whole
 pub record IsBusyTo (p : Past) (bay : ℕ) (busy : Busy) : Type 0 where

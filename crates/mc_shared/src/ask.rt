@@ -1,6 +1,5 @@
 //! A step on a key, on its way through a shelf and the desk.
 use mc_protocol::{KeyStep, StepFault};
-use mc_shelf::Plan;
 use mc_time::Moment;
 
 /// A step on a key, with the key's hash and the number of its shelf.
@@ -10,17 +9,6 @@ pub(crate) struct Ask<'a> {
     pub(crate) hash: u64,
     pub(crate) moment: Moment,
     pub(crate) at: u32,
-}
-
-/// The result of looking a step up at a shelf.
-#[derive(Drop)]
-pub(crate) enum Looked<'a> {
-    /// What the step does at its key.
-    Planned(Plan<'a>),
-    /// Memory for a write's entry was refused.
-    ///
-    /// Only the desk knows whether the write can succeed, so the step is looked up again there.
-    AskAgainAtDesk,
 }
 
 /// Why a step wasn't taken.

@@ -3,7 +3,7 @@
 //! A refused look of a write isn't a reply yet: the step takes the desk and checks there for a
 //! number and chunks first, because these errors come before want of memory. A read gets its error
 //! at once. A purge that finds nothing dead, and a miss, are decided without the desk.
-ghost use Rattle.std.specs.Prelude.{◌≡◌, ◌≤◌, length, is_none, true, false, Err};
+ghost use Rattle.std.specs.Prelude.{◌≡◌, ◌≤◌, length, is_none, true, false, Some, Err};
 ghost use Rattle.std.specs.Prelude.{IfOk, IfErr, IfSome, OnErr};
 ghost use Rattle.std.specs.FinMap.{get};
 ghost use Rattle.mc_protocol.specs.Commands.{key_of, longest_key};
@@ -17,11 +17,10 @@ ghost use Rattle.mc_shared.specs.History.{start_of};
 ghost use Rattle.mc_shared.specs.Store.{HasCalled, IsPlanned, Refuses, May};
 ghost use Rattle.mc_shared.specs.Seats.{MayAsk, IsAnswered, IsFree};
 ghost use Rattle.mc_shared.specs.declared.ask.Ask.{Ask as Asked};
-ghost use Rattle.mc_shared.specs.declared.ask.Looked.{Looked as Looks};
 ghost use Rattle.mc_shared.specs.Holds.{HoldsBoth, HoldsShelf, HoldsSome, IsAsked, IsLooked};
 ghost use Rattle.mc_shared.specs.Holds.{KeepsShelf, TakesDesk, Unmet, caller_at, told_of};
 
-use crate::ask::{Ask, Looked, Untaken};
+use crate::ask::{Ask, Untaken};
 use crate::bay::Bay;
 use crate::boxed::Boxed;
 use crate::decision::Decision;
@@ -32,8 +31,8 @@ use crate::steps::{decide, lower_all, raise_for};
 use crate::store::{Caller, Shared};
 use mc_hop::KeyHash;
 use mc_protocol::{KeyStep, Reply, StepFault};
-use mc_shelf::{Begun, Brought, Desk, NUMBERS, Plan, Shelf, WantedPages};
-use mc_slab::{Chunks, Pages};
+use mc_shelf::{Begun, Brought, Desk, NUMBERS, Plan, Shelf};
+use mc_slab::Pages;
 use mc_time::Moment;
 use std::alloc::{AllocError, Global};
 use std::sync::Wait;
@@ -42,14 +41,15 @@ use std::sync::Wait;
 struct AtDesk<'k> {
     shelf: Box<Shelf>,
     desk: Box<Desk>,
-    looked: Looked<'k>,
+    looked: Option<Plan<'k>>,
     brought: Brought,
 }
 
 /// Looks a step up at a shelf.
 ///
-/// The only error is a read's: memory for the copy of its block is refused.
-fn look<'k>(alloc: Global, shelf: &mut Shelf, ask: &Ask<'k>) -> Result<Looked<'k>, AllocError>
+/// `None` means that memory for a write's entry was refused: the desk decides whether the write can
+/// succeed. The only error is a read's: memory for the copy of its block is refused.
+fn look<'k>(alloc: Global, shelf: &mut Shelf, ask: &Ask<'k>) -> Result<Option<Plan<'k>>, AllocError>
     requires { CanLook ask.now.step.now ask.now.hash shelf.old.content }
     ensures content { shelf.new.content ≡ shelf.old.content }
     ensures looked { IfOk result (λ looked. IsLooked looked shelf.new ask.now) }
@@ -57,56 +57,33 @@ fn look<'k>(alloc: Global, shelf: &mut Shelf, ask: &Ask<'k>) -> Result<Looked<'k
         × LookTakesMemory ask.now.step.now ask.now.moment shelf.old.content) }
 {
     match shelf.look(alloc, ask.step, ask.hash, ask.moment) {
-        Ok(plan) => Ok(Looked::Planned(plan)),
-        Err(_) if !is_read(ask.step) => Ok(Looked::AskAgainAtDesk),
+        Ok(plan) => Ok(Some(plan)),
+        Err(_) if !is_read(ask.step) => Ok(None),
         Err(refused) => Err(refused),
     }
 }
 
 /// Returns the plan of a step that its shelf decides alone, or else what was looked up.
-fn alone(looked: Looked<'_>) -> Result<Plan<'_>, Looked<'_>>
-    ensures ok { IfOk result (λ plan. (looked.entry ≡ Looks.Planned plan)
+fn alone(looked: Option<Plan<'_>>) -> Result<Plan<'_>, Option<Plan<'_>>>
+    ensures ok { IfOk result (λ plan. (looked.entry ≡ Some plan)
         × (wants_desk plan.next ≡ false)) }
     ensures err { IfErr result (λ back. back ≡ looked.entry) }
 {
     match looked {
-        Looked::Planned(plan) if !plan.needs_desk() => Ok(plan),
+        Some(plan) if !plan.needs_desk() => Ok(plan),
         looked => Err(looked),
     }
 }
 
-/// Allocates chunks in exchange for those of a step's item, if the step copies out of these.
-///
-/// It is `None` if memory for them is refused.
-fn exchange(alloc: Global, shelf: &Shelf, looked: &Looked<'_>) -> Option<Chunks>
-    requires { (ask : Asked) × IsLooked looked.now shelf.now ask }
-{
-    match looked {
-        Looked::Planned(plan) => shelf.exchange(alloc, plan).ok()?,
-        Looked::AskAgainAtDesk => None,
-    }
-}
-
-/// Returns the pages that a step wants, or `None`.
-fn pages_wanted(shelf: &Shelf, desk: &Desk, looked: &Looked<'_>) -> Option<WantedPages>
-    requires { (ask : Asked) × IsLooked looked.now shelf.now ask }
-    ensures { IfSome result (λ wanted. (1 ≤ wanted.pages) × (wanted.pages ≤ 8)) }
-{
-    match looked {
-        Looked::Planned(plan) => shelf.page_wanted(plan, desk),
-        Looked::AskAgainAtDesk => None,
-    }
-}
-
 /// Returns whether a step may insert its key into a shelf, where the key has no item.
-fn may_come(looked: &Looked<'_>, shelf: &Shelf, ask: &Ask<'_>) -> bool
+fn may_come(looked: &Option<Plan<'_>>, shelf: &Shelf, ask: &Ask<'_>) -> bool
     requires looked { IsLooked looked.now shelf.now ask.now }
     requires hash { IsHash shelf.now.content (key_of ask.now.step.now) ask.now.hash }
     ensures { result ≡ is_none (get shelf.now.content.items (key_of ask.now.step.now)) }
 {
     match looked {
-        Looked::Planned(plan) => plan.is_of_new_key(),
-        Looked::AskAgainAtDesk => !shelf.has_item(ask.hash, ask.step.key()),
+        Some(plan) => plan.is_of_new_key(),
+        None => !shelf.has_item(ask.hash, ask.step.key()),
     }
 }
 
@@ -118,7 +95,7 @@ fn begin<'k>(
     alloc: Global,
     shelf: &mut Shelf,
     desk: &mut Desk,
-    looked: Looked<'k>,
+    looked: Option<Plan<'k>>,
     brought: Brought,
     ask: &Ask<'_>,
 ) -> Result<(Plan<'k>, Begun), StepFault>
@@ -142,15 +119,13 @@ fn begin<'k>(
     // for the proof: the invariant of the desk
     let _number = desk.next_unique();
     match looked {
-        Looked::Planned(plan) => match shelf.begin(alloc, &plan, ask.step, desk, brought) {
-            Ok(begun) => Ok((plan, begun)),
-            Err(fault) => Err(fault),
-        },
-        Looked::AskAgainAtDesk => {
-            match shelf.step(alloc, ask.step, ask.hash, ask.moment, desk) {
-                Ok(reply) => Ok((Plan::of(reply), Begun::Done)),
-                Err(fault) => Err(fault),
-            }
+        Some(plan) => {
+            let begun = shelf.begin(alloc, &plan, ask.step, desk, brought)?;
+            Ok((plan, begun))
+        }
+        None => {
+            let reply = shelf.step(alloc, ask.step, ask.hash, ask.moment, desk)?;
+            Ok((Plan::of(reply), Begun::Done))
         }
     }
 }
@@ -214,7 +189,7 @@ impl<K: KeyHash + Drop> Shared<K> {
         seat: &mut Seat,
         alloc: Global,
         shelf: &Shelf,
-        looked: &Looked<'_>,
+        looked: &Option<Plan<'_>>,
     ) -> Result<(Box<Desk>, Brought), B>
         requires looked { (ask : Asked) × IsLooked looked.now shelf.now ask }
         requires holds { HoldsSome K.hash_of self.now seat.old }
@@ -224,28 +199,22 @@ impl<K: KeyHash + Drop> Shared<K> {
         ensures err { IfErr result (P.busy seat.old.me.0.past self.now.began.settings.shelves) }
         ensures stays { OnErr result (KeepsShelf K.hash_of self.now seat.old seat.new) }
     {
-        let exchange = if patience.comes_again() {
-            exchange(alloc, shelf, looked)
-        } else {
-            None
+        let mut brought = Brought {
+            pages: None,
+            exchange: None,
         };
-        let desk = match self.take_desk(patience, seat) {
-            Ok(desk) => desk,
-            Err(told) => return Err(told),
+        let plan = match looked {
+            Some(plan) if patience.comes_again() => plan,
+            _ => return Ok((self.take_desk(patience, seat)?, brought)),
         };
-        let pages = None;
-        if !patience.comes_again() {
-            return Ok((desk, Brought { pages, exchange }));
-        }
-        let Some(wanted) = pages_wanted(shelf, &*desk, looked) else {
-            return Ok((desk, Brought { pages, exchange }));
+        brought.exchange = shelf.exchange(alloc, plan).unwrap_or(None);
+        let desk = self.take_desk(patience, seat)?;
+        let Some(wanted) = shelf.page_wanted(plan, &*desk) else {
+            return Ok((desk, brought));
         };
         self.give_desk(seat, desk);
-        let pages = Pages::new(alloc, wanted.class, wanted.pages).ok();
-        match self.take_desk(patience, seat) {
-            Ok(desk) => Ok((desk, Brought { pages, exchange })),
-            Err(told) => Err(told),
-        }
+        brought.pages = Pages::new(alloc, wanted.class, wanted.pages).ok();
+        Ok((self.take_desk(patience, seat)?, brought))
     }
 
     /// Takes a step that the desk decides, with the memory allocated for it.
