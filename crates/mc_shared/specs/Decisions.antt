@@ -19,8 +19,8 @@ abbrev pub operation_of : Decision → Operation
 operation_of (Settled step moment reply) = Stepped step.now moment reply.now
 operation_of (Read step moment shelf) =
     Stepped step.now moment (hit_of (stood shelf.now.value.content step.now moment))
-operation_of (Begun step moment at shelf plan begun number had) =
-    Stepped step.now moment (told_next plan.now.next begun.now)
+operation_of (Begun step moment at shelf plan number had) =
+    Stepped step.now moment (told_next plan.now.next)
 operation_of (Purged at moment shelf before) = PurgedShelf at moment
 operation_of (NoneDead at moment) = PurgedShelf at moment
 operation_of (Flushed delay moment shelves before) = Stepped (Flush delay) moment AllFlushed
@@ -29,8 +29,8 @@ operation_of (Flushed delay moment shelves before) = Stepped (Flush delay) momen
 abbrev pub still_of : Decision → List (ℕ × Content)
 still_of (Settled step moment reply) = []
 still_of (Read step moment shelf) = []
-still_of (Begun step moment at shelf plan begun number had) =
-    (at, OfShelf (finished plan.now begun.now step.now shelf.now.content)) ∷ []
+still_of (Begun step moment at shelf plan number had) =
+    (at, OfShelf (finished plan.now step.now shelf.now.content)) ∷ []
 still_of (Purged at moment shelf before) = (at, OfShelf shelf.now.content) ∷ []
 still_of (NoneDead at moment) = []
 still_of (Flushed delay moment shelves before) = stacked shelves.now.items
@@ -41,8 +41,8 @@ still_of (Flushed delay moment shelves before) = stacked shelves.now.items
 abbrev pub surplus_of : Beginning → Decision → List ℕ
 surplus_of start (Settled step moment reply) = []
 surplus_of start (Read step moment shelf) = []
-surplus_of start (Begun step moment at shelf plan begun number had) =
-    replicate (had - len (finished plan.now begun.now step.now shelf.now.content).items)
+surplus_of start (Begun step moment at shelf plan number had) =
+    replicate (had - len (finished plan.now step.now shelf.now.content).items)
     (word_of start.shelves number)
 surplus_of start (Purged at moment shelf before) =
     spread start.shelves (λ n. slice_index before.now n

@@ -5,7 +5,7 @@
 //! has anything lent.
 use crate::boxed::Boxed;
 use mc_protocol::{KeyStep, Reply};
-use mc_shelf::{Begun, Plan, Shelf};
+use mc_shelf::{Plan, Shelf};
 use mc_time::Moment;
 use std::snapshot::Snapshot;
 
@@ -36,7 +36,6 @@ pub(crate) enum Decision<'a> {
         at: u32,
         shelf: &'a Shelf,
         plan: &'a Plan<'a>,
-        begun: &'a Begun,
         number: usize,
         had: usize,
     },

@@ -31,7 +31,7 @@ use crate::steps::{decide, lower_all, raise_for};
 use crate::store::{Caller, Shared};
 use mc_hop::KeyHash;
 use mc_protocol::{KeyStep, Reply, StepFault};
-use mc_shelf::{Begun, Brought, Desk, NUMBERS, Plan, Shelf};
+use mc_shelf::{Brought, Desk, NUMBERS, Plan, Shelf};
 use mc_slab::Pages;
 use mc_time::Moment;
 use std::alloc::{AllocError, Global};
@@ -98,17 +98,16 @@ fn begin<'k>(
     looked: Option<Plan<'k>>,
     brought: Brought,
     ask: &Ask<'_>,
-) -> Result<(Plan<'k>, Begun), StepFault>
+) -> Result<Plan<'k>, StepFault>
     requires looked { IsLooked looked shelf.old ask.now }
     requires on_key { IsOnKey ask.now.step.now }
     requires key { length (key_of ask.now.step.now) ≤ longest_key }
     requires hash { IsHash shelf.old.content (key_of ask.now.step.now) ask.now.hash }
     requires stands { CanStandAt (key_of ask.now.step.now) shelf.old.content desk.old }
-    ensures took { IfOk result (λ begun. StepTaken ask.now.step.now ask.now.moment ask.now.hash
-        shelf.old.content desk.old (told_next begun.0.next begun.1)
-        (finished begun.0 begun.1 ask.now.step.now shelf.new.content) desk.new) }
-    ensures left { IfOk result (λ begun.
-        CanFinish begun.0 begun.1 ask.now.step.now shelf.new) }
+    ensures took { IfOk result (λ plan. StepTaken ask.now.step.now ask.now.moment ask.now.hash
+        shelf.old.content desk.old (told_next plan.next)
+        (finished plan ask.now.step.now shelf.new.content) desk.new) }
+    ensures left { IfOk result (λ plan. CanFinish plan ask.now.step.now shelf.new) }
     ensures spent { result ≡ Err StepFault.NumbersSpent →
         IsSpent ask.now.step.now ask.now.moment shelf.old.content desk.old }
     ensures refused { result ≡ Err StepFault.NoMemory →
@@ -119,13 +118,13 @@ fn begin<'k>(
     // for the proof: the invariant of the desk
     let _number = desk.next_unique();
     match looked {
-        Some(plan) => {
-            let begun = shelf.begin(alloc, &plan, ask.step, desk, brought)?;
-            Ok((plan, begun))
+        Some(mut plan) => {
+            shelf.begin(alloc, &mut plan, ask.step, desk, brought)?;
+            Ok(plan)
         }
         None => {
             let reply = shelf.step(alloc, ask.step, ask.hash, ask.moment, desk)?;
-            Ok((Plan::of(reply), Begun::Done))
+            Ok(Plan::of(reply))
         }
     }
 }
@@ -248,7 +247,7 @@ impl<K: KeyHash + Drop> Shared<K> {
         let before = shelf.len();
         let comes = may_come(&looked, &*shelf, ask);
         match begin(alloc, &mut *shelf, &mut *desk, looked, brought, ask) {
-            Ok((mut plan, begun)) => {
+            Ok(plan) => {
                 let came = raise_for(&self.board, seat, bay, number, comes);
                 let had = before + came;
                 let decision = Decision::Begun {
@@ -257,13 +256,12 @@ impl<K: KeyHash + Drop> Shared<K> {
                     at: ask.at,
                     shelf: &*shelf,
                     plan: &plan,
-                    begun: &begun,
                     number,
                     had,
                 };
                 let value = Bay::Desk(Boxed::of(desk));
                 decide(&self.board, seat, bay, value, &decision);
-                let reply = shelf.finish(&mut plan, begun, ask.step);
+                let reply = shelf.finish(plan, ask.step);
                 lower_all(&self.board, seat, bay, number, had - shelf.len());
                 self.give_shelf(seat, shelf, ask.at);
                 Ok(reply)

@@ -7,6 +7,10 @@ held : (g : _) → (c : After-deref-2 g) → HoldsShelf g.K.KeyHash.hash_of c.ar
 held g c = subst (λ (f : ShelfContent). HoldsShelf g.K.KeyHash.hash_of c.args.self.now c.take_shelf.new.seat c.args.ask.now.at f)
     (sym (ap (λ (s : ShelfState). s.content) c.deref-2.ensures ∙ (c.look.ensures.content ∙ ap (λ (s : ShelfState). s.content) c.deref_mut.ensures.value))) c.in-Ok.ensures.ok
 
+pub take_desk_for-requires-clause-holds : goal.take_desk_for-requires-clause-holds
+take_desk_for-requires-clause-holds g c =
+    (c.args.ask.now.at, c.deref-2.result.now.content, held g (goal.at.take_desk_for-requires-clause-holds g c).After-deref-2)
+
 pub give_shelf-requires-in-Err-take_desk_for : goal.give_shelf-requires-in-Err-take_desk_for
 give_shelf-requires-in-Err-take_desk_for g c =
     subst (λ (s : ShelfState). HoldsShelf g.K.KeyHash.hash_of c.args.self.now c.take_desk_for.new.seat c.args.ask.now.at s.content) c.deref-2.ensures
