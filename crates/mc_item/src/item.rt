@@ -44,23 +44,6 @@ pub struct Parts<'a> {
     pub updated: Moment,
 }
 
-/// The fields of an item without its block.
-#[derive(Clone, Copy)]
-pub struct Head<'a> {
-    /// The hash of the key, by which it is found.
-    pub hash: u64,
-    /// The key, 0 to 250 bytes.
-    pub key: &'a [u8],
-    /// The client's flags.
-    pub flags: u32,
-    /// When it expires.
-    pub expiry: Expiry,
-    /// The unique number of the write.
-    pub unique: u64,
-    /// When its block was written.
-    pub updated: Moment,
-}
-
 /// An item in its chunks: a header of 48 bytes, the key and the block.
 ///
 /// The header and the key are in the head of the chunks, and the block is in their bytes, from class
@@ -114,21 +97,21 @@ impl Item {
         Item { chunks }
     }
 
-    /// Writes an item of this head into chunks, with a block of `block_len` unspecified bytes.
+    /// Writes an item of these parts into chunks, with `block_len` unspecified bytes as its block.
     ///
-    /// `fill` and `fill_from` write the block. It copies the key, and takes no memory. The cost
-    /// doesn't grow with the block.
-    pub fn begin(mut chunks: Chunks, head: Head<'_>, block_len: usize) -> Item
-        requires key { length head.key.now ≤ longest_key }
-        requires room { header_size + length head.key.now + block_len ≤ length chunks.bytes }
+    /// `fill` and `fill_from` write the block; that of the parts isn't read. It copies the key, and
+    /// takes no memory. The cost doesn't grow with the block.
+    pub fn begin(mut chunks: Chunks, parts: Parts<'_>, block_len: usize) -> Item
+        requires key { length parts.key.now ≤ longest_key }
+        requires room { header_size + length parts.key.now + block_len ≤ length chunks.bytes }
         ensures value { result ≡ record {
-          hash = head.entry.hash;
-          key = head.entry.key.now;
-          flags = head.entry.flags;
-          expiry = head.entry.expiry;
+          hash = parts.entry.hash;
+          key = parts.entry.key.now;
+          flags = parts.entry.flags;
+          expiry = parts.entry.expiry;
           block = result.block;
-          unique = head.entry.unique;
-          updated = head.entry.updated;
+          unique = parts.entry.unique;
+          updated = parts.entry.updated;
           class = chunks.entry.class;
           count = chunks.entry.count;
         } }
@@ -136,7 +119,7 @@ impl Item {
         ensures is_item { IsItem result }
     {
         // a copy: no proof covers a struct of references that is lent on
-        write_head(&mut chunks, &Head { ..head }, block_len);
+        write_head(&mut chunks, &Parts { ..parts }, block_len);
         Item { chunks }
     }
 

@@ -7,7 +7,7 @@
 //! be lent while the header changes, so header and key lie beside it, and it begins at place 0.
 //!
 //! An [`Item`] owns its chunks (of `mc_slab`), and returns them by `into_chunks`. It is written
-//! whole from [`Parts`], or begun from a [`Head`] with the block filled in later. Each change in
+//! whole from [`Parts`], or begun without its block, which is filled in later. Each change in
 //! place (an expiry, a counted number, appended bytes, a new item over the old one) has a call of
 //! its own, and keeps the chunks.
 //!
@@ -25,4 +25,4 @@ mod header;
 mod item;
 mod run;
 
-pub use item::{Head, Item, Parts};
+pub use item::{Item, Parts};

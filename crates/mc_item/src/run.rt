@@ -13,7 +13,7 @@ use crate::header::{
     HEADER, block_length_in, expiry_in, flags_in, hash_in, header_bytes, key_length_in, unique_in,
     updated_in,
 };
-use crate::item::{Head, Parts};
+use crate::item::Parts;
 use itoa::Buffer;
 use mc_bytes::Lent;
 use mc_slab::Chunks;
@@ -206,35 +206,36 @@ pub(crate) fn write_item(chunks: &mut Chunks, parts: &Parts<'_>)
     put_block(chunks, start, parts.first, parts.second, parts.lent);
 }
 
-/// Writes the header and the key of an item of this head into chunks.
+/// Writes the header and the key of an item of these parts into chunks.
 ///
 /// The block's bytes are left as they are.
-pub(crate) fn write_head(chunks: &mut Chunks, head: &Head<'_>, block_len: usize)
+pub(crate) fn write_head(chunks: &mut Chunks, parts: &Parts<'_>, block_len: usize)
     requires are { AreChunks chunks.old }
-    requires short { length head.now.key.now ≤ longest_key }
-    requires room { header_size + length head.now.key.now + block_len ≤ length chunks.old.bytes }
+    requires short { length parts.now.key.now ≤ longest_key }
+    requires room { header_size + length parts.now.key.now + block_len ≤ length chunks.old.bytes }
     ensures value { item_in chunks.new ≡ record {
-      hash = head.now.hash;
-      key = head.now.key.now;
-      flags = head.now.flags;
-      expiry = head.now.expiry;
+      hash = parts.now.hash;
+      key = parts.now.key.now;
+      flags = parts.now.flags;
+      expiry = parts.now.expiry;
       block = block_in chunks.new;
-      unique = head.now.unique;
-      updated = head.now.updated;
+      unique = parts.now.unique;
+      updated = parts.now.updated;
       class = chunks.old.class;
       count = chunks.old.count;
     } }
     ensures length { length (block_in chunks.new) ≡ block_len }
     ensures holds { HoldsItem chunks.new }
 {
-    let Head {
+    let Parts {
         hash,
         flags,
         expiry,
         unique,
         updated,
         key,
-    } = *head;
+        ..
+    } = *parts;
     let lengths = (key.len() as u32, length_in(chunks, block_len));
     put_header(
         chunks,

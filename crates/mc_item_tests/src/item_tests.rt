@@ -4,7 +4,7 @@ ghost use Rattle.std.specs.Prelude.{◌≡◌, ◌≤◌, [], length, vec_capaci
 ghost use Rattle.mc_slab.specs.Needs.{size_in};
 
 use crate::slabs::slab_of;
-use mc_item::{Head, Item, Parts};
+use mc_item::{Item, Parts};
 use mc_slab::{Chunks, Need, need_of};
 use mc_time::{Expiry, Moment};
 use std::alloc::{AllocError, Global};
@@ -224,9 +224,12 @@ fn begun_of(
     let k = key.len();
     assert!(rt; k <= 250 && block_len <= 8000000);
     let chunks = chunks_for(rt, alloc, (48 + k + block_len) as u64)?;
-    let head = Head {
+    let head = Parts {
         hash: numbers.hash,
         key,
+        first: &[],
+        second: &[],
+        lent: None,
         flags: numbers.flags,
         expiry: numbers.expiry,
         unique: numbers.unique,

@@ -10,7 +10,6 @@ use Rattle.mc_protocol.specs.Plain.{Items, Entry, coded_entry, Plain, charge, co
 use Rattle.mc_item.specs.Items as items
 use Rattle.mc_item.specs.Items.{ItemState}
 use Rattle.mc_item.specs.declared.item.Parts.{Parts}
-use Rattle.mc_item.specs.declared.item.Head.{Head}
 
 -- an entry: a hash that came with the key, the key, and the item under it
 pub record EntryState : Type 0 where
@@ -67,17 +66,17 @@ entry_in hash parts = record {
   };
 }
 
--- the entry of a head and this block
-abbrev pub entry_with : Head → (block : List ℕ) → EntryState
-entry_with head block = record {
-  hash = head.hash;
-  key = head.key.now;
+-- the entry of parts with this block in place of theirs
+abbrev pub entry_with : Parts → (block : List ℕ) → EntryState
+entry_with parts block = record {
+  hash = parts.hash;
+  key = parts.key.now;
   item = record {
-    flags = head.flags;
-    expiry = head.expiry;
+    flags = parts.flags;
+    expiry = parts.expiry;
     block = block;
-    unique = head.unique;
-    updated = head.updated;
+    unique = parts.unique;
+    updated = parts.updated;
   };
 }
 

@@ -10,7 +10,7 @@ ghost use Rattle.mc_shelf.specs.States.{charge_in, entry_in, entry_with, parts_o
 
 use mc_bytes::Lent;
 use mc_hop::Keyed;
-use mc_item::{Head, Item, Parts};
+use mc_item::{Item, Parts};
 use mc_protocol::{Standing, number_of};
 use mc_slab::{Chunks, Need};
 use mc_time::{Expiry, Moment};
@@ -59,10 +59,10 @@ impl Entry {
         }
     }
 
-    /// Writes an item of this head into chunks, with a block of `block_len` unspecified bytes.
+    /// Writes an item of these parts into chunks, with `block_len` unspecified bytes as its block.
     ///
     /// It copies the key, at most 250 bytes.
-    pub(crate) fn begin(chunks: Chunks, head: &Head<'_>, block_len: usize) -> Entry
+    pub(crate) fn begin(chunks: Chunks, head: &Parts<'_>, block_len: usize) -> Entry
         requires key { length head.now.key.now ≤ longest_key }
         requires need { need_in chunks
             ≡ need_for (header_size + length head.now.key.now + block_len) }
@@ -71,7 +71,7 @@ impl Entry {
         ensures length { length result.item.block ≡ block_len }
     {
         Entry {
-            item: Item::begin(chunks, Head { ..*head }, block_len),
+            item: Item::begin(chunks, Parts { ..*head }, block_len),
         }
     }
 
@@ -118,7 +118,7 @@ impl Entry {
     /// Appends bytes to its block in place, and sets flags, expiry, unique number and `updated`.
     ///
     /// Its chunks must be those that the new charge needs. The key and its hash are unchanged.
-    pub(crate) fn extend(&mut self, more: &[u8], head: &Head<'_>)
+    pub(crate) fn extend(&mut self, more: &[u8], head: &Parts<'_>)
         requires { item_need self.old.key self.old.item
             ≡ need_for (charge self.old.key (self.old.item.block ++ more.now)) }
         ensures { self.new ≡ record self.old {

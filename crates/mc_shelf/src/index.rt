@@ -24,7 +24,7 @@ use crate::soonest::Soonest;
 use crate::write::write_over;
 pub(crate) use mc_grow::Place;
 use mc_hop::Keyed;
-use mc_item::Head;
+use mc_item::Parts;
 use mc_protocol::{Body, Bytes, Standing};
 use mc_slab::Class;
 use mc_time::{Expiry, Moment};
@@ -200,7 +200,7 @@ impl EntryIndex {
     pub(crate) fn write_over<'a>(
         &mut self,
         place: Place,
-        head: &Head<'a>,
+        head: &Parts<'a>,
         body: Body,
         block: &Bytes<'a>,
     )
@@ -214,22 +214,20 @@ impl EntryIndex {
             ItemIsChanged self.old self.new head.now.key.now
             (entry_with head.now (made_block body block.now at.entry.item.block)).item }
     {
-        let Head {
-            hash,
-            key,
-            flags,
-            expiry,
-            unique,
-            updated,
-        } = *head;
+        let (hash, key) = (head.hash, head.key);
+        let (flags, expiry) = (head.flags, head.expiry);
+        let (unique, updated) = (head.unique, head.updated);
         self.soonest.note(expiry, updated);
         let bytes = block.as_slice();
         // A closure captures plain references alone, so that its contract is known.
         match block.lent() {
             Some(lent) => self.entries.update(place, |mut entry| {
-                let head = Head {
+                let head = Parts {
                     hash,
                     key,
+                    first: &[],
+                    second: &[],
+                    lent: None,
                     flags,
                     expiry,
                     unique,
@@ -239,9 +237,12 @@ impl EntryIndex {
                 (entry, ())
             }),
             None => self.entries.update(place, |mut entry| {
-                let head = Head {
+                let head = Parts {
                     hash,
                     key,
+                    first: &[],
+                    second: &[],
+                    lent: None,
                     flags,
                     expiry,
                     unique,

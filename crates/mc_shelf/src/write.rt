@@ -27,7 +27,7 @@ use crate::exchange::Brought;
 use crate::plan::{Action, Plan, is_gone};
 use crate::shelf::Shelf;
 use itoa::Buffer;
-use mc_item::{Head, Parts};
+use mc_item::Parts;
 use mc_protocol::{Body, Bytes, Draft, KeyStep, Reply, StepFault};
 use mc_slab::{Chunks, Need};
 use mc_time::Moment;
@@ -77,7 +77,7 @@ fn leaves_block(body: Body, step: &KeyStep<'_>) -> bool
 /// Writes the item that a body makes of a step's block and an old item, and returns its entry.
 fn entry_in(
     chunks: Chunks,
-    head: &Head<'_>,
+    head: &Parts<'_>,
     body: Body,
     step: &KeyStep<'_>,
     old: Option<&Entry>,
@@ -116,7 +116,7 @@ fn entry_in(
 }
 
 /// Writes the item with this block into chunks, and returns its entry.
-fn entry_of(chunks: Chunks, head: &Head<'_>, block: &Bytes<'_>) -> Entry
+fn entry_of(chunks: Chunks, head: &Parts<'_>, block: &Bytes<'_>) -> Entry
     requires key { length head.now.key.now ≤ longest_key }
     requires need { need_in chunks ≡ need_for (charge head.now.key.now block.now) }
     requires room { charge head.now.key.now block.now ≤ length chunks.bytes }
@@ -125,15 +125,10 @@ fn entry_of(chunks: Chunks, head: &Head<'_>, block: &Bytes<'_>) -> Entry
     Entry::write(
         chunks,
         Parts {
-            hash: head.hash,
-            key: head.key,
             first: &[],
             second: block.as_slice(),
             lent: block.lent(),
-            flags: head.flags,
-            expiry: head.expiry,
-            unique: head.unique,
-            updated: head.updated,
+            ..*head
         },
     )
 }
@@ -141,7 +136,7 @@ fn entry_of(chunks: Chunks, head: &Head<'_>, block: &Bytes<'_>) -> Entry
 /// Writes the item that a body makes into an entry's chunks: over the block there, or behind it.
 ///
 /// They must be the chunks that the new charge needs, and may take over the block's memory.
-pub(crate) fn write_over(entry: &mut Entry, head: &Head<'_>, body: Body, block: &Bytes<'_>)
+pub(crate) fn write_over(entry: &mut Entry, head: &Parts<'_>, body: Body, block: &Bytes<'_>)
     requires body { GoesOver body }
     requires key { head.now.key.now ≡ entry.old.key }
     requires short { length head.now.key.now ≤ longest_key }
@@ -166,7 +161,7 @@ pub(crate) fn write_over(entry: &mut Entry, head: &Head<'_>, body: Body, block: 
 }
 
 /// Writes the item with this block into an entry's chunks.
-fn rewrite(entry: &mut Entry, head: &Head<'_>, block: &Bytes<'_>)
+fn rewrite(entry: &mut Entry, head: &Parts<'_>, block: &Bytes<'_>)
     requires key { head.now.key.now ≡ entry.old.key }
     requires short { length head.now.key.now ≤ longest_key }
     requires need { need_for (charge head.now.key.now block.now)
@@ -174,15 +169,10 @@ fn rewrite(entry: &mut Entry, head: &Head<'_>, block: &Bytes<'_>)
     ensures { entry.new ≡ record entry.old { item = (entry_with head.now block.now).item } }
 {
     entry.rewrite(Parts {
-        hash: head.hash,
-        key: head.key,
         first: &[],
         second: block.as_slice(),
         lent: block.lent(),
-        flags: head.flags,
-        expiry: head.expiry,
-        unique: head.unique,
-        updated: head.updated,
+        ..*head
     });
 }
 
@@ -362,9 +352,12 @@ impl Shelf {
             let Some(place) = self.index.find_again(plan.place, plan.hash, key) else {
                 return Action::Left(unique, Some(chunks), *draft);
             };
-            let head = Head {
+            let head = Parts {
                 hash: plan.hash,
                 key,
+                first: &[],
+                second: &[],
+                lent: None,
                 flags: draft.flags,
                 expiry: draft.expiry,
                 unique,
@@ -400,9 +393,12 @@ impl Shelf {
         ensures table { KeepsTable 0 (counts_of self.old) (counts_of self.new) }
     {
         let key = step.key();
-        let head = Head {
+        let head = Parts {
             hash: plan.hash,
             key,
+            first: &[],
+            second: &[],
+            lent: None,
             flags: draft.flags,
             expiry: draft.expiry,
             unique,
