@@ -10,7 +10,7 @@ ghost use Rattle.mc_protocol.specs.Plain.{chunk_head};
 /// States how many bytes a page, the largest charge, the largest block, an item's header and the
 /// longest key have. It does nothing.
 ///
-/// Definitions cite the constants of `mc_slab` and `mc_protocol`, whose values stand here once more.
+/// Definitions cite constants of `mc_slab` and `mc_protocol`. Their values stand here once more.
 pub fn numbers_of_the_protocol()
     ensures page { page_size ≡ 1048576 }
     ensures charge { largest_charge ≡ 8388608 }

@@ -7,8 +7,8 @@
 //! store unchanged. A [`KeyTest`] selects the keys of a purge.
 //!
 //! The definitions (commands, steps, replies, the table, the laws) are in the crate `mc_protocol`,
-//! since the libraries of the program need no plain store. By the law [`numbers_of_the_protocol`] the
-//! constants that these cite have the values of memcached.
+//! since the libraries of the program need no plain store. The law [`numbers_of_the_protocol`]
+//! states the numbers of which they cite the constants.
 //!
 //! Begin with `src/plain.rt`.
 //!

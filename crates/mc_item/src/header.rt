@@ -8,7 +8,7 @@ use byteorder::{ByteOrder, LittleEndian};
 use mc_slab::HEADER_SIZE;
 use mc_time::{Expiry, Moment};
 
-/// The number of bytes before the key in an item's first chunk.
+/// The number of bytes before the key in the head of an item's chunks.
 pub(crate) const HEADER: usize = HEADER_SIZE;
 
 // Offsets of the header's numbers. The flags, whether the item expires and the lengths have 4 bytes

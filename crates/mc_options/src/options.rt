@@ -170,12 +170,10 @@ impl Options {
         ensures now { result.now ≡ option_map (min (2 ^ 62)) asked.now }
         ensures settings { result.settings ≡ settings }
         ensures endpoints { result.endpoints ≡ endpoints }
-        ensures workers { IsAskedFor asked.workers WORKERS MOST_WORKERS result.workers }
-        ensures connections { IsAskedFor asked.connections CONNECTIONS MOST_CONNECTIONS
-            result.connections }
-        ensures idle_timeout { IsTimeoutFor asked.idle_timeout LONGEST_TIMEOUT
-            result.idle_timeout }
-        ensures buffers { IsAskedFor asked.buffers BUFFERS MOST_BUFFERS result.buffers }
+        ensures workers { IsAskedFor asked.workers 4 64 result.workers }
+        ensures connections { IsAskedFor asked.connections 1024 65536 result.connections }
+        ensures idle_timeout { IsTimeoutFor asked.idle_timeout 2592000 result.idle_timeout }
+        ensures buffers { IsAskedFor asked.buffers 64 65536 result.buffers }
         ensures scrapes { IsScrapePlaceFor asked.scrapes result.scrapes }
         ensures may_quit { result.may_quit ≡ asked.may_quit }
         ensures quit { IsScrapePlaceFor asked.quit result.quit }
@@ -244,10 +242,11 @@ fn timeout(asked: Option<u32>, longest: u32) -> u32
 
 /// Reads the words of the command line, which begin with the program's name.
 pub fn parse_options(alloc: Global, words: &[String]) -> Result<Options, Unfit>
-    ensures workers { IfOk result (λ options. IsUpTo MOST_WORKERS options.workers) }
-    ensures connections { IfOk result (λ options. IsUpTo MOST_CONNECTIONS options.connections) }
-    ensures idle_timeout { IfOk result (λ options. options.idle_timeout ≤ LONGEST_TIMEOUT) }
-    ensures buffers { IfOk result (λ options. IsUpTo MOST_BUFFERS options.buffers) }
+    ensures workers { IfOk result (λ options. 1 ≤ options.workers × options.workers ≤ 64) }
+    ensures connections { IfOk result (λ options.
+        1 ≤ options.connections × options.connections ≤ 65536) }
+    ensures idle_timeout { IfOk result (λ options. options.idle_timeout ≤ 2592000) }
+    ensures buffers { IfOk result (λ options. 1 ≤ options.buffers × options.buffers ≤ 65536) }
 {
     let (asked, endpoints) = read_words(alloc, words)?;
     match asked.settings() {

@@ -216,7 +216,7 @@ impl Note {
 
     /// Returns the block that the line announces, if its chunk can take memory over.
     ///
-    /// That is a chunk of at least `LEAST` bytes, or several pages, and the line must be short.
+    /// That is a chunk of at least 66232 bytes, or several pages, and the line must be short.
     #[inline(never)]
     pub fn large_block(&self) -> Option<Announced> {
         let Ok(noted) = &self.said else {

@@ -90,8 +90,8 @@ impl Shelf {
 
     /// Gives the desk chunks in exchange for those of the key's item, if they are of the same need.
     ///
-    /// It then draws the number of the write and returns it, and the item keeps its own chunks.
-    /// Other chunks are freed.
+    /// Returns the number that it drew for the write if it did, and `None` if not. The item keeps
+    /// its own chunks. Other chunks are freed.
     pub(crate) fn exchange_drawn(
         &self,
         plan: &Plan<'_>,

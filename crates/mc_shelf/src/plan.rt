@@ -76,8 +76,8 @@ impl<'a> Plan<'a> {
         }
     }
 
-    /// Returns whether the step needs the desk, or has begun at it: it removes or writes an item,
-    /// even if the write is refused.
+    /// Returns whether the step needs the desk, or its item is still to be written: it removes or
+    /// writes an item, even if the write is refused.
     pub fn needs_desk(&self) -> bool
         ensures told { result ≡ wants_desk self.now.next }
         ensures needed { (shelf : ShelfContent) (desk : DeskState) (step : Step) (now : ℕ) →

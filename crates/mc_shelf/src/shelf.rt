@@ -319,17 +319,17 @@ impl Shelf {
 
     /// Does the part of a plan's step that needs the desk. The plan then has what `finish` does.
     ///
-    /// `finish` takes the plan before any other call of the shelf. A block isn't copied while the
-    /// desk is held: the number, the chunks and all counts are decided here, and `finish` copies. A
-    /// block under 4096 bytes is copied at the desk, since coming back costs about 400
-    /// instructions.
+    /// `finish` takes the plan before any other call of the shelf. The number, the chunks and all
+    /// counts are decided here; `finish` copies, if it can, after the desk was given back. A set's
+    /// block under 4096 bytes for other chunks is copied here, since coming back costs about 400
+    /// instructions, and so is a join without an exchange.
     ///
     /// A write goes into the chunks of the key's old item if they are those that it needs, and one
     /// of these holds: the item is dead; the write is a number that incr or decr counts; as many
-    /// chunks are unused and the block is the step's own. A dead item with other chunks of the
-    /// write's class first gives them back. Any other write takes its chunks while the old item
-    /// still has its own. The copying of a step's block is left to `finish` if it goes into the old
-    /// item's chunks, or is large, so that the cost doesn't grow with it. A join that copies the
+    /// chunks are unused and the block is the step's own or comes behind the old one. A dead item
+    /// with other chunks of the write's class gives them back first. Any other write takes its
+    /// chunks while the old item still has its own. A block's copying is left if it goes into the
+    /// old item's chunks, or is large, so that the cost doesn't grow with it. A join that copies the
     /// old item into other chunks is left too, if there are chunks in exchange for the old one's
     /// (`exchange`).
     ///

@@ -20,8 +20,8 @@
 //! never decrease. Threads share the state in atomics, whose values no contract knows: each call
 //! returns at least the moment that it found there.
 //!
-//! Begin with `src/expiry.rt` and `specs/Death.antt`, then `src/steady.rt`. What crates above have of
-//! "one after another" is in `specs/Chains.antt`: steps with labels, and a number of equal steps.
+//! Begin with `src/expiry.rt` and `specs/Death.antt`, then `src/steady.rt`. `specs/Chains.antt`
+//! defines steps one after another, for the crates above.
 //!
 //! Tests: mc_session_tests, src/tests/rows_tests.rt; mc_time_tests, src/steady_tests.rt.
 #![tactic(auto)]
