@@ -69,15 +69,15 @@ BOUNDED = [
 
 class LentMemory(ProgramCase):
     def test_readers_share_an_item(self):
-        """Many clients get one item and read nothing: the server keeps no copy for each."""
+        """Many clients get one item twice and read nothing: the server keeps no copy for each. The system may hold one answer, and not both."""
         for length in LENGTHS:
             with self.subTest(length), StillServer(greatest=GREATEST, pages=16, workers=2, buffers=1024) as server, Peer(server.port) as peer:
                 told = Told(peer, 16, GREATEST)
                 told.asks(setting(b"shared", block(1, length)))
                 told.asks(b"get shared\r\n")
-                wanted, before = told.answer(b"get shared\r\n"), server.memory()
+                wanted, before = told.answer(b"get shared\r\n") * 2, server.memory()
                 with contextlib.ExitStack() as closing:
-                    readers = [closing.enter_context(Unread(server.port, b"get shared\r\n")) for _ in range(READERS)]
+                    readers = [closing.enter_context(Unread(server.port, b"get shared\r\n" * 2)) for _ in range(READERS)]
                     self.assertTrue(all([it.begins() for it in readers]))
                     kept = sum(kept_bytes(readers, [len(wanted)] * READERS))
                     self.assertGreater(kept, READERS * 300_000, "bytes that the server keeps")
