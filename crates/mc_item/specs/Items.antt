@@ -4,8 +4,8 @@ use Rattle.std.specs.Coded.{Coded, code_by, coded×, coded_ℕ, coded_list}
 use Rattle.mc_time.specs.declared.expiry.Expiry.{Expiry}
 use Rattle.mc_time.specs.Stored.{coded_expiry}
 use Rattle.mc_slab.specs.Classes.{size_of}
+pub use Rattle.mc_slab.specs.Chunks.{header_size}
 use Rattle.mc_slab.specs.Needs.{NeedState, IsNeed, size_in}
-use Rattle.mc_item.specs.declared.header.TheConstants.{HEADER}
 
 -- an item's key with its hash, what stands under it, and the class and the number of the chunks that it lies in
 pub record ItemState : Type 0 where
@@ -22,10 +22,6 @@ pub record ItemState : Type 0 where
 -- what its chunks serve
 abbrev pub item_need : ItemState → NeedState
 item_need item = record { class = item.class; count = item.count }
-
--- how many bytes of its first chunk an item's header takes
-abbrev pub header_size : ℕ
-header_size = HEADER
 
 -- how many bytes the longest key has
 abbrev pub longest_key : ℕ

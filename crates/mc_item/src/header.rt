@@ -8,9 +8,6 @@ use byteorder::{ByteOrder, LittleEndian};
 use mc_slab::HEADER_SIZE;
 use mc_time::{Expiry, Moment};
 
-/// The number of bytes before the key in the head of an item's chunks.
-pub(crate) const HEADER: usize = HEADER_SIZE;
-
 // Offsets of the header's numbers. The flags, whether the item expires and the lengths have 4 bytes
 // each, the others 8.
 const HASH: usize = 0;
@@ -145,7 +142,7 @@ pub(crate) fn header_bytes(
     unique: u64,
     updated: Moment,
     lengths: (u32, u32),
-) -> [u8; HEADER]
+) -> [u8; HEADER_SIZE]
     ensures value { header_in result ≡ record {
       hash = hash;
       flags = flags;
@@ -157,7 +154,7 @@ pub(crate) fn header_bytes(
     } }
     ensures latest { updated ≤ 2 ^ 62 }
 {
-    let mut bytes = [0; HEADER];
+    let mut bytes = [0; HEADER_SIZE];
     let (expires, moment) = numbers_of(expiry);
     put_u64(&mut bytes, HASH, hash);
     put_u32(&mut bytes, FLAGS, flags);

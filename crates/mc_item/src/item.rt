@@ -9,14 +9,14 @@ ghost use Rattle.mc_item.specs.Items.{parts_of};
 ghost use Rattle.mc_item.specs.Layout.{item_in};
 
 use crate::header::{
-    HEADER, block_length_in, expiry_in, flags_in, hash_in, key_length_in, unique_in, updated_in,
+    block_length_in, expiry_in, flags_in, hash_in, key_length_in, unique_in, updated_in,
 };
 use crate::run::{
     append_reserved, front, lend_part, part_of, write_behind, write_block, write_expiry,
     write_head, write_item, write_number,
 };
 use mc_bytes::Lent;
-use mc_slab::{Chunks, Class, Need};
+use mc_slab::{Chunks, Class, HEADER_SIZE, Need};
 use mc_time::{Expiry, Moment};
 use std::alloc::AllocError;
 use std::marker::Model;
@@ -198,7 +198,7 @@ impl Item {
     {
         let bytes = front(&self.chunks);
         let length = key_length_in(bytes) as usize;
-        &bytes[HEADER..HEADER + length]
+        &bytes[HEADER_SIZE..HEADER_SIZE + length]
     }
 
     /// Returns the number of parts of its block, 1 to 8, one in each chunk.
@@ -309,7 +309,7 @@ impl Item {
         ensures is_item { IsItem self.now }
     {
         let bytes = front(&self.chunks);
-        HEADER as u64 + u64::from(key_length_in(bytes)) + u64::from(block_length_in(bytes))
+        HEADER_SIZE as u64 + u64::from(key_length_in(bytes)) + u64::from(block_length_in(bytes))
     }
 
     /// Returns the class of its chunks.

@@ -10,13 +10,13 @@ ghost use Rattle.mc_item.specs.Layout.{block_in, block_length_in, header_in, ite
 ghost use Rattle.mc_item.specs.Layout.{key_length_in, updated_in, HoldsItem, KeepsBytes, KeepsHead};
 
 use crate::header::{
-    HEADER, block_length_in, expiry_in, flags_in, hash_in, header_bytes, key_length_in, unique_in,
+    block_length_in, expiry_in, flags_in, hash_in, header_bytes, key_length_in, unique_in,
     updated_in,
 };
 use crate::item::Parts;
 use itoa::Buffer;
 use mc_bytes::Lent;
-use mc_slab::Chunks;
+use mc_slab::{Chunks, HEADER_SIZE};
 use mc_time::{Expiry, Moment};
 
 /// The first class whose chunks can be lent, and have their head beside them.
@@ -68,7 +68,7 @@ fn block_start(chunks: &Chunks, key_len: usize) -> usize
     if has_head_beside(chunks) {
         return 0;
     }
-    HEADER + key_len
+    HEADER_SIZE + key_len
 }
 
 /// Copies `source` to an offset in the head. What is behind it is unchanged, and so are the chunks'
@@ -111,7 +111,7 @@ fn put(chunks: &mut Chunks, offset: usize, source: &[u8])
 }
 
 /// Writes the bytes of a header. The bytes behind it are unchanged.
-fn put_header(chunks: &mut Chunks, header: &[u8; HEADER])
+fn put_header(chunks: &mut Chunks, header: &[u8; HEADER_SIZE])
     requires are { AreChunks chunks.old }
     requires room { header_size ≤ length chunks.old.head }
     ensures value { header_in chunks.new.head ≡ header_in header.now }
@@ -202,7 +202,7 @@ pub(crate) fn write_item(chunks: &mut Chunks, parts: &Parts<'_>)
         chunks,
         &header_bytes(hash, flags, expiry, unique, updated, lengths),
     );
-    put_head(chunks, HEADER, parts.key);
+    put_head(chunks, HEADER_SIZE, parts.key);
     put_block(chunks, start, parts.first, parts.second, parts.lent);
 }
 
@@ -241,7 +241,7 @@ pub(crate) fn write_head(chunks: &mut Chunks, parts: &Parts<'_>, block_len: usiz
         chunks,
         &header_bytes(hash, flags, expiry, unique, updated, lengths),
     );
-    put_head(chunks, HEADER, key);
+    put_head(chunks, HEADER_SIZE, key);
 }
 
 /// Copies `part` into the block of the item in chunks. Everything else is unchanged.
@@ -347,7 +347,7 @@ pub(crate) fn part_of(chunks: &Chunks, at: usize) -> &[u8]
     }
     // one chunk, which begins with the head
     let head = front(chunks);
-    let start = HEADER + key_length_in(head) as usize;
+    let start = HEADER_SIZE + key_length_in(head) as usize;
     &head[start..start + block_length_in(head) as usize]
 }
 
