@@ -50,13 +50,13 @@ changed_rises (Reads expiry) step None old found now f = (same_le _ _ (perhaps_n
 changed_rises (Reads expiry) step (Some i) old found now f = (same_le _ _ (perhaps_next (Some i) (key_of step) expiry found ∙ f), λ w. absurd w)
 changed_rises (Touches expiry) step item old found now f = (same_le _ _ (expiring_next item (key_of step) expiry found ∙ f), λ w. absurd w)
 changed_rises Deletes step item old found now f = (same_le _ _ f, λ w. absurd w)
-changed_rises (Writes draft) step item old found now f =
+changed_rises (Writes flags expiry body) step item old found now f =
     let key : List ℕ = key_of step in
-    let b : List ℕ = written_block draft.body (block_of step) item in
-    wrote_so (Rises old step now) (keeps_chunk draft.body key item) (write_reply draft.body) key draft.flags draft.expiry b found now
+    let b : List ℕ = written_block body (block_of step) item in
+    wrote_so (Rises old step now) (keeps_chunk body key item) (write_reply body) key flags expiry b found now
     (same_le _ _ f, λ w. absurd w) tt
-    (omega (arith, f), λ w. (omega (arith, f), written_number found key draft.flags draft.expiry b now old.next_unique f))
-    (omega (arith, f), λ w. (omega (arith, f), written_number (with_chunk found (block_need key b)) key draft.flags draft.expiry b now old.next_unique f))
+    (omega (arith, f), λ w. (omega (arith, f), written_number found key flags expiry b now old.next_unique f))
+    (omega (arith, f), λ w. (omega (arith, f), written_number (with_chunk found (block_need key b)) key flags expiry b now old.next_unique f))
     (same_le _ _ f, λ w. absurd w)
 
 stepped_rises : (old : Plain) (step : KeyStep) (now : ℕ) → Rises old step now (stepped old step now)

@@ -89,15 +89,15 @@ module _ (flags unique : ℕ) (block : List ℕ) where
   changed_traces (Touches expiry) step item old now stands = λ h. inl (expiring_traces item (key_of step) expiry old stands h)
   changed_traces Deletes step item old now stands =
       λ h. absurd (none_some h.0 (sym (get_gone (without_dead item (key_of step) old).items (key_of step)) ∙ h.1))
-  changed_traces (Writes draft) step item old now stands =
+  changed_traces (Writes flags expiry body) step item old now stands =
       let key : List ℕ = key_of step in
       let found : Plain = without_dead item key old in
-      let b : List ℕ = written_block draft.body (block_of step) item in
+      let b : List ℕ = written_block body (block_of step) item in
       let next = found-next item key old in
-      wrote_so (Traces old step now) (keeps_chunk draft.body key item) (write_reply draft.body) key draft.flags draft.expiry b found now
+      wrote_so (Traces old step now) (keeps_chunk body key item) (write_reply body) key flags expiry b found now
       (λ h. inl (found_traces item key old h)) tt
-      (λ h. inr (writes draft.body step now, written_next found key draft.flags draft.expiry b now h ∙ next))
-      (λ h. inr (writes draft.body step now, written_next (with_chunk found (block_need key b)) key draft.flags draft.expiry b now h ∙ next))
+      (λ h. inr (writes body step now, written_next found key flags expiry b now h ∙ next))
+      (λ h. inr (writes body step now, written_next (with_chunk found (block_need key b)) key flags expiry b now h ∙ next))
       (λ h. inl (found_traces item key old h))
 
   pub stepped_traces : (old : Plain) (step : KeyStep) (now : ℕ) → Traces old step now (stepped old step now)
@@ -129,9 +129,9 @@ module _ (flags unique : ℕ) (block : List ℕ) where
   changed_shows (Reads expiry) step (Some i) old found now stands = λ f u b. (i, stands i refl, f, u, b)
   changed_shows (Touches expiry) step item old found now stands = tt
   changed_shows Deletes step item old found now stands = tt
-  changed_shows (Writes draft) step item old found now stands =
-      wrote_so (Shows old (key_of step)) (keeps_chunk draft.body (key_of step) item) (write_reply draft.body) (key_of step) draft.flags draft.expiry (written_block draft.body (block_of step) item)
-      found now tt tt (write_shows draft.body old _ (key_of step)) (write_shows draft.body old _ (key_of step)) tt
+  changed_shows (Writes flags expiry body) step item old found now stands =
+      wrote_so (Shows old (key_of step)) (keeps_chunk body (key_of step) item) (write_reply body) (key_of step) flags expiry (written_block body (block_of step) item)
+      found now tt tt (write_shows body old _ (key_of step)) (write_shows body old _ (key_of step)) tt
 
   stepped_shows : (old : Plain) (step : KeyStep) (now : ℕ) → Shows old (key_of step) (stepped old step now)
   unfolding Stands

@@ -72,10 +72,10 @@ changed_keeps (Refuses why) step item old now other ne = refl
 changed_keeps (Reads expiry) step item old now other ne = perhaps_other item (key_of step) other expiry old ne
 changed_keeps (Touches expiry) step item old now other ne = expiring_other item (key_of step) other expiry old ne
 changed_keeps Deletes step item old now other ne = removed_other old.items (key_of step) other ne
-changed_keeps (Writes draft) step item old now other ne =
+changed_keeps (Writes flags expiry body) step item old now other ne =
     let key : List ℕ = key_of step in
-    wrote_keeps (keeps_chunk draft.body key item) (write_reply draft.body) key draft.flags draft.expiry
-    (written_block draft.body (block_of step) item) old now other ne
+    wrote_keeps (keeps_chunk body key item) (write_reply body) key flags expiry
+    (written_block body (block_of step) item) old now other ne
 
 -- a step on a key
 pub on_key : (old : Plain) (step : KeyStep) (now : ℕ) → IsOnKey step → plain old step now ≡ stepped old step now
@@ -183,10 +183,10 @@ changed_agrees Deletes step item a b now same room = (
     greatest = same.greatest;
   },
 )
-changed_agrees (Writes draft) step item a b now same room =
+changed_agrees (Writes flags expiry body) step item a b now same room =
     let key : List ℕ = key_of step in
-    wrote_agrees (keeps_chunk draft.body key item) (write_reply draft.body) key draft.flags draft.expiry
-    (written_block draft.body (block_of step) item) a b now same room
+    wrote_agrees (keeps_chunk body key item) (write_reply body) key flags expiry
+    (written_block body (block_of step) item) a b now same room
 
 standing_agrees : (a b : Plain) (key : List ℕ) (now : ℕ) → AgreeAt key a b → standing a key now ≡ standing b key now
 standing_agrees a b key now same = ap (λ (o : Option Entry). alive a.cut now o) same.item ∙ ap (λ (c : Option ℕ). alive c now (get b.items key)) same.cut

@@ -120,10 +120,10 @@ changed_grows (Refuses why) step item old now = stays old old refl refl
 changed_grows (Reads expiry) step item old now = perhaps_grows item (key_of step) expiry old
 changed_grows (Touches expiry) step item old now = expiring_grows item (key_of step) expiry old
 changed_grows Deletes step item old now = stays old _ refl refl
-changed_grows (Writes draft) step item old now =
+changed_grows (Writes flags expiry body) step item old now =
     let key : List ℕ = key_of step in
-    wrote_grows (keeps_chunk draft.body key item) (write_reply draft.body) key draft.flags draft.expiry
-    (written_block draft.body (block_of step) item) old now
+    wrote_grows (keeps_chunk body key item) (write_reply body) key flags expiry
+    (written_block body (block_of step) item) old now
 
 found-pages : (item : Option Entry) (key : List ℕ) (old : Plain) → (without_dead item key old).pages ≡ old.pages
 found-pages None key old = refl

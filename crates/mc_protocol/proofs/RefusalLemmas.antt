@@ -112,10 +112,10 @@ changed-exactly (Touches expiry) step item old now =
     ((λ is. not_refused (changed (Touches expiry) step item old now) old refl is), (λ lacks. absurd lacks))
 changed-exactly Deletes step item old now =
     ((λ is. not_refused (changed Deletes step item old now) old refl is), (λ lacks. absurd lacks))
-changed-exactly (Writes draft) step item old now =
+changed-exactly (Writes flags expiry body) step item old now =
     let key : List ℕ = key_of step in
-    wrote-exactly (keeps_chunk draft.body key item) (write_reply draft.body) key draft.flags draft.expiry
-    (written_block draft.body (block_of step) item) old now (told-write draft.body)
+    wrote-exactly (keeps_chunk body key item) (write_reply body) key flags expiry
+    (written_block body (block_of step) item) old now (told-write body)
 
 changed-left : (row : Row) (step : KeyStep) (item : Option Entry) (old new : Plain) (now : ℕ)
     → changed row step item old now ≡ Answered NoChunk new → new ≡ old
@@ -127,10 +127,10 @@ changed-left (Touches expiry) step item old new now is =
     absurd (not_refused (changed (Touches expiry) step item old now) new refl is)
 changed-left Deletes step item old new now is =
     absurd (not_refused (changed Deletes step item old now) new refl is)
-changed-left (Writes draft) step item old new now is =
+changed-left (Writes flags expiry body) step item old new now is =
     let key : List ℕ = key_of step in
-    wrote-left (keeps_chunk draft.body key item) (write_reply draft.body) key draft.flags draft.expiry
-    (written_block draft.body (block_of step) item) old new now (told-write draft.body) is
+    wrote-left (keeps_chunk body key item) (write_reply body) key flags expiry
+    (written_block body (block_of step) item) old new now (told-write body) is
 
 pub refused-exactly : (old : Plain) (step : KeyStep) (now : ℕ) → IsOnKey step
     → (plain old step now ≡ Answered NoChunk (found_by step now old)) ↔ LacksChunk (found_by step now old) (chunk_of step now old)

@@ -47,9 +47,9 @@ chunk_taken step (Refuses refusal) item = None
 chunk_taken step (Reads expiry) item = None
 chunk_taken step (Touches expiry) item = None
 chunk_taken step Deletes item = None
-chunk_taken step (Writes draft) item =
-    if keeps_chunk draft.body (key_of step) item then None
-    else Some (charge (key_of step) (written_block draft.body (block_of step) item))
+chunk_taken step (Writes flags expiry body) item =
+    if keeps_chunk body (key_of step) item then None
+    else Some (charge (key_of step) (written_block body (block_of step) item))
 
 -- the charge that a step takes chunks for, if it takes some
 abbrev pub chunk_of : KeyStep → ℕ → Plain → Option ℕ

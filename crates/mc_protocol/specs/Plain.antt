@@ -141,11 +141,11 @@ counted false by old = old - by
 
 -- a write of the step's own block, with these flags and this expiry
 abbrev pub given : (flags : ℕ) → Expiry → Row
-given flags expiry = Writes (record { flags = flags; expiry = expiry; body = Given })
+given flags expiry = Writes flags expiry Given
 
 -- a write beside the old item's block, with its flags and its expiry
 abbrev pub joined : Entry → Body → Row
-joined old body = Writes (record { flags = old.flags; expiry = old.expiry; body = body })
+joined old body = Writes old.flags old.expiry body
 
 -- what a step does whose key has no item: it refuses, or stores its own block
 pub data Absent : Type 0 where
@@ -326,10 +326,10 @@ changed (Touches expiry) step item old now =
     Answered Touched (expiring item (key_of step) expiry old)
 changed Deletes step item old now =
     Answered Deleted (record old { items = remove old.items (key_of step) })
-changed (Writes draft) step item old now =
+changed (Writes flags expiry body) step item old now =
     let key = key_of step in
-    wrote (keeps_chunk draft.body key item) (write_reply draft.body) key draft.flags draft.expiry
-    (written_block draft.body (block_of step) item) old now
+    wrote (keeps_chunk body key item) (write_reply body) key flags expiry
+    (written_block body (block_of step) item) old now
 
 -- a step at its key: the key's dead item is dropped, and then the step's row applies to the item
 -- that stands

@@ -53,6 +53,6 @@ pub use limits::{CHUNK_HEAD, LONGEST_KEY};
 pub use lone::Lone;
 pub use number::{count_up_or_down, number_of, number_up_to};
 pub use reply::Reply;
-pub use row::{Body, Draft, Refusal, Row, Standing, row_of};
+pub use row::{Body, Refusal, Row, Standing, row_of};
 pub use step::{KeyStep, StepFault, StepKind, Steps, Verb};
 pub use words::{Words, first_key, first_word, first_word_len, spaces_len};

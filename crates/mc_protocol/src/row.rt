@@ -69,14 +69,6 @@ impl Body {
     }
 }
 
-/// What a write stores under the key, without its unique number and its moment.
-#[derive(Clone, Copy)]
-pub struct Draft {
-    pub flags: u32,
-    pub expiry: Expiry,
-    pub body: Body,
-}
-
 /// What a step does at its key.
 #[derive(Clone, Copy)]
 pub enum Row {
@@ -89,7 +81,11 @@ pub enum Row {
     /// Removes the item.
     Deletes,
     /// Writes an item with the next unique number.
-    Writes(Draft),
+    Writes {
+        flags: u32,
+        expiry: Expiry,
+        body: Body,
+    },
 }
 
 /// An item under a key, which returns its fields.
@@ -142,7 +138,7 @@ fn if_absent(step: &KeyStep<'_>, now: Moment) -> Row
             flags,
             exptime,
             ..
-        } => draft_own(*flags, expiry_of(*exptime, now)),
+        } => given(*flags, expiry_of(*exptime, now)),
         KeyStep::Store { .. } => Row::Refuses(Refusal::NotStored),
         KeyStep::Read { .. } | KeyStep::ReadTouch { .. } => Row::Refuses(Refusal::Miss),
         KeyStep::Cas { .. }
@@ -169,7 +165,7 @@ fn if_present<T: Standing>(step: &KeyStep<'_>, old: &T, now: Moment) -> Row
             exptime,
             unique,
             ..
-        } => if_unique(old, *unique, draft_own(*flags, expiry_of(*exptime, now))),
+        } => if_unique(old, *unique, given(*flags, expiry_of(*exptime, now))),
         KeyStep::Read { .. } => Row::Reads(None),
         KeyStep::ReadTouch { exptime, .. } => Row::Reads(Some(expiry_of(*exptime, now))),
         KeyStep::Touch { exptime, .. } => Row::Touches(expiry_of(*exptime, now)),
@@ -180,25 +176,25 @@ fn if_present<T: Standing>(step: &KeyStep<'_>, old: &T, now: Moment) -> Row
 }
 
 /// Returns the row of a write of the step's own block.
-fn draft_own(flags: u32, expiry: Expiry) -> Row
+fn given(flags: u32, expiry: Expiry) -> Row
     ensures { result ≡ machine.given flags expiry }
 {
-    Row::Writes(Draft {
+    Row::Writes {
         flags,
         expiry,
         body: Body::Given,
-    })
+    }
 }
 
 /// Returns the row of a write that keeps the item's flags and its expiry.
-fn draft_joined<T: Standing>(old: &T, body: Body) -> Row
+fn joined<T: Standing>(old: &T, body: Body) -> Row
     ensures { result ≡ machine.joined (T.entry_of old.now) body }
 {
-    Row::Writes(Draft {
+    Row::Writes {
         flags: old.flags(),
         expiry: old.expiry(),
         body,
-    })
+    }
 }
 
 /// Returns the row of set, add, replace, append or prepend of a key with this item.
@@ -206,10 +202,10 @@ fn stored_over<T: Standing>(verb: Verb, flags: u32, expiry: Expiry, old: &T) -> 
     ensures { result ≡ machine.stored_over verb flags expiry (T.entry_of old.now) }
 {
     match verb {
-        Verb::Set | Verb::Replace => draft_own(flags, expiry),
+        Verb::Set | Verb::Replace => given(flags, expiry),
         Verb::Add => Row::Refuses(Refusal::NotStored),
-        Verb::Append => draft_joined(old, Body::Appended),
-        Verb::Prepend => draft_joined(old, Body::Prepended),
+        Verb::Append => joined(old, Body::Appended),
+        Verb::Prepend => joined(old, Body::Prepended),
     }
 }
 
@@ -231,6 +227,6 @@ fn number_row<T: Standing>(up: bool, by: u64, old: &T) -> Row
 {
     match old.number() {
         None => Row::Refuses(Refusal::NotNumeric),
-        Some(number) => draft_joined(old, Body::Counted(count_up_or_down(up, by, number))),
+        Some(number) => joined(old, Body::Counted(count_up_or_down(up, by, number))),
     }
 }
