@@ -14,14 +14,18 @@ use Rattle.mc_protocol.specs.declared.step.StepFault.{StepFault}
 use Rattle.mc_protocol.specs.declared.step.StepFault.TheVariants.{NoMemory, NumbersSpent}
 use Rattle.mc_protocol.specs.declared.reply.Reply.{Reply}
 use Rattle.mc_protocol.specs.declared.reply.Reply.TheVariants.{NoChunk}
-use Rattle.mc_protocol.specs.declared.row.Draft.{Draft}
+use Rattle.mc_time.specs.declared.expiry.Expiry.{Expiry}
+use Rattle.mc_protocol.specs.declared.row.Row.{Row}
+use Rattle.mc_protocol.specs.declared.row.Row.TheVariants.{Writes}
+use Rattle.mc_protocol.specs.declared.step.KeyStep.{KeyStep}
+use Rattle.mc_protocol.specs.Commands.{key_of}
 use Rattle.mc_protocol.specs.declared.row.Body.{Body}
 use Rattle.mc_protocol.specs.declared.row.Body.TheVariants.{Given, Appended, Prepended, Counted}
 use Rattle.mc_command.specs.declared.plain.item.Written.{Written}
 use Rattle.mc_command.specs.declared.plain.write.CheckedWrite.{CheckedWrite}
-use Rattle.mc_protocol.specs.Plain.{Plain, Entry, Outcome, Answered, CopiesBlock, charge, item_need, has_room, keeps_chunk, standing, without_dead, write_reply, written_block}
+use Rattle.mc_protocol.specs.Plain.{Plain, Entry, Outcome, Answered, CopiesBlock, block_of, wrote, charge, item_need, has_room, keeps_chunk, standing, without_dead, write_reply, written_block}
 use Rattle.mc_protocol.specs.Rows.{standing_in}
-use Rattle.mc_command.specs.Steps.{Ends, Prepares, block_in, done, drafting, found, made, made_block, needs_this, number_in, placed, same_needs, rewritten, writing}
+use Rattle.mc_command.specs.Steps.{Ends, Prepares, applied, block_in, done, found, made_block, needs_this, number_in, placed, same_needs, rewritten, writing}
 use Rattle.mc_protocol.proofs.ItemLemmas.{laws}
 use Rattle.mc_protocol.proofs.LawLemmas.{found-greatest, found-next}
 use Rattle.mc_command.proofs.PlainLemmas.{needs_this-some, standing-there}
@@ -68,7 +72,7 @@ module _ (old : Plain) (key : List ℕ) (now : ℕ) (w : Written) (reply : Reply
       rw (fits, number, keeps)
       (ap (λ (p : Plain). Answered reply (rewritten w key p now)) (found-stands (standing old key now) key old (needs_this-some key (standing old key now) _ there)))
 
--- what is made of a draft is what it writes
+-- what a body makes of them is what it writes
 pub made-is : (body : Body) (block : List ℕ) (item : Option Entry) → made_block body block (block_in item) (decimal (number_in body)) ≡ written_block body block item
 made-is Given block item = refl
 made-is Appended block None = refl
@@ -91,32 +95,48 @@ keeps-need Prepended key block item keeps = absurd (cc keeps)
 keeps-need (Counted n) key block None keeps = absurd (cc keeps)
 keeps-need (Counted n) key block (Some old) keeps = keeps
 
--- what is made of a draft, of the step's block, that of the item that stands, and a number's digits
-module _ (draft : Draft) (key block stood digits : List ℕ) (old : Plain) (now : ℕ) (there : Option (Bor Entry)) (w : Written) (stays : Bool)
-    (stands : option_copied there ≡ standing old key now) (had : stood ≡ block_in (option_copied there)) (counted : digits ≡ decimal (number_in draft.body)) (is : w ≡ made draft block stood digits)
-    (keeps : (b : List ℕ) → w.block ≡ written_block draft.body b (option_copied there) → stays ≡ keeps_chunk draft.body key (option_copied there)) where
-  block-is : made_block draft.body block stood digits ≡ written_block draft.body block (option_copied there)
+-- what a row writes at a key, of the block that a step brings
+abbrev wrote_by : (flags : ℕ) → Expiry → Body → (key block : List ℕ) → Plain → ℕ → Outcome
+wrote_by flags expiry body key block old now =
+    let item = standing old key now in
+    wrote (keeps_chunk body key item) (write_reply body) key flags expiry (written_block body block item) (found key old now) now
+
+-- the write of these flags, this expiry and this block
+abbrev of_parts : (flags : ℕ) → Expiry → (block : List ℕ) → Written
+of_parts flags expiry block = record { flags = flags; expiry = expiry; block = block }
+
+-- a write whose whole block a body makes of the step's, that of the item that stands, and a number's digits
+module _ (flags : ℕ) (expiry : Expiry) (body : Body) (key block stood digits whole : List ℕ) (old : Plain) (now : ℕ) (there : Option (Bor Entry)) (stays : Bool)
+    (stands : option_copied there ≡ standing old key now) (had : stood ≡ block_in (option_copied there)) (counted : digits ≡ decimal (number_in body))
+    (is : whole ≡ made_block body block stood digits)
+    (keeps : (b : List ℕ) → whole ≡ written_block body b (option_copied there) → stays ≡ keeps_chunk body key (option_copied there)) where
+  block-is : whole ≡ written_block body block (option_copied there)
   block-is =
-      ap (λ (b : List ℕ). made_block draft.body block b digits) had ∙ ap (made_block draft.body block (block_in (option_copied there))) counted
-      ∙ made-is draft.body block (option_copied there)
+      is ∙ ap (λ (b : List ℕ). made_block body block b digits) had ∙ ap (made_block body block (block_in (option_copied there))) counted
+      ∙ made-is body block (option_copied there)
 
-  stays-by : stays ≡ keeps_chunk draft.body key (option_copied there)
-  stays-by = keeps block (ap (λ (v : Written). v.block) is ∙ block-is)
+  stays-by : stays ≡ keeps_chunk body key (option_copied there)
+  stays-by = keeps block block-is
 
-  pub draft-stays : stays ≡ true → IsTrue (needs_this key (standing old key now) (need_for (charge key w.block)))
-  draft-stays stay =
-      subst (λ (o : Option Entry). IsTrue (needs_this key o (need_for (charge key w.block)))) stands
-      (subst (λ (b : List ℕ). IsTrue (needs_this key (option_copied there) (need_for (charge key b)))) (sym (ap (λ (v : Written). v.block) is ∙ block-is))
-      (keeps-need draft.body key block (option_copied there) (sym stays-by ∙ stay)))
+  pub write-stays : stays ≡ true → IsTrue (needs_this key (standing old key now) (need_for (charge key whole)))
+  write-stays stay =
+      subst (λ (o : Option Entry). IsTrue (needs_this key o (need_for (charge key whole)))) stands
+      (subst (λ (b : List ℕ). IsTrue (needs_this key (option_copied there) (need_for (charge key b)))) (sym block-is)
+      (keeps-need body key block (option_copied there) (sym stays-by ∙ stay)))
 
-  pub draft-is : (reply : Reply) → reply ≡ write_reply draft.body → drafting draft key block old now ≡ writing stays reply w key old now
-  draft-is reply same =
-      let put : List ℕ → Written = λ b. record { flags = draft.flags; expiry = draft.expiry; block = b } in
+  writes-so : (reply : Reply) → reply ≡ write_reply body → wrote_by flags expiry body key block old now ≡ writing stays reply (of_parts flags expiry whole) key old now
+  writes-so reply same =
       let item = standing old key now in
-      let made : w ≡ put (written_block draft.body block item) = is ∙ ap put (block-is ∙ ap (written_block draft.body block) stands) in
-      sym (ap (λ (v : Written). writing stays reply v key old now) made
-      ∙ ap (λ (b : Bool). writing b reply (put (written_block draft.body block item)) key old now) (stays-by ∙ ap (keeps_chunk draft.body key) stands)
-      ∙ ap (λ (r : Reply). writing (keeps_chunk draft.body key item) r (put (written_block draft.body block item)) key old now) same)
+      sym (ap (λ (b : List ℕ). writing stays reply (of_parts flags expiry b) key old now) (block-is ∙ ap (written_block body block) stands)
+      ∙ ap (λ (b : Bool). writing b reply (of_parts flags expiry (written_block body block item)) key old now) (stays-by ∙ ap (keeps_chunk body key) stands)
+      ∙ ap (λ (r : Reply). writing (keeps_chunk body key item) r (of_parts flags expiry (written_block body block item)) key old now) same)
+
+  pub write-is : (row : Row) (step : KeyStep) → row ≡ Writes flags expiry body → key ≡ key_of step → block ≡ block_of step
+      → (reply : Reply) → reply ≡ write_reply body → applied row step old now ≡ writing stays reply (of_parts flags expiry whole) key old now
+  write-is row step so at of reply same =
+      ap (λ (r : Row). applied r step old now) so
+      ∙ sym (ap (λ (k : List ℕ). wrote_by flags expiry body k block old now) at ∙ ap (λ (b : List ℕ). wrote_by flags expiry body (key_of step) b old now) of)
+      ∙ writes-so reply same
 
 -- what stands, as a row's contract has it
 pub stands-is : (found : Option (Bor Entry)) → standing_in (λ item. item) found ≡ option_copied found

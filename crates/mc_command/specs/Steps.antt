@@ -8,13 +8,13 @@ use Rattle.mc_protocol.specs.declared.step.StepFault.{StepFault}
 use Rattle.mc_protocol.specs.declared.step.StepFault.TheVariants.{NoMemory, NumbersSpent}
 use Rattle.mc_protocol.specs.declared.reply.Reply.{Reply}
 use Rattle.mc_protocol.specs.declared.row.Row.{Row}
-use Rattle.mc_protocol.specs.declared.row.Draft.{Draft}
+use Rattle.mc_protocol.specs.declared.row.Row.TheVariants.{Writes}
 use Rattle.mc_protocol.specs.declared.row.Body.{Body}
 use Rattle.mc_protocol.specs.declared.row.Body.TheVariants.{Given, Appended, Prepended, Counted}
 use Rattle.mc_command.specs.declared.plain.item.Written.{Written}
 use Rattle.mc_command.specs.declared.plain.write.CheckedWrite.{CheckedWrite}
 use Rattle.mc_command.specs.declared.plain.write.CheckedWrite.TheVariants.{Answer, Rewrite, Place}
-use Rattle.mc_protocol.specs.Plain.{Plain, Entry, Outcome, Answered, Spent, MayFail, CopiesBlock, block_need, item_need, has_room, pages_of, with_chunk, standing, without_dead, written, wrote, changed, hit_of, perhaps_expiring, keeps_chunk, write_reply, written_block}
+use Rattle.mc_protocol.specs.Plain.{Plain, Entry, Outcome, Answered, Spent, MayFail, CopiesBlock, block_need, item_need, has_room, pages_of, with_chunk, standing, without_dead, written, wrote, changed, hit_of, perhaps_expiring}
 
 -- a step ends as the plain machine says, and if it isn't taken nothing changes
 pub record Ends (outcome : Outcome) (result : Result Reply StepFault) (old new : Plain)
@@ -81,13 +81,10 @@ made_block Appended block old digits = old ++ block
 made_block Prepended block old digits = block ++ old
 made_block (Counted number) block old digits = digits
 
--- what a draft makes of them
-abbrev pub made : Draft → (block old digits : List ℕ) → Written
-made draft block old digits = record {
-  flags = draft.flags;
-  expiry = draft.expiry;
-  block = made_block draft.body block old digits;
-}
+-- a row that writes an item
+abbrev pub WritesItem : Row → Type 0
+WritesItem (Writes flags expiry body) = Unit {0}
+WritesItem row = ⊥
 
 -- what a row does at a step's key
 abbrev pub applied : Row → KeyStep → Plain → ℕ → Outcome
@@ -99,13 +96,6 @@ abbrev pub reading : Option Expiry → List ℕ → Plain → ℕ → Outcome
 reading expiry key old now =
     let item = standing old key now in
     Answered (hit_of item) (perhaps_expiring item key expiry (found key old now))
-
--- what a draft writes at a key, of the block that a step brings
-abbrev pub drafting : Draft → (key block : List ℕ) → Plain → ℕ → Outcome
-drafting draft key block old now =
-    let item = standing old key now in
-    wrote (keeps_chunk draft.body key item) (write_reply draft.body) key draft.flags draft.expiry
-    (written_block draft.body block item) (found key old now) now
 
 -- what comes of a write that is done
 abbrev pub done : CheckedWrite → List ℕ → Plain → ℕ → Outcome

@@ -20,8 +20,8 @@ mod plain;
 
 pub use laws::numbers_of_the_protocol;
 pub use mc_protocol::{
-    Answer, Block, Body, Bytes, Command, CommandOf, Draft, KeyStep, Keys, LineFault, Lone, Refusal,
-    Reply, Row, Standing, StepFault, Steps, Unanswered, Verb, Words, a_front_tells_the_number,
+    Answer, Block, Body, Bytes, Command, CommandOf, KeyStep, Keys, LineFault, Lone, Refusal, Reply,
+    Row, Standing, StepFault, Steps, Unanswered, Verb, Words, a_front_tells_the_number,
     count_up_or_down, counts_follow, first_key, first_word, first_word_len, flushes_empty,
     is_quiet, number_of, number_up_to, one_key_decides, other_keys_stay, pages_stay,
     refused_without_room, row_of, spaces_len, step_at, steps_of, the_dead_stay_dead,

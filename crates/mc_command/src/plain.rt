@@ -189,7 +189,7 @@ impl PlainStore {
                 self.remove(key);
                 Ok(Reply::Deleted)
             }
-            Row::Writes(draft) => self.write(alloc, key, step.block(), draft, now),
+            Row::Writes { .. } => self.write(alloc, row, step, now),
         }
     }
 

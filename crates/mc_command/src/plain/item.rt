@@ -5,9 +5,9 @@ ghost use Rattle.mc_time.specs.Death as death;
 ghost use Rattle.mc_slab.specs.Classes.{IsClass, page_size};
 ghost use Rattle.mc_slab.specs.Needs.{IsNeed, need_of, need_for};
 ghost use Rattle.mc_protocol.specs.Plain.{charge, chunk_head, chunks_in, item_need};
-ghost use Rattle.mc_command.specs.Steps.{made};
+ghost use Rattle.mc_command.specs.Steps.{made_block};
 
-use mc_protocol::{Block, Body, CHUNK_HEAD, Draft, Reply, Standing, number_of};
+use mc_protocol::{Block, Body, CHUNK_HEAD, Reply, Standing, number_of};
 use mc_slab::{Class, Need, PAGE_SIZE};
 use mc_time::{Expiry, Moment};
 use std::alloc::{AllocError, Global};
@@ -53,10 +53,10 @@ pub(crate) struct Written {
 /// A write before its block is made. The block is `front` followed by `back`.
 #[derive(Drop)]
 pub(crate) struct LentWrite<'a> {
-    flags: u32,
-    expiry: Expiry,
-    front: &'a [u8],
-    back: &'a [u8],
+    pub(crate) flags: u32,
+    pub(crate) expiry: Expiry,
+    pub(crate) front: &'a [u8],
+    pub(crate) back: &'a [u8],
 }
 
 impl<'a> Model for LentWrite<'a> {
@@ -110,36 +110,21 @@ impl<'a> LentWrite<'a> {
     }
 }
 
-/// Returns the write of a draft, given the step's block, the item's block and a number's digits.
-pub(crate) fn lend_write<'a>(
-    draft: Draft,
+/// Returns the two halves of the block that a body makes of the step's block, the item's block and
+/// a number's digits.
+pub(crate) fn halves<'a>(
+    body: Body,
     block: &'a [u8],
     old: &'a [u8],
     digits: &'a [u8],
-) -> LentWrite<'a>
-    ensures { result ≡ made draft block.now old.now digits.now }
+) -> (&'a [u8], &'a [u8])
+    ensures { result.0.now ++ result.1.now ≡ made_block body block.now old.now digits.now }
 {
-    match draft.body {
-        Body::Given => lend_slices(draft, &[], block),
-        Body::Appended => lend_slices(draft, old, block),
-        Body::Prepended => lend_slices(draft, block, old),
-        Body::Counted(_) => lend_slices(draft, &[], digits),
-    }
-}
-
-/// Returns the write of a draft whose block is one slice and then the other.
-fn lend_slices<'a>(draft: Draft, front: &'a [u8], back: &'a [u8]) -> LentWrite<'a>
-    ensures { result ≡ record {
-      flags = draft.flags;
-      expiry = draft.expiry;
-      block = front.now ++ back.now;
-    } }
-{
-    LentWrite {
-        flags: draft.flags,
-        expiry: draft.expiry,
-        front,
-        back,
+    match body {
+        Body::Given => (&[], block),
+        Body::Appended => (old, block),
+        Body::Prepended => (block, old),
+        Body::Counted(_) => (&[], digits),
     }
 }
 

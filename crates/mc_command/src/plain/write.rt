@@ -5,15 +5,15 @@ ghost use Rattle.std.specs.Prelude.{◌≡◌, ◌≢◌, ◌≤◌, ◌-◌, �
 ghost use Rattle.std.specs.FinMap.{get};
 ghost use Rattle.std.specs.Option.{option_copied};
 ghost use Rattle.mc_slab.specs.Needs.{IsNeed};
-ghost use Rattle.mc_protocol.specs.Commands.{longest_key};
+ghost use Rattle.mc_protocol.specs.Commands.{key_of, longest_key};
 ghost use Rattle.mc_protocol.specs.Plain.{charge, block_need, has_room, keeps_chunk, written_block, CopiesBlock};
-ghost use Rattle.mc_command.specs.Steps.{Ends, Prepares, IsReady, StaysIn, needs_this, same_needs};
-ghost use Rattle.mc_command.specs.Steps.{number_in, block_in, found, drafting, writing, rewritten, placed, done};
+ghost use Rattle.mc_command.specs.Steps.{Ends, Prepares, IsReady, StaysIn, WritesItem, needs_this, same_needs};
+ghost use Rattle.mc_command.specs.Steps.{applied, number_in, block_in, found, writing, rewritten, placed, done};
 
 use crate::plain::PlainStore;
-use crate::plain::item::{LentWrite, PlainItem, Written, lend_write};
+use crate::plain::item::{LentWrite, PlainItem, Written, halves};
 use itoa::Buffer;
-use mc_protocol::{Body, Draft, Reply, StepFault};
+use mc_protocol::{Body, KeyStep, Reply, Row, StepFault};
 use mc_slab::Need;
 use mc_time::Moment;
 use std::alloc::{AllocError, Global};
@@ -38,24 +38,40 @@ pub(crate) enum CheckedWrite {
 }
 
 impl PlainStore {
-    /// Writes what a row drafts, from the step's block and the present item, and returns the reply.
+    /// Writes the item of a row, from the step's block and the present item, and returns the reply.
     pub(super) fn write(
         &mut self,
         alloc: Global,
-        key: &[u8],
-        block: &[u8],
-        draft: Draft,
+        row: Row,
+        step: &KeyStep<'_>,
         now: Moment,
     ) -> Result<Reply, StepFault>
-        requires { length key.now ≤ longest_key }
-        ensures { Ends (drafting draft key.now block.now self.old now) result self.old self.new }
+        requires row { WritesItem row }
+        requires key { length (key_of step.now) ≤ longest_key }
+        ensures { Ends (applied row step.now self.old now) result self.old self.new }
     {
+        let Row::Writes {
+            flags,
+            expiry,
+            body,
+        } = row
+        else {
+            // Every other row writes nothing, and this call requires that it writes.
+            unreachable!();
+        };
+        let key = step.key();
         let mut buffer = Buffer::new();
-        let digits = buffer.format(number_in(draft.body)).as_bytes();
+        let digits = buffer.format(number_in(body)).as_bytes();
         let item = self.standing_item(key, now);
-        let write = lend_write(draft, block, block_in(item), digits);
-        let stays = stays(draft.body, key, item, &write);
-        let reply = draft.body.reply();
+        let (front, back) = halves(body, step.block(), block_in(item), digits);
+        let write = LentWrite {
+            flags,
+            expiry,
+            front,
+            back,
+        };
+        let stays = stays(body, key, item, &write);
+        let reply = body.reply();
         let next = self.prepare(alloc, key, &write, Effect { stays, reply }, now)?;
         self.finish(alloc, key, next, now)
     }
