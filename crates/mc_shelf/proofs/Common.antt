@@ -15,7 +15,6 @@ pub use Rattle.mc_protocol.specs.declared.reply.Reply.{Reply}
 pub use Rattle.mc_protocol.specs.declared.reply.Reply.TheVariants.{Deleted, Flushed, NoChunk, TooLarge, Touched}
 pub use Rattle.mc_protocol.specs.declared.row.Body.{Body}
 pub use Rattle.mc_protocol.specs.declared.row.Body.TheVariants.{Appended, Counted, Given, Prepended}
-pub use Rattle.mc_protocol.specs.declared.row.Draft.{Draft}
 pub use Rattle.mc_protocol.specs.declared.row.Row.{Row}
 pub use Rattle.mc_protocol.specs.declared.row.Row.TheVariants.{Deletes, Reads, Refuses, Touches, Writes}
 pub use Rattle.mc_protocol.specs.declared.step.KeyStep.{KeyStep}
@@ -28,10 +27,10 @@ pub use Rattle.mc_shelf.specs.KeyMaps.{entries_in, EntriesAreKeyed, EntryMap, ha
 pub use Rattle.mc_shelf.specs.Numbers.{HasPlaces, KeysAreCounted}
 pub use Rattle.mc_shelf.specs.Parts.{ArePartsOf, GoesByStep, GoesTo, IsDeskOf, IsShelfOf, shelf_of}
 pub use Rattle.mc_shelf.specs.Places.{entries_of, hashes_of, IsKeyAt, IsKeyFound, ItemIsChanged, items_of, KeyComes, KeyGoes}
-pub use Rattle.mc_shelf.specs.Plans.{answered, back_at, block_beside, block_in, CanWrite, counts, dead_chunks, drafted, gives_way, GivesBack, GoesOver, has_need, is_gone, IsDropped, IsKnown}
-pub use Rattle.mc_shelf.specs.Plans.{IsOut, IsPut, IsSpent, item_in, made_block, NeedsPages, next_by, next_of, PlanIsSettled, row_at, StepTaken, stood, wants_desk, WantsDesk}
-pub use Rattle.mc_shelf.specs.Plans.{with_item}
-pub use Rattle.mc_shelf.specs.States.{CanStandAt, charge_in, DeskState, EntryState, Hashes, IsHash, nothing_held, parts_of, ShelfContent, ShelfState, StandsAt}
+pub use Rattle.mc_shelf.specs.Plans.{answered, back_at, block_beside, block_in, CanWrite, counts, dead_chunks, gives_way, GivesBack, GoesOver, has_need, is_gone, IsDropped, IsKnown}
+pub use Rattle.mc_shelf.specs.Plans.{IsOut, IsPut, IsSpent, item_in, item_of, left_of, made_block, NeedsPages, next_by, next_of, PlanIsSettled, row_at, StepTaken, stood, wants_desk, WantsDesk}
+pub use Rattle.mc_shelf.specs.Plans.{with_item, written_next}
+pub use Rattle.mc_shelf.specs.States.{CanStandAt, DeskState, EntryState, Hashes, IsHash, nothing_held, parts_of, ShelfContent, ShelfState, StandsAt}
 pub use Rattle.mc_shelf.specs.Stores.{FewMoveAt, NoneRises}
 pub use Rattle.mc_shelf.specs.Sweeps.{count_among, GivesFor, IsPurged}
 pub use Rattle.mc_shelf.specs.Unions.{lefts, plain_of}

@@ -1,6 +1,6 @@
 -- Which plans need the desk: those of a step that drops an item, writes one, finds no chunk, or finds the numbers spent.
-use Rattle.mc_shelf.proofs.Common.{◌&&◌, ◌+◌, ◌-◌, ◌^◌, ◌↔◌, ◌∙◌, ◌≡◌, ◌≢◌, ◌≤◌, ◌⊎◌, Action, Answer, Answered, answered, ap, arith, block_need, Bool, CanStandAt, charge, cond_both, Deletes}
-use Rattle.mc_shelf.proofs.Common.{DeskState, Discard, Draft, Entry, eqb, Err, Expire, Expiry, false, full_fault, get, has_room_with, hit_of, if◌then◌else◌, inl, inr, is_gone, is_none}
+use Rattle.mc_shelf.proofs.Common.{◌&&◌, ◌+◌, ◌-◌, ◌^◌, ◌↔◌, ◌∙◌, ◌≡◌, ◌≢◌, ◌≤◌, ◌⊎◌, Action, Answer, Answered, answered, ap, arith, block_need, Body, Bool, CanStandAt, charge, cond_both, Deletes}
+use Rattle.mc_shelf.proofs.Common.{DeskState, Discard, Entry, eqb, Err, Expire, Expiry, false, full_fault, get, has_room_with, hit_of, if◌then◌else◌, inl, inr, is_gone, is_none}
 use Rattle.mc_shelf.proofs.Common.{is_some, IsOnKey, keeps_chunk, key_of, KeyStep, Left, le-ltb, List, ltb, NeedState, next_by, next_of, NoChunk, None, none-some, Option, out_of, Outcome}
 use Rattle.mc_shelf.proofs.Common.{pages_of, Plain, plain, Reads, refl, refusal_reply, Refuses, Reply, Result, Row, row_at, ShelfContent, SlabState, Some, Spent, StandsAt, stood, subst, sym}
 use Rattle.mc_shelf.proofs.Common.{TakeFault, TellsFull, TooLarge, Touches, true, true≢false, wants_desk, WantsDesk, WantsPages, with_chunk, Write, write_reply, Writes, written, ℕ}
@@ -40,8 +40,8 @@ next_tells dead greatest step item (Reads None) = answered_tells dead (hit_of it
 next_tells dead greatest step item (Reads (Some expiry)) = hit_apart item
 next_tells dead greatest step item (Touches expiry) = λ e. cc
 next_tells dead greatest step item Deletes = tt
-next_tells dead greatest step item (Writes draft) =
-    cond_both (ltb greatest (charge_of step item draft)) (answered dead TooLarge) (Write (charge_of step item draft) draft) Tells (λ _. answered_tells dead TooLarge (λ e. cc)) (λ _. tt)
+next_tells dead greatest step item (Writes flags expiry body) =
+    cond_both (ltb greatest (charge_of step item body)) (answered dead TooLarge) (Write (charge_of step item body) flags expiry body) Tells (λ _. answered_tells dead TooLarge (λ e. cc)) (λ _. tt)
 
 -- ---- a write
 
@@ -70,31 +70,31 @@ module _ (shelf : ShelfContent) (desk : DeskState) (step : KeyStep) (now : ℕ) 
       let d = does (Discard reply) is in
       subst (NeedsDesk its_key s) (sym d.2) (inr (inr ((λ none. none-some d.0 (sym none ∙ at.item ∙ d.1)), get_gone s.items its_key)))
 
-  write_needs : (size : ℕ) (draft : Draft) → Write size draft ≡ next_of shelf step now → NeedsDesk its_key s (plain s step now)
-  write_needs size draft is =
-      let d = does (Write size draft) is in
-      let block = block_at shelf step now draft in
+  write_needs : (size flags : ℕ) (expiry : Expiry) (body : Body) → Write size flags expiry body ≡ next_of shelf step now → NeedsDesk its_key s (plain s step now)
+  write_needs size flags expiry body is =
+      let d = does (Write size flags expiry body) is in
+      let block = block_at shelf step now body in
       let under = found_in shelf step now s in
       let need = block_need its_key block in
       let fits : ltb s.greatest (charge its_key block) ≡ false = le-ltb s.greatest (charge its_key block) (rw at.greatest (subst (λ (n : ℕ). n ≤ shelf.greatest) d.1.size_is d.1.fits)) in
       subst (NeedsDesk its_key s)
-      (sym (d.0 ∙ ap (λ (b : Bool). if b then Answered TooLarge under else small draft block under) fits))
-      (wrote_needs its_key s (eqb s.next_unique (2 ^ 64 - 1)) (keeps_chunk draft.body its_key (stood shelf step now)) (plain_has_room under need) (write_reply draft.body) under
-      (written under its_key draft.flags draft.expiry block now) (written (with_chunk under need) its_key draft.flags draft.expiry block now) (one_more s.next_unique) (one_more s.next_unique))
+      (sym (d.0 ∙ ap (λ (b : Bool). if b then Answered TooLarge under else small flags expiry body block under) fits))
+      (wrote_needs its_key s (eqb s.next_unique (2 ^ 64 - 1)) (keeps_chunk body its_key (stood shelf step now)) (plain_has_room under need) (write_reply body) under
+      (written under its_key flags expiry block now) (written (with_chunk under need) its_key flags expiry block now) (one_more s.next_unique) (one_more s.next_unique))
     where
-      small : Draft → List ℕ → Plain → Outcome
-      small draft block under =
+      small : ℕ → Expiry → Body → List ℕ → Plain → Outcome
+      small flags expiry body block under =
           if eqb s.next_unique (2 ^ 64 - 1) then Spent
-          else if keeps_chunk draft.body its_key (stood shelf step now) then Answered (write_reply draft.body) (written under its_key draft.flags draft.expiry block now)
-          else if plain_has_room under (block_need its_key block) then Answered (write_reply draft.body)
-          (written (with_chunk under (block_need its_key block)) its_key draft.flags draft.expiry block now)
+          else if keeps_chunk body its_key (stood shelf step now) then Answered (write_reply body) (written under its_key flags expiry block now)
+          else if plain_has_room under (block_need its_key block) then Answered (write_reply body)
+          (written (with_chunk under (block_need its_key block)) its_key flags expiry block now)
           else Answered NoChunk under
 
   -- where it is wanted, it is needed
   pub wanted_needs : (next : Action) → next ≡ next_of shelf step now → wants_desk next ≡ true → NeedsDesk its_key s (plain s step now)
   wanted_needs (Discard reply) is e = discard_needs reply is
-  wanted_needs (Write size draft) is e = write_needs size draft is
-  wanted_needs (Left unique chunks draft) is e = absurd (does (Left unique chunks draft) is)
+  wanted_needs (Write size flags expiry body) is e = write_needs size flags expiry body is
+  wanted_needs (Left unique chunks flags expiry body) is e = absurd (does (Left unique chunks flags expiry body) is)
   wanted_needs next is e = absurd (true≢false (sym e))
 
   -- an item that was found is still there

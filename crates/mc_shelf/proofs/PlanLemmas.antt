@@ -1,6 +1,6 @@
 -- What the plan of a step says of the plain machine at the key.
 use Rattle.mc_shelf.proofs.Common.{◌&&◌, ◌∙◌, ◌≡◌, ◌≤◌, Action, alive, Answer, Answered, answered, ap, Appended, block_in, block_of, Body, changed, charge, cond_both, Deleted, Deletes}
-use Rattle.mc_shelf.proofs.Common.{DeskState, Discard, Draft, Entry, Expire, expiring, Expiry, false, get, Given, hit_of, if◌then◌else◌, insert, is_dead, is_gone, is_none, is_some, IsOnKey}
+use Rattle.mc_shelf.proofs.Common.{DeskState, Discard, Entry, Expire, expiring, Expiry, false, get, Given, hit_of, if◌then◌else◌, insert, is_dead, is_gone, is_none, is_some, IsOnKey}
 use Rattle.mc_shelf.proofs.Common.{keeps_chunk, key_of, KeyStep, Left, List, ltb, ltb-false, ltb-true, made_block, next_by, next_of, None, Option, Outcome, Plain, Prepended, Reads, refl}
 use Rattle.mc_shelf.proofs.Common.{refusal_reply, Refuses, remove, Reply, Row, row_at, row_of, ShelfContent, Some, StandsAt, stood, subst, sym, TooLarge, Touched, Touches, true, true≢false}
 use Rattle.mc_shelf.proofs.Common.{Write, write_reply, Writes, written_block, wrote, ℕ}
@@ -14,7 +14,7 @@ use Rattle.mc_shelf.proofs.StandLemmas.{base, wrote_too_large}
 -- a row that reads, touches or deletes has an item, and one that writes where none stands writes the step's own block
 abbrev pub SpeaksOf : Option Entry → Row → Type 0
 SpeaksOf stands (Refuses refusal) = Unit {0}
-SpeaksOf stands (Writes draft) = stands ≡ None → draft.body ≡ Given
+SpeaksOf stands (Writes flags expiry body) = stands ≡ None → body ≡ Given
 SpeaksOf stands row = (item : Entry) × (stands ≡ Some item)
 
 absent_speaks : (does : Absent) → SpeaksOf None (absent_row does)
@@ -23,7 +23,7 @@ absent_speaks (Stores flags expiry) = λ e. refl
 
 present_speaks : (old : Entry) (row : Row) → SpeaksOf (Some old) row
 present_speaks old (Refuses why) = tt
-present_speaks old (Writes draft) = λ e. cc
+present_speaks old (Writes flags expiry body) = λ e. cc
 present_speaks old row = (old, refl)
 
 pub row_speaks : (step : KeyStep) (now : ℕ) (stands : Option Entry) → SpeaksOf stands (row_of step now stands)
@@ -58,18 +58,18 @@ made_beside cut now found body block own =
 abbrev pub found_in : ShelfContent → KeyStep → ℕ → Plain → Plain
 found_in shelf step now s = record s { items = base (stood shelf step now) (key_of step) s.items }
 
-abbrev pub block_at : ShelfContent → KeyStep → ℕ → Draft → List ℕ
-block_at shelf step now draft = written_block draft.body (block_of step) (stood shelf step now)
+abbrev pub block_at : ShelfContent → KeyStep → ℕ → Body → List ℕ
+block_at shelf step now body = written_block body (block_of step) (stood shelf step now)
 
-abbrev pub wrote_at : ShelfContent → KeyStep → ℕ → Draft → Plain → Outcome
-wrote_at shelf step now draft s =
-    wrote (keeps_chunk draft.body (key_of step) (stood shelf step now)) (write_reply draft.body) (key_of step) draft.flags draft.expiry (block_at shelf step now draft) (found_in shelf step now s) now
+abbrev pub wrote_at : ShelfContent → KeyStep → ℕ → (flags : ℕ) → Expiry → Body → Plain → Outcome
+wrote_at shelf step now flags expiry body s =
+    wrote (keeps_chunk body (key_of step) (stood shelf step now)) (write_reply body) (key_of step) flags expiry (block_at shelf step now body) (found_in shelf step now s) now
 
--- what a draft that comes next says
-pub record IsDrafted (shelf : ShelfContent) (step : KeyStep) (now size : ℕ) (draft : Draft) : Type 0 where
-  pub size_is : size ≡ charge (key_of step) (block_at shelf step now draft)
+-- what a write that comes next says of its size and its body
+pub record IsSized (shelf : ShelfContent) (step : KeyStep) (now size : ℕ) (body : Body) : Type 0 where
+  pub size_is : size ≡ charge (key_of step) (block_at shelf step now body)
   pub fits : size ≤ shelf.greatest
-  pub given : stood shelf step now ≡ None → draft.body ≡ Given
+  pub given : stood shelf step now ≡ None → body ≡ Given
 
 module _ (shelf : ShelfContent) (step : KeyStep) (now : ℕ) where
   abbrev found : Option Entry
@@ -83,8 +83,8 @@ module _ (shelf : ShelfContent) (step : KeyStep) (now : ℕ) where
   Does s outcome (Answer reply) = (outcome ≡ Answered reply (found_in shelf step now s)) × (is_gone shelf.cut now found ≡ false)
   Does s outcome (Expire expiry reply) = (item : Entry) × (stands ≡ Some item) × (outcome ≡ Answered reply (record s { items = insert s.items (key_of step) (record item { expiry = expiry }) }))
   Does s outcome (Discard reply) = (old : Entry) × (found ≡ Some old) × (outcome ≡ Answered reply (record s { items = remove s.items (key_of step) }))
-  Does s outcome (Write size draft) = (outcome ≡ wrote_at shelf step now draft s) × IsDrafted shelf step now size draft
-  Does s outcome (Left unique chunks draft) = ⊥
+  Does s outcome (Write size flags expiry body) = (outcome ≡ wrote_at shelf step now flags expiry body s) × IsSized shelf step now size body
+  Does s outcome (Left unique chunks flags expiry body) = ⊥
 
   -- a dead item was found, and none stands
   pub dead_found : (f st : Option Entry) → is_some f && is_none st ≡ true → ((old : Entry) × (f ≡ Some old)) × (st ≡ None)
@@ -102,14 +102,14 @@ module _ (shelf : ShelfContent) (step : KeyStep) (now : ℕ) where
       → Does s (Answered reply (expiring stands (key_of step) expiry (found_in shelf step now s))) (Expire expiry reply)
   expires_does s expiry reply there = (there.0, there.1, ap (λ (o : Option Entry). Answered reply (expiring o (key_of step) expiry (record s { items = base o (key_of step) s.items }))) there.1)
 
-  writes_does : (s : Plain) → s.greatest ≡ shelf.greatest → (draft : Draft) → (stands ≡ None → draft.body ≡ Given)
-      → Does s (wrote_at shelf step now draft s) (next_by (is_gone shelf.cut now found) shelf.greatest step stands (Writes draft))
-  writes_does s same draft given =
-      let size = charge_of step stands draft in
-      cond_both (ltb shelf.greatest size) (answered (is_gone shelf.cut now found) TooLarge) (Write size draft) (λ next. Does s (wrote_at shelf step now draft s) next)
-      (λ large. answered_does s (wrote_at shelf step now draft s) TooLarge
-      (wrote_too_large (write_reply draft.body) (key_of step) draft.flags draft.expiry (block_at shelf step now draft) (found_in shelf step now s) now
-      (keeps_chunk draft.body (key_of step) stands) (rw same (ltb-true shelf.greatest size large))))
+  writes_does : (s : Plain) → s.greatest ≡ shelf.greatest → (flags : ℕ) (expiry : Expiry) (body : Body) → (stands ≡ None → body ≡ Given)
+      → Does s (wrote_at shelf step now flags expiry body s) (next_by (is_gone shelf.cut now found) shelf.greatest step stands (Writes flags expiry body))
+  writes_does s same flags expiry body given =
+      let size = charge_of step stands body in
+      cond_both (ltb shelf.greatest size) (answered (is_gone shelf.cut now found) TooLarge) (Write size flags expiry body) (λ next. Does s (wrote_at shelf step now flags expiry body s) next)
+      (λ large. answered_does s (wrote_at shelf step now flags expiry body s) TooLarge
+      (wrote_too_large (write_reply body) (key_of step) flags expiry (block_at shelf step now body) (found_in shelf step now s) now
+      (keeps_chunk body (key_of step) stands) (rw same (ltb-true shelf.greatest size large))))
       (λ fits. (refl, record { size_is = refl; fits = ltb-false shelf.greatest size fits; given = given }))
 
   pub row_does : (s : Plain) → s.greatest ≡ shelf.greatest → (row : Row) → SpeaksOf stands row
@@ -120,7 +120,7 @@ module _ (shelf : ShelfContent) (step : KeyStep) (now : ℕ) where
   row_does s same (Touches expiry) speaks = expires_does s expiry Touched speaks
   row_does s same Deletes speaks =
       (speaks.0, alive_found shelf.cut now found speaks.0 speaks.1, ap (λ (o : Option Entry). Answered Deleted (record s { items = remove (base o (key_of step) s.items) (key_of step) })) speaks.1)
-  row_does s same (Writes draft) speaks = writes_does s same draft speaks
+  row_does s same (Writes flags expiry body) speaks = writes_does s same flags expiry body speaks
 
   -- what the plain machine does, by what comes next
   pub next_does : (desk : DeskState) (s : Plain) → IsOnKey step → StandsAt (key_of step) shelf desk s → (outcome : Outcome)

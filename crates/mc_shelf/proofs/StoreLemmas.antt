@@ -60,9 +60,9 @@ not_written large spent x y fits none = cond-false large x (cond spent Spent y) 
 
 changed_spent : (row : Row) (step : KeyStep) (item : Option Entry) (a b : Plain) (now : ℕ) → a.greatest ≡ b.greatest → a.next_unique ≡ b.next_unique
     → changed row step item a now ≡ Spent → changed row step item b now ≡ Spent
-changed_spent (Writes draft) step item a b now greatest number is =
-    let size = charge (key_of step) (written_block draft.body (block_of step) item) in
-    let so = write_spent (ltb a.greatest size) (eqb a.next_unique (2 ^ 64 - 1)) (keeps_chunk draft.body (key_of step) item) (has_room a (need_for size)) _ _ _ _ _ _ _ _ is in
+changed_spent (Writes flags expiry body) step item a b now greatest number is =
+    let size = charge (key_of step) (written_block body (block_of step) item) in
+    let so = write_spent (ltb a.greatest size) (eqb a.next_unique (2 ^ 64 - 1)) (keeps_chunk body (key_of step) item) (has_room a (need_for size)) _ _ _ _ _ _ _ _ is in
     let fits : ltb b.greatest size ≡ false = ap (λ n. ltb n size) (sym greatest) ∙ so.0 in
     let none : eqb b.next_unique (2 ^ 64 - 1) ≡ true = ap (λ n. eqb n (2 ^ 64 - 1)) (sym number) ∙ so.1 in
     not_written (ltb b.greatest size) (eqb b.next_unique (2 ^ 64 - 1)) _ _ fits none

@@ -8,7 +8,6 @@ use Rattle.mc_protocol.specs.declared.reply.Reply.{Reply}
 use Rattle.mc_protocol.specs.declared.reply.Reply.TheVariants.{Touched, Deleted, TooLarge, NoChunk}
 use Rattle.mc_protocol.specs.declared.row.Row.{Row}
 use Rattle.mc_protocol.specs.declared.row.Row.TheVariants.{Refuses, Reads, Touches, Deletes, Writes}
-use Rattle.mc_protocol.specs.declared.row.Draft.{Draft}
 use Rattle.mc_protocol.specs.declared.row.Body.{Body}
 use Rattle.mc_protocol.specs.declared.row.Body.TheVariants.{Given, Appended, Prepended, Counted}
 use Rattle.mc_protocol.specs.Rows.{standing_in}
@@ -16,7 +15,7 @@ use Rattle.mc_slab.specs.Classes.{IsClass}
 use Rattle.mc_slab.specs.Needs.{NeedState, IsNeed, need_for, same_need}
 use Rattle.mc_slab.specs.Chunks.{ChunksState, need_in}
 use Rattle.mc_slab.specs.Slabs as slabs
-use Rattle.mc_slab.specs.Slabs.{IsSlab, SlabState, WantsPages, out_of, has_room_with, made_ready, taken}
+use Rattle.mc_slab.specs.Slabs.{IsSlab, SlabState, WantsPages, out_of, has_room_with}
 use Rattle.mc_protocol.specs.Commands.{key_of, longest_key}
 use Rattle.mc_protocol.specs.Plain.{Plain, Entry, Outcome, Answered, Spent, MayFail, plain, charge, item_need, alive, hit_of, refusal_reply, block_of, written_block, write_reply, row_of}
 use Rattle.mc_protocol.specs.Laws.{IsOnKey, of_class}
@@ -48,9 +47,9 @@ made_block Appended block old = old ++ block
 made_block Prepended block old = block ++ old
 made_block (Counted number) block old = decimal number
 
--- the charge of what a draft puts under a step's key
-abbrev pub charge_of : KeyStep → Option Entry → Draft → ℕ
-charge_of step item draft = charge (key_of step) (written_block draft.body (block_of step) item)
+-- the charge of what a body puts under a step's key
+abbrev pub charge_of : KeyStep → Option Entry → Body → ℕ
+charge_of step item body = charge (key_of step) (written_block body (block_of step) item)
 
 -- what comes next of a row: a write is too large if its charge is above the greatest
 abbrev pub next_by : (dead : Bool) → (greatest : ℕ) → KeyStep → Option Entry → Row → Action
@@ -59,9 +58,9 @@ next_by dead greatest step item (Reads None) = answered dead (hit_of item)
 next_by dead greatest step item (Reads (Some expiry)) = Expire expiry (hit_of item)
 next_by dead greatest step item (Touches expiry) = Expire expiry Touched
 next_by dead greatest step item Deletes = Discard Deleted
-next_by dead greatest step item (Writes draft) =
-    if nat_lt greatest (charge_of step item draft) then answered dead TooLarge
-    else Write (charge_of step item draft) draft
+next_by dead greatest step item (Writes flags expiry body) =
+    if nat_lt greatest (charge_of step item body) then answered dead TooLarge
+    else Write (charge_of step item body) flags expiry body
 
 -- the item that is found is dead
 abbrev pub is_gone : (cut : Option ℕ) → (now : ℕ) → Option Entry → Bool
@@ -93,12 +92,12 @@ wants_desk next = true
 
 -- it writes
 abbrev pub writes : Action → Bool
-writes (Write size draft) = true
+writes (Write size flags expiry body) = true
 writes next = false
 
 -- it was begun, and its item is still to be written
 abbrev pub is_left : Action → Bool
-is_left (Left unique chunks draft) = true
+is_left (Left unique chunks flags expiry body) = true
 is_left next = false
 
 -- what is known of a key: its hash, if the shelf has the key, and by a place that it has
@@ -140,7 +139,8 @@ back_at shelf key now need = dead_chunks shelf.cut now key (get shelf.items key)
 
 -- a key's item gives way to what comes next
 abbrev pub gives_way_to : Action → ShelfContent → (key : List ℕ) → (now : ℕ) → Bool
-gives_way_to (Write size draft) shelf key now = gives_way shelf.cut now key (get shelf.items key) (need_for size)
+gives_way_to (Write size flags expiry body) shelf key now =
+    gives_way shelf.cut now key (get shelf.items key) (need_for size)
 gives_way_to next shelf key now = false
 
 -- what comes next puts in an entry, if it writes: the key has no item, or one that gives way
@@ -152,8 +152,10 @@ PutsEntry next shelf key now =
 pub record CanWrite (next : Action) (shelf : ShelfContent) (key : List ℕ) (now : ℕ) (desk : DeskState)
     : Type 0 where
   pub size : ℕ
-  pub draft : Draft
-  pub writes_it : next ≡ Write size draft
+  pub flags : ℕ
+  pub expiry : Expiry
+  pub body : Body
+  pub writes_it : next ≡ Write size flags expiry body
   pub number : desk.next_unique ≢ 2 ^ 64 - 1
   pub chunks : has_room_with desk.slab (need_for size) (back_at shelf key now (need_for size)) ≡ true
 
@@ -228,15 +230,15 @@ abbrev pub counts : Body → Bool
 counts (Counted number) = true
 counts body = false
 
--- the item of a draft with this block
-abbrev pub drafted : Draft → (block : List ℕ) → (unique updated : ℕ) → Entry
-drafted draft block unique updated =
-    record { flags = draft.flags; expiry = draft.expiry; block = block; unique = unique; updated = updated }
+-- the item of a write, with this block
+abbrev pub item_of : (flags : ℕ) → Expiry → (block : List ℕ) → (unique updated : ℕ) → Entry
+item_of flags expiry block unique updated =
+    record { flags = flags; expiry = expiry; block = block; unique = unique; updated = updated }
 
--- the block that a draft makes beside the item that a shelf has under the step's key, dead or not
-abbrev pub block_beside : ShelfContent → KeyStep → Draft → List ℕ
-block_beside shelf step draft =
-    made_block draft.body (block_of step) (block_in (get shelf.items (key_of step)))
+-- the block that a body makes beside the item that a shelf has under the step's key, dead or not
+abbrev pub block_beside : ShelfContent → KeyStep → Body → List ℕ
+block_beside shelf step body =
+    made_block body (block_of step) (block_in (get shelf.items (key_of step)))
 
 -- a body whose block may go into the chunks of the key's item: over the block that stands, or behind it
 abbrev pub GoesOver : Body → Type 0
@@ -251,21 +253,21 @@ goes_over Prepended gone need slab = gone
 goes_over body gone need slab = gone || nat_le need.count (slabs.unused slab need.class)
 
 -- a write goes into the chunks of the key's item, which are those that it needs
-pub record GoesInto (plan : Plan) (draft : Draft) (step : KeyStep) (shelf : ShelfContent) (need : NeedState) (slab : SlabState) : Type 0 where
+pub record GoesInto (plan : Plan) (body : Body) (step : KeyStep) (shelf : ShelfContent) (need : NeedState) (slab : SlabState) : Type 0 where
   pub has : has_need (key_of step) (get shelf.items (key_of step)) need ≡ true
-  pub over : goes_over draft.body (is_gone shelf.cut plan.moment (get shelf.items (key_of step))) need slab ≡ true
+  pub over : goes_over body (is_gone shelf.cut plan.moment (get shelf.items (key_of step))) need slab ≡ true
 
 -- it goes into others, before which a dead item gives back so many of their class
-pub record GoesApart (plan : Plan) (draft : Draft) (step : KeyStep) (shelf : ShelfContent) (need : NeedState) (slab : SlabState) (back : ℕ) : Type 0 where
+pub record GoesApart (plan : Plan) (body : Body) (step : KeyStep) (shelf : ShelfContent) (need : NeedState) (slab : SlabState) (back : ℕ) : Type 0 where
   pub other : has_need (key_of step) (get shelf.items (key_of step)) need
-      && goes_over draft.body (is_gone shelf.cut plan.moment (get shelf.items (key_of step))) need slab ≡ false
+      && goes_over body (is_gone shelf.cut plan.moment (get shelf.items (key_of step))) need slab ≡ false
   pub back_is : back ≡ back_at shelf (key_of step) plan.moment need
 
 -- a write that comes next and goes into the chunks of the key's item leaves what the shelf holds until it is finished, unless it
 -- is a number's
 abbrev pub StaysUntil : Plan → Action → KeyStep → (old : ShelfContent) → SlabState → (new : ShelfContent) → Type 0
-StaysUntil plan (Write size draft) step old slab new =
-    counts draft.body ≡ false → GoesInto plan draft step old (need_for size) slab → new ≡ old
+StaysUntil plan (Write size flags expiry body) step old slab new =
+    counts body ≡ false → GoesInto plan body step old (need_for size) slab → new ≡ old
 StaysUntil plan next step old slab new = Unit {0}
 
 -- a shelf after this item came under a key: into chunks that wait for it, and then with a hash, or
@@ -275,14 +277,27 @@ with_item None key own item shelf = record shelf { items = insert shelf.items ke
 with_item (Some chunks) key own item shelf =
     record shelf { items = insert shelf.items key item; hashes = insert shelf.hashes key own }
 
--- a shelf after the item of a plan's draft came under its key, whose block is made beside the item that the shelf has there
-abbrev pub written : Plan → Draft → (unique : ℕ) → Option ChunksState → KeyStep → ShelfContent → ShelfContent
-written plan draft unique chunks step shelf =
-    with_item chunks (key_of step) plan.hash (drafted draft (block_beside shelf step draft) unique plan.moment) shelf
+-- what is left of a write that comes next, with this number and these chunks
+abbrev pub left_of : Action → (unique : ℕ) → Option ChunksState → Action
+left_of (Write size flags expiry body) unique chunks = Left unique chunks flags expiry body
+left_of next unique chunks = next
 
--- a shelf after what is left of a step that comes next so was written
+-- the chunks that wait for the item of what is left
+abbrev pub waiting : Action → Option ChunksState
+waiting (Left unique chunks flags expiry body) = chunks
+waiting next = None
+
+-- what is left writes the step's own block
+abbrev pub IsGiven : Action → Type 0
+IsGiven (Left unique chunks flags expiry body) = body ≡ Given
+IsGiven next = ⊥
+
+-- a shelf after a write that is left was done: its item came under the key, and its block is made beside
+-- the item that stood there
 abbrev pub written_next : Plan → Action → KeyStep → ShelfContent → ShelfContent
-written_next plan (Left unique chunks draft) step shelf = written plan draft unique chunks step shelf
+written_next plan (Left unique chunks flags expiry body) step shelf =
+    with_item chunks (key_of step) plan.hash
+    (item_of flags expiry (block_beside shelf step body) unique plan.moment) shelf
 written_next plan next step shelf = shelf
 
 -- a shelf after a plan that was begun is finished
@@ -294,8 +309,8 @@ abbrev pub told_next : Action → Reply
 told_next (Answer reply) = reply
 told_next (Expire expiry reply) = reply
 told_next (Discard reply) = reply
-told_next (Write size draft) = write_reply draft.body
-told_next (Left unique chunks draft) = write_reply draft.body
+told_next (Write size flags expiry body) = write_reply body
+told_next (Left unique chunks flags expiry body) = write_reply body
 
 -- chunks are those that a key and a block need
 pub record Suits (chunks : ChunksState) (key block : List ℕ) : Type 0 where
@@ -321,11 +336,10 @@ ChunksAreReady None body key block shelf = GoesOver body × LiesInNeed key block
 ChunksAreReady (Some chunks) body key block shelf = AreChunksFor chunks key block shelf
 
 -- the entry that stood under a key, where it had this item, and that others' chunks replaced: none
--- where it had none, or where no chunks waited
-abbrev pub StoodBefore : Option ChunksState → (key : List ℕ) → Option Entry → Option EntryState → Type 0
-StoodBefore None key found before = before ≡ None
-StoodBefore (Some chunks) key found None = found ≡ None
-StoodBefore (Some chunks) key found (Some entry) = (entry.key ≡ key) × (found ≡ Some entry.item)
+-- where it had none
+abbrev pub StoodBefore : (key : List ℕ) → Option Entry → Option EntryState → Type 0
+StoodBefore key found None = found ≡ None
+StoodBefore key found (Some entry) = (entry.key ≡ key) × (found ≡ Some entry.item)
 
 -- what is known of a key that may have lost its item since it was looked up: its hash, if the shelf
 -- has the key, and by a place where it may be
@@ -335,23 +349,30 @@ pub record IsSought (shelf : ShelfContent) (key : List ℕ) (own : ℕ) (found :
 
 -- what is left of a write can be done: the key is known, and chunks are ready for what it makes beside
 -- the key's item
-pub record CanWriteBlock (plan : Plan) (draft : Draft) (chunks : Option ChunksState) (step : KeyStep) (shelf : ShelfState) : Type 0
+pub record CanWriteBlock (plan : Plan) (body : Body) (chunks : Option ChunksState) (step : KeyStep) (shelf : ShelfState) : Type 0
   where
     pub short : length (key_of step) ≤ longest_key
     pub sought : IsSought shelf.content (key_of step) plan.hash plan.place
-    pub ready : ChunksAreReady chunks draft.body (key_of step)
-        (block_beside shelf.content step draft) shelf
+    pub ready : ChunksAreReady chunks body (key_of step)
+        (block_beside shelf.content step body) shelf
+
+-- an action is a write that is left, and can be done
+abbrev pub CanWriteLeft : Plan → Action → KeyStep → ShelfState → Type 0
+CanWriteLeft plan (Left unique chunks flags expiry body) step shelf =
+    CanWriteBlock plan body chunks step shelf
+CanWriteLeft plan next step shelf = ⊥
 
 -- a write is left: what is left can be done, and is no number where it goes into the item's own chunks
-pub record IsLeft (plan : Plan) (draft : Draft) (chunks : Option ChunksState) (step : KeyStep) (shelf : ShelfState) : Type 0
+pub record IsLeft (plan : Plan) (body : Body) (chunks : Option ChunksState) (step : KeyStep) (shelf : ShelfState) : Type 0
   where
-    pub can : CanWriteBlock plan draft chunks step shelf
-    pub own : chunks ≡ None → counts draft.body ≡ false
+    pub can : CanWriteBlock plan body chunks step shelf
+    pub own : chunks ≡ None → counts body ≡ false
 
 -- what is left of a step that comes next so can be done: it is begun if it writes, and then chunks are ready
 abbrev pub CanWriteNext : Plan → Action → KeyStep → ShelfState → Type 0
-CanWriteNext plan (Write size draft) step shelf = ⊥
-CanWriteNext plan (Left unique chunks draft) step shelf = IsLeft plan draft chunks step shelf
+CanWriteNext plan (Write size flags expiry body) step shelf = ⊥
+CanWriteNext plan (Left unique chunks flags expiry body) step shelf =
+    IsLeft plan body chunks step shelf
 CanWriteNext plan next step shelf = Unit {0}
 
 -- a plan that was begun can be finished
@@ -372,7 +393,8 @@ left_behind body own need = None
 -- the chunks for which others may be brought in exchange: pages of the key's item, out of which a
 -- join copies
 abbrev pub exchange_for : Action → (key : List ℕ) → Option Entry → Option NeedState
-exchange_for (Write size draft) key (Some item) = left_behind draft.body (item_need key item) (need_for size)
+exchange_for (Write size flags expiry body) key (Some item) =
+    left_behind body (item_need key item) (need_for size)
 exchange_for next key found = None
 
 -- what need chunks serve, where there are some
@@ -386,15 +408,6 @@ IsOut key shelf desk =
     (item : Entry) → get shelf.items key ≡ Some item
     → IsClass (item_need key item).class
     → (item_need key item).count ≤ out_of desk.slab (item_need key item).class
-
--- the item of a write can be put under its key, which may have lost its item since it was looked up: there is room for a new
--- key's entry, and the chunks of the key's item are out
-pub record CanPut (plan : Plan) (step : KeyStep) (shelf : ShelfState) (desk : DeskState) : Type 0
-  where
-    pub short : length (key_of step) ≤ longest_key
-    pub sought : IsSought shelf.content (key_of step) plan.hash plan.place
-    pub room : get shelf.content.items (key_of step) ≡ None → 1 ≤ shelf.room
-    pub out : IsOut (key_of step) shelf.content desk
 
 -- the chunks of an item go back to a desk's slab
 pub record GivesChunks (need : NeedState) (old new : DeskState) : Type 0 where
@@ -411,15 +424,6 @@ GivesBack key (Some item) old new = GivesChunks (item_need key item) old new
 abbrev pub drawn : DeskState → DeskState
 drawn desk = record desk { next_unique = desk.next_unique + 1 }
 
--- a desk whose class has the pages that a need wants, once so many chunks came back
-abbrev pub readied : NeedState → (back : ℕ) → DeskState → DeskState
-readied need back desk = record desk { slab = made_ready desk.slab need back }
-
--- a desk after so many chunks of a need's class came back, the need's were taken, and a number was drawn
-abbrev pub way_given : NeedState → (back : ℕ) → DeskState → DeskState
-way_given need back desk =
-    record { slab = taken (slabs.given desk.slab need.class back) need; next_unique = desk.next_unique + 1 }
-
 -- the numbers that writes draw are spent
 abbrev pub has_no_number : DeskState → Type 0
 has_no_number desk = desk.next_unique ≡ 2 ^ 64 - 1
@@ -429,8 +433,10 @@ has_no_number desk = desk.next_unique ≡ 2 ^ 64 - 1
 pub record NeedsPages (next : Action) (shelf : ShelfContent) (key : List ℕ) (now : ℕ) (desk : DeskState)
     : Type 0 where
   pub size : ℕ
-  pub draft : Draft
-  pub writes_it : next ≡ Write size draft
+  pub flags : ℕ
+  pub expiry : Expiry
+  pub body : Body
+  pub writes_it : next ≡ Write size flags expiry body
   pub number : has_no_number desk → ⊥
   pub pages : WantsPages desk.slab (need_for size) (back_at shelf key now (need_for size))
 

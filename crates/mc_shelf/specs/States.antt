@@ -1,12 +1,12 @@
 -- What contracts see of an entry, a shelf and a desk.
-use Rattle.std.specs.Prelude.{◌≡◌, ℕ, Bool, List, ◌++◌, Option, Some, None, refl}
+use Rattle.std.specs.Prelude.{◌≡◌, ℕ, Bool, List, Option, Some, None, refl}
 use Rattle.std.specs.Coded.{Coded, code_by, coded×, coded_ℕ, coded_bool, coded_list, coded_option}
 use Rattle.std.specs.Ordering.{nat_cmp}
 use Rattle.std.specs.Cmp.Lexicographic.{slice_cmp}
 use Rattle.std.specs.FinMap.{FinMap, get, empty, code}
 use Rattle.mc_slab.specs.Slabs.{SlabState, coded_slab, out_of}
 use Rattle.mc_slab.specs.Classes.{IsClass}
-use Rattle.mc_protocol.specs.Plain.{Items, Entry, coded_entry, Plain, charge, count_of, item_need}
+use Rattle.mc_protocol.specs.Plain.{Items, Entry, coded_entry, Plain, count_of, item_need}
 use Rattle.mc_item.specs.Items as items
 use Rattle.mc_item.specs.Items.{ItemState}
 use Rattle.mc_item.specs.declared.item.Parts.{Parts}
@@ -45,28 +45,7 @@ stored key item = record {
 abbrev pub parts_of : (key : List ℕ) → Entry → List (List ℕ)
 parts_of key item = items.parts_of (stored key item)
 
--- the block of parts, and their charge
-abbrev pub block_in : Parts → List ℕ
-block_in parts = parts.first.now ++ parts.second.now
-
-abbrev pub charge_in : Parts → ℕ
-charge_in parts = charge parts.key.now (block_in parts)
-
--- the entry of parts
-abbrev pub entry_in : (hash : ℕ) → Parts → EntryState
-entry_in hash parts = record {
-  hash = hash;
-  key = parts.key.now;
-  item = record {
-    flags = parts.flags;
-    expiry = parts.expiry;
-    block = block_in parts;
-    unique = parts.unique;
-    updated = parts.updated;
-  };
-}
-
--- the entry of parts with this block in place of theirs
+-- the entry of parts with this block
 abbrev pub entry_with : Parts → (block : List ℕ) → EntryState
 entry_with parts block = record {
   hash = parts.hash;

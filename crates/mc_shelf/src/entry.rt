@@ -1,17 +1,17 @@
 //! An item as an entry of an index.
 
-ghost use Rattle.std.specs.Prelude.{◌≡◌, ◌+◌, ◌<◌, ◌≤◌, ◌++◌, [], length, drop, slice_get, Some, IfSome, OnOk, OnErr};
+ghost use Rattle.std.specs.Prelude.{◌≡◌, ◌+◌, ◌<◌, ◌≤◌, ◌++◌, length, drop, slice_get, Some, IfSome, OnOk, OnErr};
 ghost use Rattle.std.specs.List.{concat, list_all};
 ghost use Rattle.mc_slab.specs.Needs.{IsNeed, need_for};
 ghost use Rattle.mc_slab.specs.Chunks.{need_in, with_part, largest_block};
 ghost use Rattle.mc_protocol.specs.Words.{is_space};
 ghost use Rattle.mc_protocol.specs.Plain.{charge, item_need, number_of};
-ghost use Rattle.mc_shelf.specs.States.{charge_in, entry_in, entry_with, parts_of};
+ghost use Rattle.mc_shelf.specs.States.{entry_with, parts_of};
 
 use mc_bytes::Lent;
 use mc_hop::Keyed;
 use mc_item::{Item, Parts};
-use mc_protocol::{Standing, number_of};
+use mc_protocol::{Bytes, Standing, number_of};
 use mc_slab::{Chunks, Need};
 use mc_time::{Expiry, Moment};
 use std::alloc::AllocError;
@@ -38,40 +38,75 @@ impl Model for Entry {
     ghost invariant = { λ e. item_need e.item ≡ need_for (charge_of e.item) };
 }
 
+/// Returns the parts of an item without its block.
+#[inline]
+pub(crate) fn bare_parts<'a>(
+    hash: u64,
+    key: &'a [u8],
+    flags: u32,
+    expiry: Expiry,
+    unique: u64,
+    updated: Moment,
+) -> Parts<'a>
+    ensures hash { result.hash ≡ hash }
+    ensures key { result.key.now ≡ key.now }
+    ensures flags { result.flags ≡ flags }
+    ensures expiry { result.expiry ≡ expiry }
+    ensures unique { result.unique ≡ unique }
+    ensures updated { result.updated ≡ updated }
+{
+    Parts {
+        hash,
+        key,
+        first: &[],
+        second: &[],
+        lent: None,
+        flags,
+        expiry,
+        unique,
+        updated,
+    }
+}
+
 impl Entry {
     ghost use Rattle.mc_protocol.specs.Commands.{longest_key};
     ghost use Rattle.mc_item.specs.Items.{header_size};
 
-    /// Writes an item of these parts into chunks, and returns its entry.
+    /// Writes an item of these parts into chunks, with this block, and returns its entry.
     ///
-    /// It copies the key, at most 250 bytes, and the block.
-    pub(crate) fn write(chunks: Chunks, parts: Parts<'_>) -> Entry
-        requires key { length parts.key.now ≤ longest_key }
-        requires need { need_in chunks ≡ need_for (charge_in parts) }
-        requires room { charge_in parts ≤ length chunks.bytes }
-        requires lent { IfSome parts.lent (λ lent.
-            (parts.first.now ≡ []) × (lent.now ≡ parts.second.now)) }
-        ensures { result ≡ entry_in parts.entry.hash parts.entry }
+    /// It copies the key, at most 250 bytes, and the block. That of the parts isn't read.
+    pub(crate) fn write(chunks: Chunks, parts: &Parts<'_>, block: &Bytes<'_>) -> Entry
+        requires key { length parts.now.key.now ≤ longest_key }
+        requires need { need_in chunks ≡ need_for (charge parts.now.key.now block.now) }
+        requires room { charge parts.now.key.now block.now ≤ length chunks.bytes }
+        ensures { result ≡ entry_with parts.now block.now }
     {
         Entry {
-            // a copy: no proof covers a struct of references that is passed on
-            item: Item::write(chunks, Parts { ..parts }),
+            item: Item::write(
+                chunks,
+                Parts {
+                    first: &[],
+                    second: block.as_slice(),
+                    lent: block.lent(),
+                    ..*parts
+                },
+            ),
         }
     }
 
     /// Writes an item of these parts into chunks, with `block_len` unspecified bytes as its block.
     ///
     /// It copies the key, at most 250 bytes.
-    pub(crate) fn begin(chunks: Chunks, head: &Parts<'_>, block_len: usize) -> Entry
-        requires key { length head.now.key.now ≤ longest_key }
+    pub(crate) fn begin(chunks: Chunks, parts: &Parts<'_>, block_len: usize) -> Entry
+        requires key { length parts.now.key.now ≤ longest_key }
         requires need { need_in chunks
-            ≡ need_for (header_size + length head.now.key.now + block_len) }
-        requires room { header_size + length head.now.key.now + block_len ≤ length chunks.bytes }
-        ensures value { result ≡ entry_with head.now result.item.block }
+            ≡ need_for (header_size + length parts.now.key.now + block_len) }
+        requires room { header_size + length parts.now.key.now + block_len ≤ length chunks.bytes }
+        ensures value { result ≡ entry_with parts.now result.item.block }
         ensures length { length result.item.block ≡ block_len }
     {
         Entry {
-            item: Item::begin(chunks, Parts { ..*head }, block_len),
+            item: Item::begin(chunks, Parts { ..*parts }, block_len),
         }
     }
 
@@ -97,37 +132,39 @@ impl Entry {
         self.item.fill_from(at, &other.item);
     }
 
-    /// Writes an item of other parts into its chunks, which must be those that the charge needs.
+    /// Writes an item of other parts into its chunks, with this block. They must be the chunks that
+    /// the charge needs.
     ///
     /// The key is the same, and its hash is unchanged.
-    pub(crate) fn rewrite(&mut self, parts: Parts<'_>)
-        requires key { parts.key.now ≡ self.old.key }
-        requires short { length parts.key.now ≤ longest_key }
-        requires need { need_for (charge_in parts) ≡ item_need self.old.key self.old.item }
-        requires lent { IfSome parts.lent (λ lent.
-            (parts.first.now ≡ []) × (lent.now ≡ parts.second.now)) }
-        ensures { self.new ≡ record self.old { item = (entry_in 0 parts.entry).item } }
+    pub(crate) fn rewrite(&mut self, parts: &Parts<'_>, block: &Bytes<'_>)
+        requires key { parts.now.key.now ≡ self.old.key }
+        requires short { length parts.now.key.now ≤ longest_key }
+        requires need { need_for (charge parts.now.key.now block.now)
+            ≡ item_need self.old.key self.old.item }
+        ensures { self.new ≡ record self.old { item = (entry_with parts.now block.now).item } }
     {
         self.lies_in_need();
         self.item.rewrite(Parts {
             hash: self.item.hash(),
-            ..parts
+            first: &[],
+            second: block.as_slice(),
+            lent: block.lent(),
+            ..*parts
         });
     }
 
     /// Appends bytes to its block in place, and sets flags, expiry, unique number and `updated`.
     ///
     /// Its chunks must be those that the new charge needs. The key and its hash are unchanged.
-    pub(crate) fn extend(&mut self, more: &[u8], head: &Parts<'_>)
+    pub(crate) fn extend(&mut self, more: &[u8], parts: &Parts<'_>)
         requires { item_need self.old.key self.old.item
             ≡ need_for (charge self.old.key (self.old.item.block ++ more.now)) }
         ensures { self.new ≡ record self.old {
-          item = (entry_with head.now (self.old.item.block ++ more.now)).item;
+          item = (entry_with parts.now (self.old.item.block ++ more.now)).item;
         } }
     {
         self.lies_in_need();
-        self.item
-            .extend(more, head.flags, head.expiry, head.unique, head.updated);
+        self.item.extend(more, parts.flags, parts.expiry, parts.unique, parts.updated);
     }
 
     /// Returns when its block was last written.

@@ -78,14 +78,14 @@ impl Shelf {
         ensures { result ≡ exchange_for plan.now.next plan.now.key
             (get self.now.content.items plan.now.key) }
     {
-        let Action::Write(charge, draft) = plan.next else {
+        let Action::Write { charge, body, .. } = plan.next else {
             return None;
         };
-        if !joins(draft.body) {
+        if !joins(body) {
             return None;
         }
         let item = self.planned_entry(plan)?;
-        pages_of_join(draft.body, item.need(), self.need_for(charge))
+        pages_of_join(body, item.need(), self.need_for(charge))
     }
 
     /// Gives the desk chunks in exchange for those of the key's item, if they are of the same need.

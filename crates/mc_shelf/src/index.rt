@@ -19,7 +19,7 @@ ghost use Rattle.mc_shelf.specs.Places.{ItemIsChanged, IsEntryOf, IsKeyAt, IsKey
 ghost use Rattle.mc_shelf.specs.Places.{KeyGoes, KeyComes, entries_of, hashes_of, items_of};
 
 use crate::counts::ShelfCounts;
-use crate::entry::Entry;
+use crate::entry::{Entry, bare_parts};
 use crate::soonest::Soonest;
 use crate::write::write_over;
 pub(crate) use mc_grow::Place;
@@ -200,55 +200,35 @@ impl EntryIndex {
     pub(crate) fn write_over<'a>(
         &mut self,
         place: Place,
-        head: &Parts<'a>,
+        parts: &Parts<'a>,
         body: Body,
         block: &Bytes<'a>,
     )
         requires body { GoesOver body }
-        requires key { IsKeyAt self.old head.now.key.now place }
-        requires short { length head.now.key.now ≤ longest_key }
-        requires need { (at : IsKeyAt self.old head.now.key.now place) →
-            item_need head.now.key.now at.entry.item ≡ need_for (charge head.now.key.now
+        requires key { IsKeyAt self.old parts.now.key.now place }
+        requires short { length parts.now.key.now ≤ longest_key }
+        requires need { (at : IsKeyAt self.old parts.now.key.now place) →
+            item_need parts.now.key.now at.entry.item ≡ need_for (charge parts.now.key.now
             (made_block body block.now at.entry.item.block)) }
-        ensures { (at : IsKeyAt self.old head.now.key.now place) →
-            ItemIsChanged self.old self.new head.now.key.now
-            (entry_with head.now (made_block body block.now at.entry.item.block)).item }
+        ensures { (at : IsKeyAt self.old parts.now.key.now place) →
+            ItemIsChanged self.old self.new parts.now.key.now
+            (entry_with parts.now (made_block body block.now at.entry.item.block)).item }
     {
-        let (hash, key) = (head.hash, head.key);
-        let (flags, expiry) = (head.flags, head.expiry);
-        let (unique, updated) = (head.unique, head.updated);
+        let (hash, key) = (parts.hash, parts.key);
+        let (flags, expiry) = (parts.flags, parts.expiry);
+        let (unique, updated) = (parts.unique, parts.updated);
         self.soonest.note(expiry, updated);
         let bytes = block.as_slice();
         // A closure captures plain references alone, so that its contract is known.
         match block.lent() {
             Some(lent) => self.entries.update(place, |mut entry| {
-                let head = Parts {
-                    hash,
-                    key,
-                    first: &[],
-                    second: &[],
-                    lent: None,
-                    flags,
-                    expiry,
-                    unique,
-                    updated,
-                };
-                write_over(&mut entry, &head, body, &Bytes::of_lent(lent));
+                let parts = bare_parts(hash, key, flags, expiry, unique, updated);
+                write_over(&mut entry, &parts, body, &Bytes::of_lent(lent));
                 (entry, ())
             }),
             None => self.entries.update(place, |mut entry| {
-                let head = Parts {
-                    hash,
-                    key,
-                    first: &[],
-                    second: &[],
-                    lent: None,
-                    flags,
-                    expiry,
-                    unique,
-                    updated,
-                };
-                write_over(&mut entry, &head, body, &Bytes::of(bytes));
+                let parts = bare_parts(hash, key, flags, expiry, unique, updated);
+                write_over(&mut entry, &parts, body, &Bytes::of(bytes));
                 (entry, ())
             }),
         }

@@ -7,12 +7,12 @@
 //! own, and puts them together for one thread; `mc_shared` does so for many.
 //!
 //! A [`Shelf`] is an index of items (`mc_grow`) by their keys, and the pending or past flush. A
-//! [`Desk`] is the slab and the next number. `look` makes a [`Plan`] of a step. A plan that needs
-//! no desk is settled at the shelf, and any other is applied with the desk, in two parts if others
-//! wait for it: `begin` takes chunks and number and notes in the plan what is left, and `finish`
-//! copies that block after the desk was given back. A read lends its item in place ([`Hit`]). A
-//! [`Store`] is the desk and as many shelves as its [`Settings`] give, and takes steps as every
-//! store does (`mc_protocol`'s `Steps`).
+//! [`Desk`] is the slab and the next number. `plan` gives the [`Plan`] of a step, and `make_room`
+//! the room for its entry; `look` is both. A plan that needs no desk is settled at the shelf, and
+//! any other is applied with the desk, in two parts if others wait for it: `begin` takes chunks and
+//! number and notes in the plan what is left, and `finish` copies that block after the desk was
+//! given back. A read lends its item in place ([`Hit`]). A [`Store`] is the desk and as many
+//! shelves as its [`Settings`] give, and takes steps as every store does (`mc_protocol`'s `Steps`).
 //!
 //! By their contracts a shelf and a desk are *parts* of the plain machine's state: a step on one
 //! shelf takes the state to the machine's next, whatever the other shelves hold. The store's

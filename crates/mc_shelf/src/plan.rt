@@ -16,13 +16,13 @@ ghost use Rattle.mc_shelf.specs.declared.plan.Action.TheVariants.{Answer};
 ghost use Rattle.mc_shelf.specs.States.{CanStandAt, DeskState, ShelfContent};
 ghost use Rattle.mc_shelf.specs.Plans as plans;
 ghost use Rattle.mc_shelf.specs.Plans.{IsPlan, WantsDesk, block_in, charge_of, item_in, is_gone, is_left};
-ghost use Rattle.mc_shelf.specs.Plans.{made_block, next_found, wants_desk, writes};
+ghost use Rattle.mc_shelf.specs.Plans.{left_of, made_block, next_found, wants_desk, writes};
 
 use crate::entry::Entry;
 use crate::index::Place;
 use itoa::Buffer;
 use mc_protocol as command;
-use mc_protocol::{Block, Body, Bytes, CHUNK_HEAD, Draft, KeyStep, Reply, Row, Standing};
+use mc_protocol::{Block, Body, Bytes, CHUNK_HEAD, KeyStep, Reply, Row, Standing};
 use mc_slab::Chunks;
 use mc_time::{Expiry, Moment, is_dead};
 use std::alloc::{AllocError, Global};
@@ -37,14 +37,25 @@ pub(crate) enum Action {
     /// The key's item is dropped: it is dead, or deleted.
     Discard(Reply),
     /// An item of this charge is written, if there is a unique number and room for it.
-    Write(u64, Draft),
+    Write {
+        charge: u64,
+        flags: u32,
+        expiry: Expiry,
+        body: Body,
+    },
     /// The item of a write that was begun is still to be written, with this unique number.
     ///
     /// It goes into these chunks, or if there are none into those of the key's item. The block is a
     /// large one of a new key, one of any size that goes over or behind that of the key's item in
     /// its chunks, or one that is joined with it in others. The key's item is then freed with its
     /// own chunks, since the desk got others in exchange.
-    Left(u64, Option<Chunks>, Draft),
+    Left {
+        unique: u64,
+        chunks: Option<Chunks>,
+        flags: u32,
+        expiry: Expiry,
+        body: Body,
+    },
 }
 
 /// What a step does at its key, as a shelf found.
@@ -63,19 +74,6 @@ pub struct Plan<'a> {
 }
 
 impl<'a> Plan<'a> {
-    /// Returns the plan of a step that was taken with this reply.
-    pub fn of(reply: Reply) -> Plan<'a>
-        ensures { result.next ≡ Answer reply }
-    {
-        Plan {
-            key: Bytes::of(&[]),
-            hash: 0,
-            place: None,
-            next: Action::Answer(reply),
-            moment: Moment::from_seconds_at_most(0),
-        }
-    }
-
     /// Returns whether the step needs the desk, or its item is still to be written: it removes or
     /// writes an item, even if the write is refused.
     pub fn needs_desk(&self) -> bool
@@ -86,7 +84,7 @@ impl<'a> Plan<'a> {
     {
         match self.next {
             Action::Answer(_) | Action::Expire(..) => false,
-            Action::Discard(_) | Action::Write(..) | Action::Left(..) => true,
+            Action::Discard(_) | Action::Write { .. } | Action::Left { .. } => true,
         }
     }
 
@@ -103,8 +101,8 @@ impl<'a> Plan<'a> {
         ensures { result ≡ is_left self.now.next }
     {
         match self.next {
-            Action::Left(..) => true,
-            Action::Answer(_) | Action::Expire(..) | Action::Discard(_) | Action::Write(..) =>
+            Action::Left { .. } => true,
+            Action::Answer(_) | Action::Expire(..) | Action::Discard(_) | Action::Write { .. } =>
                 false,
         }
     }
@@ -114,8 +112,34 @@ impl<'a> Plan<'a> {
         ensures { result ≡ writes self.now.next }
     {
         match self.next {
-            Action::Write(..) => true,
-            Action::Answer(_) | Action::Expire(..) | Action::Discard(_) | Action::Left(..) => false,
+            Action::Write { .. } => true,
+            Action::Answer(_) | Action::Expire(..) | Action::Discard(_) | Action::Left { .. } =>
+                false,
+        }
+    }
+
+    /// Returns what is left of the plan's write, with this unique number and these chunks.
+    #[inline]
+    pub(crate) fn left(&self, unique: u64, chunks: Option<Chunks>) -> Action
+        requires { writes self.now.next ≡ true }
+        ensures { result ≡ left_of self.now.next unique chunks.entry }
+    {
+        let Action::Write {
+            flags,
+            expiry,
+            body,
+            ..
+        } = self.next
+        else {
+            // Every other plan writes nothing, and this call requires that it writes.
+            unreachable!();
+        };
+        Action::Left {
+            unique,
+            chunks,
+            flags,
+            expiry,
+            body,
         }
     }
 }
@@ -143,12 +167,21 @@ pub(crate) fn next_of(
         Row::Reads(Some(expiry)) => Ok(Action::Expire(expiry, hit(alloc, item)?)),
         Row::Touches(expiry) => Ok(Action::Expire(expiry, Reply::Touched)),
         Row::Deletes => Ok(Action::Discard(Reply::Deleted)),
-        Row::Writes(draft) => {
-            let charge = charge_of(step, item, draft);
+        Row::Writes {
+            flags,
+            expiry,
+            body,
+        } => {
+            let charge = charge_of(step, item, body);
             if greatest < charge {
                 Ok(answer_alone(dead, Reply::TooLarge))
             } else {
-                Ok(Action::Write(charge, draft))
+                Ok(Action::Write {
+                    charge,
+                    flags,
+                    expiry,
+                    body,
+                })
             }
         }
     }
@@ -207,12 +240,12 @@ pub(crate) fn is_gone(found: Option<&Entry>, cut: Option<u64>, now: Moment) -> b
     }
 }
 
-/// Returns the charge in bytes of a draft under a step's key.
-fn charge_of(step: &KeyStep<'_>, item: Option<&Entry>, draft: Draft) -> u64
+/// Returns the charge in bytes of what a body makes under a step's key.
+fn charge_of(step: &KeyStep<'_>, item: Option<&Entry>, body: Body) -> u64
     requires { length (key_of step.now) ≤ longest_key }
-    ensures { result ≡ charge_of step.now (item_in item.entry) draft }
+    ensures { result ≡ charge_of step.now (item_in item.entry) body }
 {
-    charge(step.key(), step.block(), block_len(item), draft.body)
+    charge(step.key(), step.block(), block_len(item), body)
 }
 
 /// Returns the length of an item's block in bytes, or 0 without an item.

@@ -1,8 +1,8 @@
 //! A shelf: the items of some keys, and the steps on one of its keys.
 //!
-//! `look` reserves room for a new key's entry, before the desk is taken, and the write uses it.
-//! `page_wanted` is a hint: a step that waits gives the desk back, allocates the pages, and takes
-//! the desk again; it decides nothing meanwhile.
+//! `make_room` reserves room for a new key's entry before the desk is taken. If memory for it is
+//! refused, `make_room_at` tries again at the desk. `page_wanted` is a hint: a step that waits gives
+//! the desk back, allocates the pages, and takes the desk again; it decides nothing meanwhile.
 
 ghost use Rattle.std.specs.Prelude.{◌≡◌, ◌↔◌, ℕ, ◌+◌, ◌-◌, ◌%◌, ◌^◌, ◌<◌, ◌≤◌, length, min, slice_index, slice_set};
 ghost use Rattle.std.specs.Prelude.{Option, Some, None, Err, IfOk, IfSome, OnErr, OnOk, is_some, nat_lt, true, false};
@@ -15,7 +15,7 @@ ghost use Rattle.mc_protocol.specs.declared.row.Row.TheVariants.{Reads};
 ghost use Rattle.mc_protocol.specs.Commands.{key_of};
 ghost use Rattle.mc_protocol.specs.Plain.{Entry as Item};
 ghost use Rattle.mc_shelf.specs.Counts.{AreReclaimed, CatchesUp, DropsAlone, FitTogether, KeepsTable, MovesFew, counts_of};
-ghost use Rattle.mc_shelf.specs.States.{CanStandAt, IsHash, nothing_held};
+ghost use Rattle.mc_shelf.specs.States.{CanStandAt, nothing_held};
 ghost use Rattle.mc_shelf.specs.Numbers.{KeysAreCounted, HasPlaces, numbers};
 ghost use Rattle.mc_shelf.specs.Plans.{CanFinish, CanLook, CanSettle, CanWrite, GivesBack};
 ghost use Rattle.mc_shelf.specs.Plans.{HasCaughtUp, HasRoom, IsDropped, IsKnown, IsOut, IsPlan};
@@ -124,16 +124,6 @@ impl Shelf {
         self.index.len()
     }
 
-    /// Returns whether a key has an item, which may be dead.
-    ///
-    /// `hash` is the hash that the shelf has with the key, if it has the key.
-    pub fn has_item(&self, hash: u64, key: &[u8]) -> bool
-        requires { IsHash self.now.content key.now hash }
-        ensures { result ≡ is_some (get self.now.content.items key.now) }
-    {
-        self.index.find(hash, key).is_some()
-    }
-
     /// Counts the keys of each number; a key's number is its hash modulo `NUMBERS`.
     ///
     /// `counts` must have `NUMBERS` places. The place of each number that a key has must be 0, and
@@ -187,7 +177,7 @@ impl Shelf {
             (key_of step.now) now → CatchesUp (counts_of self.old) (counts_of self.new)) }
     {
         let plan = self.plan(alloc, step, hash, now)?;
-        self.make_room(alloc, &plan, desk)?;
+        self.make_room_at(alloc, &plan, desk)?;
         self.apply(alloc, plan, step, desk)
     }
 
@@ -215,10 +205,90 @@ impl Shelf {
         ensures most { self.old.content.greatest ≤ largest_charge }
     {
         let plan = self.plan(alloc, step, hash, now)?;
-        if plan.writes() && (plan.place.is_none() || self.gives_way(&plan)) {
+        self.make_room(alloc, &plan)?;
+        Ok(plan)
+    }
+
+    /// Returns what a step at a moment does, as `look` does, and makes no room.
+    ///
+    /// Only the copy of a hit's block takes memory.
+    pub fn plan<'a>(
+        &self,
+        alloc: Global,
+        step: &KeyStep<'a>,
+        hash: u64,
+        now: Moment,
+    ) -> Result<Plan<'a>, AllocError>
+        requires { CanLook step.now hash self.now.content }
+        ensures plan { IfOk result (λ plan. IsPlan plan self.now.content step.now now) }
+        ensures hash { IfOk result (λ plan. plan.hash ≡ hash) }
+        ensures asked { OnErr result ((expiry : Option Expires)
+            × (row_at self.now.content step.now now ≡ Reads expiry)) }
+        ensures most { self.now.content.greatest ≤ largest_charge }
+    {
+        let place = self.index.find(hash, step.key());
+        let found = self.index.found_entry(place);
+        let next = next_of(alloc, step, found, self.greatest, self.cut, now)?;
+        Ok(Plan {
+            key: Bytes::of(step.key()),
+            hash,
+            place,
+            next,
+            moment: now,
+        })
+    }
+
+    /// Makes room for the entry that a plan's write inserts, for a new key or in place of a dead
+    /// item.
+    ///
+    /// The shelf holds what it held, though a growth of its table may begin, and one that lags
+    /// moves 8 entries. Any other plan changes nothing.
+    pub fn make_room(&mut self, alloc: Global, plan: &Plan<'_>) -> Result<(), AllocError>
+        requires { (step : Step) × (now : ℕ) × IsPlan plan.now self.old.content step now }
+        ensures room { OnOk result ((step : Step) (now : ℕ) →
+            IsPlan plan.now self.old.content step now → HasRoom plan.now self.new step) }
+        ensures content { self.new.content ≡ self.old.content }
+        ensures moves { MovesFew 8 (counts_of self.old) (counts_of self.new) }
+        ensures lags { OnOk result ((step : Step) (now : ℕ) → IsPlan plan.now self.old.content
+            step now → HasCaughtUp plan.now self.old self.new step) }
+        ensures idle { writes plan.now.next ≡ false → self.new ≡ self.old }
+        ensures stays { (PutsEntry plan.now.next self.old.content plan.now.key
+            plan.now.moment → ⊥) → self.new ≡ self.old }
+        ensures asked { OnErr result (PutsEntry plan.now.next self.old.content plan.now.key
+            plan.now.moment × (writes plan.now.next ≡ true)) }
+    {
+        if plan.writes() && (plan.place.is_none() || self.gives_way(plan)) {
             self.index.reserve(alloc)?;
         }
-        Ok(plan)
+        Ok(())
+    }
+
+    /// Makes room as `make_room` does, if the desk has a unique number and chunks for the write.
+    ///
+    /// So memory is refused only to a write that the desk can take.
+    pub fn make_room_at(
+        &mut self,
+        alloc: Global,
+        plan: &Plan<'_>,
+        desk: &Desk,
+    ) -> Result<(), AllocError>
+        requires { (step : Step) × (now : ℕ) × IsPlan plan.now self.old.content step now }
+        ensures content { self.new.content ≡ self.old.content }
+        ensures moves { MovesFew 8 (counts_of self.old) (counts_of self.new) }
+        ensures room { OnOk result (CanWrite plan.now.next self.old.content plan.now.key
+            plan.now.moment desk.now → PutsEntry plan.now.next self.old.content plan.now.key
+            plan.now.moment → 1 ≤ self.new.room) }
+        ensures lags { OnOk result (CanWrite plan.now.next self.old.content plan.now.key
+            plan.now.moment desk.now → PutsEntry plan.now.next self.old.content plan.now.key
+            plan.now.moment → CatchesUp (counts_of self.old) (counts_of self.new)) }
+        ensures refused { OnErr result (CanWrite plan.now.next self.old.content plan.now.key
+            plan.now.moment desk.now) }
+        ensures slab { IsSlab desk.now.slab }
+    {
+        if self.wants_room(plan, desk) {
+            return self.index.reserve(alloc);
+        }
+        Ok(())
     }
 
     /// Takes a step that needs no desk, and returns its reply.
@@ -245,7 +315,7 @@ impl Shelf {
                 reply
             }
             // A plan that needs the desk isn't settled, by what this call requires.
-            Action::Discard(_) | Action::Write(..) | Action::Left(..) => unreachable!(),
+            Action::Discard(_) | Action::Write { .. } | Action::Left { .. } => unreachable!(),
         }
     }
 
@@ -310,7 +380,7 @@ impl Shelf {
         if desk.is_spent() {
             return None;
         }
-        let Action::Write(charge, _) = plan.next else {
+        let Action::Write { charge, .. } = plan.next else {
             return None;
         };
         let need = self.need_for(charge);
@@ -369,9 +439,9 @@ impl Shelf {
             Action::Answer(_) => {}
             Action::Expire(expiry, _) => self.expire(plan.place, plan.hash, step.key(), expiry),
             Action::Discard(_) => self.discard(plan.place, plan.hash, step, desk),
-            Action::Write(..) => plan.next = self.write(alloc, plan, step, desk, brought)?,
-            // A look plans no step as begun, and this call requires such a plan.
-            Action::Left(..) => unreachable!(),
+            Action::Write { .. } => plan.next = self.write(alloc, plan, step, desk, brought)?,
+            // No plan is made of a step that was begun, and this call requires such a plan.
+            Action::Left { .. } => unreachable!(),
         }
         Ok(())
     }
@@ -388,15 +458,16 @@ impl Shelf {
         ensures content { self.new.content ≡ finished plan.entry step.now self.old.content }
         ensures table { KeepsTable 0 (counts_of self.old) (counts_of self.new) }
     {
-        match mem::replace(&mut plan.next, Action::Answer(Reply::Miss)) {
+        let next = mem::replace(&mut plan.next, Action::Answer(Reply::Miss));
+        match next {
             Action::Answer(reply) | Action::Expire(_, reply) | Action::Discard(reply) => reply,
-            Action::Left(unique, chunks, draft) => {
+            Action::Left { body, .. } => {
                 // the old item's chunks are freed: the desk got others in exchange
-                let _old = self.write_block(&plan, &draft, unique, chunks, step);
-                draft.body.reply()
+                let _old = self.write_left(&plan, next, step);
+                body.reply()
             }
             // A write that is still to be begun can't be finished, by what this call requires.
-            Action::Write(..) => unreachable!(),
+            Action::Write { .. } => unreachable!(),
         }
     }
 
@@ -476,33 +547,6 @@ impl Shelf {
         self.reclaimed
     }
 
-    /// Returns what a step at a moment does, without making room. Only a hit's block takes memory.
-    fn plan<'a>(
-        &self,
-        alloc: Global,
-        step: &KeyStep<'a>,
-        hash: u64,
-        now: Moment,
-    ) -> Result<Plan<'a>, AllocError>
-        requires { CanLook step.now hash self.now.content }
-        ensures plan { IfOk result (λ plan. IsPlan plan self.now.content step.now now) }
-        ensures hash { IfOk result (λ plan. plan.hash ≡ hash) }
-        ensures asked { OnErr result ((expiry : Option Expires)
-            × (row_at self.now.content step.now now ≡ Reads expiry)) }
-        ensures most { self.now.content.greatest ≤ largest_charge }
-    {
-        let place = self.index.find(hash, step.key());
-        let found = self.index.found_entry(place);
-        let next = next_of(alloc, step, found, self.greatest, self.cut, now)?;
-        Ok(Plan {
-            key: Bytes::of(step.key()),
-            hash,
-            place,
-            next,
-            moment: now,
-        })
-    }
-
     /// Lends the entry of a key, or `None`.
     pub(crate) fn entry(&self, place: Option<Place>, hash: u64, key: &[u8]) -> Option<&Entry>
         requires { IsSought self.now.content key.now hash place }
@@ -528,7 +572,7 @@ impl Shelf {
         ensures { result
             ≡ gives_way_to plan.now.next self.now.content plan.now.key plan.now.moment }
     {
-        let Action::Write(charge, _) = plan.next else {
+        let Action::Write { charge, .. } = plan.next else {
             return false;
         };
         if charge <= SMALL {
@@ -547,27 +591,6 @@ impl Shelf {
         dead_chunks(self.planned_entry(plan), need, self.cut, plan.moment)
     }
 
-    /// Makes room for an entry, if a plan can be taken and inserts one.
-    fn make_room(&mut self, alloc: Global, plan: &Plan<'_>, desk: &Desk) -> Result<(), AllocError>
-        requires { (step : Step) × (now : ℕ) × IsPlan plan.now self.old.content step now }
-        ensures content { self.new.content ≡ self.old.content }
-        ensures moves { MovesFew 8 (counts_of self.old) (counts_of self.new) }
-        ensures room { OnOk result (CanWrite plan.now.next self.old.content plan.now.key
-            plan.now.moment desk.now → PutsEntry plan.now.next self.old.content plan.now.key
-            plan.now.moment → 1 ≤ self.new.room) }
-        ensures lags { OnOk result (CanWrite plan.now.next self.old.content plan.now.key
-            plan.now.moment desk.now → PutsEntry plan.now.next self.old.content plan.now.key
-            plan.now.moment → CatchesUp (counts_of self.old) (counts_of self.new)) }
-        ensures refused { OnErr result (CanWrite plan.now.next self.old.content plan.now.key
-            plan.now.moment desk.now) }
-        ensures slab { IsSlab desk.now.slab }
-    {
-        if self.wants_room(plan, desk) {
-            return self.index.reserve(alloc);
-        }
-        Ok(())
-    }
-
     /// Returns whether a plan can be taken and inserts an entry.
     fn wants_room(&self, plan: &Plan<'_>, desk: &Desk) -> bool
         requires { (step : Step) × (now : ℕ) × IsPlan plan.now self.now.content step now }
@@ -581,7 +604,7 @@ impl Shelf {
         if desk.is_spent() {
             return false;
         }
-        let Action::Write(charge, _) = plan.next else {
+        let Action::Write { charge, .. } = plan.next else {
             return false;
         };
         if plan.place.is_some() && !self.gives_way(plan) {

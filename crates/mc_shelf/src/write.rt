@@ -4,31 +4,30 @@
 //! because taking some and giving the item's back leaves the slab unchanged. An append goes behind
 //! the existing block under the same rule, so the existing block isn't copied.
 
-ghost use Rattle.std.specs.Prelude.{◌≡◌, ◌↔◌, ◌||◌, ℕ, ◌≤◌, ◌<◌, ◌-◌, ◌^◌, List, length};
-ghost use Rattle.std.specs.Prelude.{Option, Some, None, Err, IfOk, IfSome, OnErr, OnOk, true, false};
+ghost use Rattle.std.specs.Prelude.{◌≡◌, ◌↔◌, ◌||◌, ℕ, ◌≤◌, ◌<◌, List, length};
+ghost use Rattle.std.specs.Prelude.{Option, Some, None, Err, IfOk, IfSome, OnErr, OnOk, is_some, true, false};
 ghost use Rattle.std.specs.FinMap.{get};
 ghost use Rattle.mc_slab.specs.Needs.{need_for, same_need};
 ghost use Rattle.mc_slab.specs.Chunks.{need_in};
 ghost use Rattle.mc_protocol.specs.Commands.{key_of, longest_key};
-ghost use Rattle.mc_protocol.specs.Plain.{block_of, charge, item_need, write_reply};
+ghost use Rattle.mc_protocol.specs.Plain.{block_of, charge, item_need};
 ghost use Rattle.mc_shelf.specs.Counts.{KeepsTable, counts_of};
 ghost use Rattle.mc_shelf.specs.States.{CanStandAt, entry_with};
 ghost use Rattle.mc_shelf.specs.Plans as plans;
-ghost use Rattle.mc_shelf.specs.Plans.{CanPut, CanWrite, CanWriteBlock, CanWriteNext, GivesBack};
-ghost use Rattle.mc_shelf.specs.Plans.{GoesApart, GoesInto, GoesOver, HasRoom, IsDropped, IsKnown};
-ghost use Rattle.mc_shelf.specs.Plans.{IsOut, IsPlan, IsPut, NeedsPages, StepTaken};
-ghost use Rattle.mc_shelf.specs.Plans.{StaysUntil, StoodBefore, Suits, block_beside, block_in, drafted, drawn};
-ghost use Rattle.mc_shelf.specs.Plans.{has_no_number, is_gone, item_in, made_block, told_next};
-ghost use Rattle.mc_shelf.specs.Plans.{writes, written, written_next};
+ghost use Rattle.mc_shelf.specs.Plans.{CanWrite, CanWriteLeft, CanWriteNext, GivesBack};
+ghost use Rattle.mc_shelf.specs.Plans.{GoesApart, GoesInto, GoesOver, HasRoom, IsDropped, IsGiven, IsKnown};
+ghost use Rattle.mc_shelf.specs.Plans.{IsOut, IsPlan, NeedsPages, StaysUntil, StepTaken};
+ghost use Rattle.mc_shelf.specs.Plans.{StoodBefore, block_in, has_no_number, is_gone, item_in};
+ghost use Rattle.mc_shelf.specs.Plans.{made_block, told_next, waiting, writes, written_next};
 
 use crate::desk::Desk;
-use crate::entry::Entry;
+use crate::entry::{Entry, bare_parts};
 use crate::exchange::Brought;
 use crate::plan::{Action, Plan, is_gone};
 use crate::shelf::Shelf;
 use itoa::Buffer;
 use mc_item::Parts;
-use mc_protocol::{Body, Bytes, Draft, KeyStep, Reply, StepFault};
+use mc_protocol::{Body, Bytes, KeyStep, Reply, StepFault};
 use mc_slab::{Chunks, Need};
 use mc_time::Moment;
 use std::alloc::Global;
@@ -77,31 +76,31 @@ fn leaves_block(body: Body, step: &KeyStep<'_>) -> bool
 /// Writes the item that a body makes of a step's block and an old item, and returns its entry.
 fn entry_in(
     chunks: Chunks,
-    head: &Parts<'_>,
+    parts: &Parts<'_>,
     body: Body,
     step: &KeyStep<'_>,
     old: Option<&Entry>,
 ) -> Entry
-    requires key { length head.now.key.now ≤ longest_key }
-    requires need { need_in chunks ≡ need_for (charge head.now.key.now
+    requires key { length parts.now.key.now ≤ longest_key }
+    requires need { need_in chunks ≡ need_for (charge parts.now.key.now
         (made_block body (block_of step.now) (block_in (item_in old)))) }
-    requires room { charge head.now.key.now
+    requires room { charge parts.now.key.now
         (made_block body (block_of step.now) (block_in (item_in old))) ≤ length chunks.bytes }
-    ensures { result ≡ entry_with head.now
+    ensures { result ≡ entry_with parts.now
         (made_block body (block_of step.now) (block_in (item_in old.entry))) }
 {
     let block = step.block();
     match (body, old) {
         (Body::Appended, Some(old)) => {
             let front = old.block_len();
-            let mut entry = Entry::begin(chunks, head, front + block.len());
+            let mut entry = Entry::begin(chunks, parts, front + block.len());
             entry.fill_from(0, old);
             entry.fill(front, block);
             entry
         }
         (Body::Prepended, Some(old)) => {
             let front = block.len();
-            let mut entry = Entry::begin(chunks, head, front + old.block_len());
+            let mut entry = Entry::begin(chunks, parts, front + old.block_len());
             entry.fill(0, block);
             entry.fill_from(front, old);
             entry
@@ -109,71 +108,37 @@ fn entry_in(
         (Body::Counted(number), _) => {
             let mut buffer = Buffer::new();
             let digits = buffer.format(number).as_bytes();
-            entry_of(chunks, head, &Bytes::of(digits))
+            Entry::write(chunks, parts, &Bytes::of(digits))
         }
-        _ => entry_of(chunks, head, &step.block_bytes()),
+        _ => Entry::write(chunks, parts, &step.block_bytes()),
     }
-}
-
-/// Writes the item with this block into chunks, and returns its entry.
-fn entry_of(chunks: Chunks, head: &Parts<'_>, block: &Bytes<'_>) -> Entry
-    requires key { length head.now.key.now ≤ longest_key }
-    requires need { need_in chunks ≡ need_for (charge head.now.key.now block.now) }
-    requires room { charge head.now.key.now block.now ≤ length chunks.bytes }
-    ensures { result ≡ entry_with head.now block.now }
-{
-    Entry::write(
-        chunks,
-        Parts {
-            first: &[],
-            second: block.as_slice(),
-            lent: block.lent(),
-            ..*head
-        },
-    )
 }
 
 /// Writes the item that a body makes into an entry's chunks: over the block there, or behind it.
 ///
 /// They must be the chunks that the new charge needs, and may take over the block's memory.
-pub(crate) fn write_over(entry: &mut Entry, head: &Parts<'_>, body: Body, block: &Bytes<'_>)
+pub(crate) fn write_over(entry: &mut Entry, parts: &Parts<'_>, body: Body, block: &Bytes<'_>)
     requires body { GoesOver body }
-    requires key { head.now.key.now ≡ entry.old.key }
-    requires short { length head.now.key.now ≤ longest_key }
-    requires need { need_for (charge head.now.key.now
+    requires key { parts.now.key.now ≡ entry.old.key }
+    requires short { length parts.now.key.now ≤ longest_key }
+    requires need { need_for (charge parts.now.key.now
         (made_block body block.now entry.old.item.block))
         ≡ item_need entry.old.key entry.old.item }
     ensures { entry.new ≡ record entry.old {
-      item = (entry_with head.now (made_block body block.now entry.old.item.block)).item;
+      item = (entry_with parts.now (made_block body block.now entry.old.item.block)).item;
     } }
 {
     match body {
-        Body::Given => rewrite(entry, head, block),
-        Body::Appended => entry.extend(block.as_slice(), head),
+        Body::Given => entry.rewrite(parts, block),
+        Body::Appended => entry.extend(block.as_slice(), parts),
         Body::Counted(number) => {
             let mut buffer = Buffer::new();
             let digits = buffer.format(number).as_bytes();
-            rewrite(entry, head, &Bytes::of(digits));
+            entry.rewrite(parts, &Bytes::of(digits));
         }
         // No block comes before the present one in its chunks, by what this call requires.
         Body::Prepended => unreachable!(),
     }
-}
-
-/// Writes the item with this block into an entry's chunks.
-fn rewrite(entry: &mut Entry, head: &Parts<'_>, block: &Bytes<'_>)
-    requires key { head.now.key.now ≡ entry.old.key }
-    requires short { length head.now.key.now ≤ longest_key }
-    requires need { need_for (charge head.now.key.now block.now)
-        ≡ item_need entry.old.key entry.old.item }
-    ensures { entry.new ≡ record entry.old { item = (entry_with head.now block.now).item } }
-{
-    entry.rewrite(Parts {
-        first: &[],
-        second: block.as_slice(),
-        lent: block.lent(),
-        ..*head
-    });
 }
 
 /// Returns whether the item that was found has the chunks of a need.
@@ -253,22 +218,22 @@ impl Shelf {
         ensures err { OnErr result
             ((self.new.content ≡ self.old.content) × (desk.new ≡ desk.old)) }
     {
-        let Action::Write(charge, draft) = &plan.next else {
+        let Action::Write { charge, body, .. } = plan.next else {
             // Every other plan writes nothing, and this call requires that it writes.
             unreachable!();
         };
         if desk.is_spent() {
             return Err(StepFault::NumbersSpent);
         }
-        let need = self.need_for(*charge);
-        let Some(back) = self.fit(plan, draft, need, step, desk) else {
-            let unique = desk.draw();
-            if counts(draft.body) {
+        let need = self.need_for(charge);
+        let Some(back) = self.fit(plan, body, need, step, desk) else {
+            let left = plan.left(desk.draw(), None);
+            if counts(body) {
                 // nothing to give back: the item keeps its own chunks
-                let _none = self.write_block(plan, draft, unique, None, step);
-                return Ok(Action::Answer(draft.body.reply()));
+                let _none = self.write_left(plan, left, step);
+                return Ok(Action::Answer(body.reply()));
             }
-            return Ok(Action::Left(unique, None, *draft));
+            return Ok(left);
         };
         if !desk.has_room(need, back) {
             self.drop_dead(plan, step, desk);
@@ -280,12 +245,16 @@ impl Shelf {
             desk.ready(alloc, need, back, pages)?;
             self.discard(plan.place, plan.hash, step, desk);
             let chunks = desk.take_unused(alloc, need);
-            return Ok(self.put(plan, draft, chunks, step, desk));
+            let left = plan.left(desk.draw(), Some(chunks));
+            return Ok(self.put(plan, left, step, desk));
         }
         let chunks = desk.take(alloc, need, pages)?;
         match self.exchange_drawn(plan, step, exchange, desk) {
-            Some(unique) => Ok(Action::Left(unique, Some(chunks), *draft)),
-            None => Ok(self.put(plan, draft, chunks, step, desk)),
+            Some(unique) => Ok(plan.left(unique, Some(chunks))),
+            None => {
+                let left = plan.left(desk.draw(), Some(chunks));
+                Ok(self.put(plan, left, step, desk))
+            }
         }
     }
 
@@ -294,15 +263,15 @@ impl Shelf {
     fn fit(
         &self,
         plan: &Plan<'_>,
-        draft: &Draft,
+        body: Body,
         need: Need,
         step: &KeyStep<'_>,
         desk: &Desk,
     ) -> Option<u64>
         requires { IsKnown self.now.content (key_of step.now) plan.now.hash plan.now.place }
-        ensures over { result ≡ None → GoesInto plan.now draft.now step.now self.now.content
+        ensures over { result ≡ None → GoesInto plan.now body step.now self.now.content
             need desk.now.slab }
-        ensures apart { IfSome result (λ back. GoesApart plan.now draft.now step.now
+        ensures apart { IfSome result (λ back. GoesApart plan.now body step.now
             self.now.content need desk.now.slab back) }
         ensures most { IfSome result (λ back. back ≤ 8) }
     {
@@ -311,109 +280,142 @@ impl Shelf {
             return Some(dead_chunks(found, need, self.cut, plan.moment));
         }
         let gone = is_gone(found, self.cut, plan.moment);
-        if goes_over(draft.body, gone, need, desk) {
+        if goes_over(body, gone, need, desk) {
             None
         } else {
             Some(0)
         }
     }
 
-    /// Writes the item of a plan's draft into chunks and puts it under its key. The old item's
+    /// Puts the item of what is left under its key, in the chunks that wait for it. The old item's
     /// chunks go back.
     ///
     /// A large block that is the step's own is left to be written; a new key's chunks wait for the
     /// whole.
     #[tactic(auto, using(crate::proofs::CountLemmas::table_rules))]
-    fn put(
-        &mut self,
-        plan: &Plan<'_>,
-        draft: &Draft,
-        chunks: Chunks,
-        step: &KeyStep<'_>,
-        desk: &mut Desk,
-    ) -> Action
-        requires can { CanPut plan.now step.now self.old desk.old }
-        requires number { desk.old.next_unique < 2 ^ 64 - 1 }
-        requires chunks { Suits chunks (key_of step.now)
-            (block_beside self.old.content step.now draft.now) }
-        ensures told { told_next result ≡ write_reply draft.now.body }
-        ensures put { IsPut (key_of step.now) plan.now.hash self.old.content
-            (written_next plan.now result step.now self.new.content)
-            (drafted draft.now (block_beside self.old.content step.now draft.now)
-            desk.old.next_unique plan.now.moment) }
+    fn put(&mut self, plan: &Plan<'_>, left: Action, step: &KeyStep<'_>, desk: &mut Desk) -> Action
+        requires can { CanWriteNext plan.now left step.now self.old }
+        requires waits { is_some (waiting left) ≡ true }
+        requires out { IsOut (key_of step.now) self.old.content desk.old }
+        ensures told { told_next result ≡ told_next left.entry }
+        ensures content { written_next plan.now result step.now self.new.content
+            ≡ written_next plan.now left.entry step.now self.old.content }
         ensures given { GivesBack (key_of step.now) (get self.old.content.items (key_of step.now))
-            (drawn desk.old) desk.new }
+            desk.old desk.new }
         ensures left { CanWriteNext plan.now result step.now self.new }
         ensures table { KeepsTable 0 (counts_of self.old) (counts_of self.new) }
     {
-        let unique = desk.draw();
-        if leaves_block(draft.body, step) {
-            let key = step.key();
-            let Some(place) = self.index.find_again(plan.place, plan.hash, key) else {
-                return Action::Left(unique, Some(chunks), *draft);
-            };
-            let head = Parts {
-                hash: plan.hash,
-                key,
-                first: &[],
-                second: &[],
-                lent: None,
-                flags: draft.flags,
-                expiry: draft.expiry,
+        let Action::Left { body, .. } = left else {
+            // Chunks wait for nothing else, and this call requires that they wait.
+            unreachable!();
+        };
+        if leaves_block(body, step) {
+            return self.begin_block(plan, left, step, desk);
+        }
+        if let Some(old) = self.write_left(plan, left, step) {
+            desk.give(old.into_chunks());
+        }
+        Action::Answer(body.reply())
+    }
+
+    /// Puts an item of the block's length in place of the key's item, whose chunks go back. The block
+    /// is still to be written.
+    ///
+    /// A new key has no item yet: its chunks wait until the block is written.
+    #[tactic(auto, using(crate::proofs::CountLemmas::table_rules))]
+    fn begin_block(
+        &mut self,
+        plan: &Plan<'_>,
+        left: Action,
+        step: &KeyStep<'_>,
+        desk: &mut Desk,
+    ) -> Action
+        requires can { CanWriteNext plan.now left step.now self.old }
+        requires waits { is_some (waiting left) ≡ true }
+        requires own { IsGiven left }
+        requires out { IsOut (key_of step.now) self.old.content desk.old }
+        ensures told { told_next result ≡ told_next left.entry }
+        ensures content { written_next plan.now result step.now self.new.content
+            ≡ written_next plan.now left.entry step.now self.old.content }
+        ensures given { GivesBack (key_of step.now) (get self.old.content.items (key_of step.now))
+            desk.old desk.new }
+        ensures left { CanWriteNext plan.now result step.now self.new }
+        ensures table { KeepsTable 0 (counts_of self.old) (counts_of self.new) }
+    {
+        let Action::Left {
+            unique,
+            chunks,
+            flags,
+            expiry,
+            body,
+        } = left
+        else {
+            // Chunks wait for nothing else, and this call requires that they wait.
+            unreachable!();
+        };
+        let key = step.key();
+        let Some(place) = self.index.find_again(plan.place, plan.hash, key) else {
+            return Action::Left {
                 unique,
-                updated: plan.moment,
+                chunks,
+                flags,
+                expiry,
+                body,
             };
-            let entry = Entry::begin(chunks, &head, step.block().len());
-            let old = self.index.replace(place, entry);
-            desk.give(old.into_chunks());
-            return Action::Left(unique, None, *draft);
+        };
+        let parts = bare_parts(plan.hash, key, flags, expiry, unique, plan.moment);
+        let block = step.block_bytes();
+        let entry = Entry::begin(chunks.unwrap(), &parts, block.as_slice().len());
+        let old = self.index.replace(place, entry);
+        desk.give(old.into_chunks());
+        Action::Left {
+            unique,
+            chunks: None,
+            flags,
+            expiry,
+            body,
         }
-        if let Some(old) = self.write_block(plan, draft, unique, Some(chunks), step) {
-            desk.give(old.into_chunks());
-        }
-        Action::Answer(draft.body.reply())
     }
 
     /// Writes what is left of a write: its item, under its key. Returns the old entry if the item
     /// went into other chunks than that one's.
     #[tactic(auto, using(crate::proofs::CountLemmas::table_rules))]
-    pub(crate) fn write_block(
+    pub(crate) fn write_left(
         &mut self,
         plan: &Plan<'_>,
-        draft: &Draft,
-        unique: u64,
-        chunks: Option<Chunks>,
+        left: Action,
         step: &KeyStep<'_>,
     ) -> Option<Entry>
-        requires { CanWriteBlock plan.now draft.now chunks step.now self.old }
+        requires { CanWriteLeft plan.now left step.now self.old }
         ensures content { self.new.content
-            ≡ written plan.now draft.now unique chunks.entry step.now self.old.content }
-        ensures before { StoodBefore chunks.entry (key_of step.now)
+            ≡ written_next plan.now left.entry step.now self.old.content }
+        ensures before { is_some (waiting left.entry) ≡ true → StoodBefore (key_of step.now)
             (get self.old.content.items (key_of step.now)) result }
+        ensures none { waiting left.entry ≡ None → result ≡ None }
         ensures table { KeepsTable 0 (counts_of self.old) (counts_of self.new) }
     {
-        let key = step.key();
-        let head = Parts {
-            hash: plan.hash,
-            key,
-            first: &[],
-            second: &[],
-            lent: None,
-            flags: draft.flags,
-            expiry: draft.expiry,
+        let Action::Left {
             unique,
-            updated: plan.moment,
+            chunks,
+            flags,
+            expiry,
+            body,
+        } = left
+        else {
+            // Nothing else is left of a write, and this call requires what is.
+            unreachable!();
         };
-        let place = self.index.find_again(plan.place, plan.hash, key);
+        let parts = bare_parts(plan.hash, step.key(), flags, expiry, unique, plan.moment);
+        let place = self.index.find_again(plan.place, plan.hash, parts.key);
         let Some(chunks) = chunks else {
             if let Some(place) = place {
                 self.index
-                    .write_over(place, &head, draft.body, &step.block_bytes());
+                    .write_over(place, &parts, body, &step.block_bytes());
             }
             return None;
         };
         let old = self.index.found_entry(place);
-        let entry = entry_in(chunks, &head, draft.body, step, old);
+        let entry = entry_in(chunks, &parts, body, step, old);
         match place {
             Some(place) => Some(self.index.replace(place, entry)),
             None => {

@@ -6,7 +6,7 @@ use Rattle.mc_shelf.proofs.parts.refusals_are_plain.Goals as goal
 pub returns-clause-spent : goal.returns-clause-spent
 returns-clause-spent c step now shelf desk on does none =
     let some = writes_some (next_of shelf step now) does in
-    is_spent step now shelf desk on some.0 some.1 (sym some.2) none
+    is_spent step now shelf desk on some.0 some.1 some.2 some.3 (sym some.4) none
 
 pub returns-clause-pages : goal.returns-clause-pages
 returns-clause-pages c step now shelf desk on slab most needs =

@@ -1,15 +1,7 @@
-use Rattle.mc_shelf.proofs.Common.{◌∙◌, ◌≡◌, Action, DeskState, key_of, KeyStep, ShelfContent, StepTaken, subst, sym}
+use Rattle.mc_shelf.proofs.Common.{◌∙◌, key_of, sym}
 use Rattle.mc_shelf.proofs.ShelfLemmas.{others_same}
-use Rattle.mc_shelf.proofs.TakesLemmas.{begun_never, discarded_is, expired_is, is_out, puts_at, takes_answer, takes_discard, takes_expire}
-use Rattle.mc_shelf.specs.declared.plan.Plan.{Plan}
-use Rattle.mc_shelf.specs.Plans.{finished, told_next, written_next}
+use Rattle.mc_shelf.proofs.TakesLemmas.{begun_never, discarded_is, expired_is, is_out, puts_at, taken_as, takes_answer, takes_discard, takes_expire}
 use Rattle.mc_shelf.proofs.shelf.Shelf.begin.Goals as goal
-
--- of what comes next, that is what was taken
-taken_as : (plan : Plan) (one : Action) → plan.next ≡ one → (step : KeyStep) (old : ShelfContent) (desk : DeskState) (new : ShelfContent) (desk' : DeskState)
-    → StepTaken step plan.moment plan.hash old desk (told_next one) (written_next plan one step new) desk'
-    → StepTaken step plan.moment plan.hash old desk (told_next plan.next) (finished plan step new) desk'
-taken_as plan one is step old desk new desk' = subst (λ (n : Action). StepTaken step plan.moment plan.hash old desk (told_next n) (written_next plan n step new) desk') (sym is)
 
 pub discard-requires-clause-out : goal.discard-requires-clause-out
 discard-requires-clause-out c = is_out (key_of c.args.step.now) c.args.self.now.content c.args.desk.now c.requires.stands
@@ -18,7 +10,7 @@ pub returns-in-Answer-clause-took : goal.returns-in-Answer-clause-took
 returns-in-Answer-clause-took c =
     let plan = c.args.plan.now in
     let old = c.args.self.now.content in
-    taken_as plan _ c.in-Answer.is c.args.step.now old c.args.desk.now old c.args.desk.now (record {
+    taken_as plan c.in-Answer.is c.args.step.now old c.args.desk.now old c.args.desk.now (record {
       takes = takes_answer c.args.step.now plan.moment old c.args.desk.now c.requires.plan.on_key c.in-Answer.field-0 (sym c.in-Answer.is ∙ c.requires.plan.next);
       others = others_same (key_of c.args.step.now) old;
       hash = c.requires.plan.known.hash;
@@ -34,7 +26,7 @@ returns-in-Expire-clause-took c =
     let puts = puts_at plan.hash old new c.in-Expire.expiry c.key.ensures c.expire.ensures.put in
     let there = expired_is old step plan.moment c.in-Expire.expiry c.in-Expire.field-1 next in
     let put = puts there.0 there.1 in
-    taken_as plan _ c.in-Expire.is step old c.args.desk.now new c.args.desk.now (record {
+    taken_as plan c.in-Expire.is step old c.args.desk.now new c.args.desk.now (record {
       takes = takes_expire step plan.moment old c.args.desk.now c.requires.plan.on_key c.in-Expire.expiry c.in-Expire.field-1 plan.hash new puts next;
       others = put.others;
       hash = put.hash;
@@ -48,7 +40,7 @@ returns-in-Discard-clause-took c =
     let new = c.discard.new.self.content in
     let there = discarded_is old c.args.step.now plan.moment c.in-Discard.field-0 next in
     let dropped = c.discard.ensures.dropped there.0 there.1 in
-    taken_as plan _ c.in-Discard.is c.args.step.now old c.args.desk.now new c.discard.new.desk (record {
+    taken_as plan c.in-Discard.is c.args.step.now old c.args.desk.now new c.discard.new.desk (record {
       takes = takes_discard c.args.step.now plan.moment old c.args.desk.now c.requires.plan.on_key c.in-Discard.field-0
           plan.hash new c.discard.new.desk c.discard.ensures.dropped c.discard.ensures.given next;
       others = dropped.others;
@@ -57,4 +49,4 @@ returns-in-Discard-clause-took c =
 
 pub unreachable-requires : goal.unreachable-requires
 unreachable-requires c =
-    begun_never c.args.self.now.content c.args.step.now c.args.plan.now.moment c.in-Left.field-0 c.in-Left.field-1 c.in-Left.field-2 (sym c.in-Left.is ∙ c.requires.plan.next)
+    begun_never c.args.self.now.content c.args.step.now c.args.plan.now.moment c.in-Left.unique c.in-Left.chunks c.in-Left.flags c.in-Left.expiry c.in-Left.body (sym c.in-Left.is ∙ c.requires.plan.next)

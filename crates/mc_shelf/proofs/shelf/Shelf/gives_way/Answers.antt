@@ -1,7 +1,7 @@
 use Rattle.mc_shelf.proofs.Common.{◌∙◌, Action, ap, get, sym}
 use Rattle.mc_shelf.specs.Plans.{gives_way_to}
 use Rattle.mc_shelf.proofs.NeedLemmas.{small_stays}
-use Rattle.mc_shelf.proofs.TakesLemmas.{drafts}
+use Rattle.mc_shelf.proofs.TakesLemmas.{sized}
 use Rattle.mc_shelf.proofs.shelf.Shelf.gives_way.Goals as goal
 
 pub returns-then-charge-le-SMALL : goal.returns-then-charge-le-SMALL
@@ -13,4 +13,4 @@ returns-then-charge-le-SMALL c =
 pub need_for-need-requires : goal.need_for-need-requires
 need_for-need-requires c =
     let plan = c.requires.2 in
-    (drafts c.args.self.now.content c.requires.0 c.requires.1 c.in-Write.charge c.in-Write.field-1 (sym c.in-Write.is ∙ plan.next)).fits
+    (sized c.args.self.now.content c.requires.0 c.requires.1 c.in-Write.charge c.in-Write.flags c.in-Write.expiry c.in-Write.body (sym c.in-Write.is ∙ plan.next)).fits
