@@ -3,7 +3,7 @@
 ghost use Rattle.std.specs.Prelude.{◌≤◌, length};
 ghost use Rattle.mc_protocol.specs.Commands.{key_of};
 
-use crate::parted::begin_and_finish;
+use crate::parted::{Way, begin_and_finish};
 use crate::seen::account_at;
 use crate::stores::set_up;
 use mc_hop::Fnv;
@@ -21,6 +21,7 @@ pub(crate) fn asked_in_parts(
     alloc: Global,
     step: &KeyStep<'_>,
     now: Moment,
+    way: Way,
     left: &mut bool,
 ) -> (Store<Fnv>, Result<Reply, StepFault>)
     requires { length (key_of step.now) ≤ 250 }
@@ -30,8 +31,10 @@ pub(crate) fn asked_in_parts(
             let answer = store.step(alloc, step, now);
             (store, answer)
         }
-        _ => match begin_and_finish(store, alloc, step, now, left) {
-            (store, Err(StepFault::NoMemory)) => begin_and_finish(store, alloc, step, now, left),
+        _ => match begin_and_finish(store, alloc, step, now, way, left) {
+            (store, Err(StepFault::NoMemory)) => {
+                begin_and_finish(store, alloc, step, now, way, left)
+            }
             answered => answered,
         },
     }
@@ -47,7 +50,7 @@ pub(crate) fn stored_in_parts(
     let step = step_of(b"k", Ask::Store(verb, 0, block));
     let mut left = false;
     let now = Moment::from_seconds_at_most(1000);
-    let (store, answer) = asked_in_parts(store, alloc, &step, now, &mut left);
+    let (store, answer) = asked_in_parts(store, alloc, &step, now, Way::Looked, &mut left);
     (store, (told_of(&answer), left))
 }
 
@@ -67,24 +70,28 @@ fn are_alike(desk: &Desk, other: &Desk) -> bool {
 pub(crate) struct Both {
     pub(crate) whole: Store<Fnv>,
     pub(crate) parted: Store<Fnv>,
+    /// How the other gets its plans.
+    pub(crate) way: Way,
 }
 
 /// Returns two empty stores with these settings.
-pub(crate) fn open_both(alloc: Global, settings: Settings) -> Result<Both, AllocError> {
+pub(crate) fn open_both(alloc: Global, settings: Settings, way: Way) -> Result<Both, AllocError> {
     Ok(Both {
         whole: set_up(alloc, settings, Fnv)?,
         parted: set_up(alloc, settings, Fnv)?,
+        way,
     })
 }
 
 /// Returns whether the desks of both are equal.
 fn have_alike(both: Both) -> (Both, bool) {
-    let Both { whole, parted } = both;
+    let Both { whole, parted, way } = both;
     let (whole, parted) = (whole.into_parts(), parted.into_parts());
     let alike = are_alike(&whole.desk, &parted.desk);
     let both = Both {
         whole: Store::from_parts(whole),
         parted: Store::from_parts(parted),
+        way,
     };
     (both, alike)
 }
@@ -97,12 +104,17 @@ fn are_wanted(alloc: Global, both: Both, row: Row<'_>) -> (Both, bool) {
     }
     let now = Moment::from_seconds_at_most(seconds);
     let step = step_of(key, ask);
-    let Both { mut whole, parted } = both;
+    let Both {
+        mut whole,
+        parted,
+        way,
+    } = both;
     let answer = ask_step(&mut whole, alloc, &step, now);
     let mut left = false;
-    let (parted, parts) = asked_in_parts(parted, alloc, &step, now, &mut left);
+    let (parted, parts) = asked_in_parts(parted, alloc, &step, now, way, &mut left);
     let wanted = is_wanted(&answer, want) && is_wanted(&parts, want);
-    (Both { whole, parted }, wanted)
+    let both = Both { whole, parted, way };
+    (both, wanted)
 }
 
 /// Returns whether both have the expected reply to a row, and their desks are equal afterwards.

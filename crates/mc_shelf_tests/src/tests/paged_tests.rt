@@ -1,6 +1,7 @@
 //! Items of several pages: which chunks they take, and what a dead one gives back first.
 
 use crate::both::{Both, first_apart, open_both, stored_in_parts};
+use crate::parted::Way;
 use crate::plays::{PAGE, are_answered};
 use crate::seen::account;
 use crate::stores::{large_items, set_up};
@@ -151,6 +152,7 @@ fn accounts(both: Both) -> [(u32, u32); 2] {
     let Both {
         mut whole,
         mut parted,
+        ..
     } = both;
     [account(&mut whole, PAGE), account(&mut parted, PAGE)]
 }
@@ -172,8 +174,9 @@ fn rows_of_joins(all: &[u8]) -> [Row<'_>; 5] {
 fn seen_of_joins(
     alloc: Global,
     rows: &[Row<'_>],
+    way: Way,
 ) -> Result<(Option<usize>, [(u32, u32); 2]), AllocError> {
-    let (both, apart) = first_apart(alloc, open_both(alloc, large_items(6))?, rows);
+    let (both, apart) = first_apart(alloc, open_both(alloc, large_items(6), way)?, rows);
     Ok((apart, accounts(both)))
 }
 
@@ -181,7 +184,10 @@ fn seen_of_joins(
 #[test]
 fn joins_of_pages_go_in_two_parts(rt: HostRuntime) -> Result<(), Fail> {
     let all = bounded_block(rt.alloc(), 2_400_002)?;
-    let seen = seen_of_joins(rt.alloc(), &rows_of_joins(all.as_slice()))?;
+    let rows = rows_of_joins(all.as_slice());
+    let seen = seen_of_joins(rt.alloc(), &rows, Way::Looked)?;
+    assert_eq!(rt; seen, (None, [(6, 3), (6, 3)]));
+    let seen = seen_of_joins(rt.alloc(), &rows, Way::AtDesk)?;
     assert_eq!(rt; seen, (None, [(6, 3), (6, 3)]));
     Ok(())
 }

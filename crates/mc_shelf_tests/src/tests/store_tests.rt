@@ -4,6 +4,7 @@
 //! If memory is refused the store is unchanged, and takes the step at the second try.
 
 use crate::both::{Both, first_apart, open_both};
+use crate::parted::Way;
 use crate::plays::are_answered;
 use crate::seen::{account, may_have_dead, remade};
 use crate::stores::{open, open_with, set_up, small_items};
@@ -562,6 +563,15 @@ fn are_answered_alike(rt: &impl Abort, alloc: Global, both: Both, rows: &[Row<'_
     both
 }
 
+/// Checks that steps in two parts, planned in this way, are the whole steps.
+fn parts_are_the_whole(rt: &impl Abort, alloc: Global, way: Way) -> Result<(), AllocError> {
+    let large = [b'y'; 6000];
+    let both = open_both(alloc, small_items(4), way)?;
+    let both = are_answered_alike(rt, alloc, both, &SHORT);
+    let _ = are_answered_alike(rt, alloc, both, &rows_of_large(&large));
+    Ok(())
+}
+
 /// A step that is begun and then finished has the reply and the result of the whole step.
 ///
 /// Steps: of a new key; of a live item that is replaced by one of its class, and by one of another;
@@ -569,9 +579,7 @@ fn are_answered_alike(rt: &impl Abort, alloc: Global, both: Both, rows: &[Row<'_
 /// copied last.
 #[test]
 fn a_step_in_two_parts_is_the_whole_step(rt: HostRuntime) -> Result<(), Fail> {
-    let large = [b'y'; 6000];
-    let both = open_both(rt.alloc(), small_items(4))?;
-    let both = are_answered_alike(&rt, rt.alloc(), both, &SHORT);
-    let _ = are_answered_alike(&rt, rt.alloc(), both, &rows_of_large(&large));
+    parts_are_the_whole(&rt, rt.alloc(), Way::Looked)?;
+    parts_are_the_whole(&rt, rt.alloc(), Way::AtDesk)?;
     Ok(())
 }
