@@ -1,7 +1,7 @@
 -- The rule at the start.
 use Rattle.mc_shared.proofs.Words.{◌≡◌, ◌⊎◌, ℕ, zero, suc, ◌+◌, ◌*◌, ◌/◌, ◌≤◌, ◌<◌, set, length-set, get_or-set_other, get_or-set_same, Some, List, [], ◌∷◌, ◌++◌, length, map, get_or}
 use Rattle.mc_shared.proofs.Words.{slice_get, sym, refl, ap, ◌∙◌, subst, inl, inr, ⊎_elim, arith, dite, ℕ_discrete, some, some-injective, some-ne-none, get_elem?, opening, ShelfState}
-use Rattle.mc_shared.proofs.Words.{DeskState, ArePartsOf, Shelf, Desk, Beginning, Name, start_of, SeatView, starting, Sound, Lives, spent, AllFit, Kept, AreFirst, AreFilled, named, Slot}
+use Rattle.mc_shared.proofs.Words.{DeskState, ArePartsOf, Shelf, Desk, Beginning, Name, start_of, SeatView, starting, Sound, Lives, spent, AllFit, Kept, AreFirst, named, Slot}
 use Rattle.mc_shared.proofs.Words.{place, shelf_slot, spaced, word_of, words_with, AreAllOf, AreCountsOfAll, TableId, StoreState, IsTableOf, desk_slot, slot_alone}
 use Rattle.mc_shared.proofs.WordLemmas.{words_apart, word_behind, word_inside, bays_inside}
 use Rattle.mc_shared.proofs.NamedKept.{sound_start}
@@ -62,6 +62,12 @@ opens began shelves desk parts words first = record {
     owned = λ id v word at has. absurd (let none : named word v ≡ 0 = only (λ u. named word u ≡ 0) refl id v at in omega (arith, none, has));
   };
 }
+
+-- the words of a table that is being filled: those of the numbers below one are set to their counts
+pub record AreFilled (shelves : ℕ) (words counts : List ℕ) (number : ℕ) : Type 0 where
+  pub long : length words ≡ words_with shelves
+  pub free : (b : ℕ) → b < shelves + 1 → get_or words (place b) 0 ≡ 0
+  pub counts_set : (n : ℕ) → n < number → n < 4096 → get_or words (word_of shelves n) 0 ≡ get_or counts n 0
 
 -- the words of numbers are set, one after another
 pub fills_one : (shelves : ℕ) (words counts : List ℕ) (number at c : ℕ) → 4096 / shelves * shelves ≡ 4096 → number < 4096

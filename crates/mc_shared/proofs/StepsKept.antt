@@ -3,12 +3,12 @@ use Rattle.mc_shared.proofs.Words.{◌≡◌, ◌≢◌, ◌==◌, ℕ, zero, su
 use Rattle.mc_shared.proofs.Words.{sym, refl, ap, subst, inl, inr, ⊎_elim, arith, dite, ℕ_discrete, none, some, some-ne-none, get_elem?, either, get, Plain, Items, Answered, alive, changed}
 use Rattle.mc_shared.proofs.Words.{plain, row_of, without_dead, Read, Miss, step, Allows, rest, at_set, set_here, Bay, Shelf, Desk, Content, content_of, place, total, Beginning}
 use Rattle.mc_shared.proofs.Words.{HistoryEntry, Operation, Stepped, after, next, left_by, name_of, Lives, Whole, SeatView, FitsBay, AllFit, holds_bay, times, named, Stocked}
-use Rattle.mc_shared.proofs.Words.{Present, Kept, Slot, Mine, holding, entry_of, without, decided_by, Agrees, took, gave, decided, reloaded, added, counted, sought, Shows, MayAdd, Decides}
+use Rattle.mc_shared.proofs.Words.{Present, Kept, Slot, Mine, holding, entry_of, without, decided_by, Agrees, took, gave, decided, added, counted, sought, Shows, MayAdd, Decides}
 use Rattle.mc_shared.proofs.Words.{Counts, next_name, newcomer, met, number_of, keys_with, word_of, State, Act, keeps, takes, gives, carried_after, Valid, Splits, Joins, set_again}
 use Rattle.mc_shared.proofs.Words.{exchanged, BelongsAt, called, lowered, maker, gone, Fitted}
 use lib.Seq.{set-get_or}
 use Rattle.mc_shared.proofs.Sums.{sum_one, total-append}
-use Rattle.atomic_table.specs.Table.{stepped}
+use Rattle.atomic_table.specs.Table.{Step, stepped}
 use Rattle.mc_shared.proofs.StoryKept.{after_snoc, story_same, story_call, story_made, story_both}
 use Rattle.mc_shared.proofs.NamedKept.{total_one, alone, kept_by, named_same, named_call, named_made, named_both}
 use Rattle.mc_shared.proofs.StockedKept.{stocked_take, stocked_give, stocked_same, stocked_snoc, stocked_word, held_word, inside}
@@ -134,6 +134,10 @@ joins_seats began id other v o bare s k at ne far = let w : SeatView = met v o i
       present = present_gone began (after began began.plain k.log) s.words (set s.views id w) other o u
           (present_same began (after began began.plain k.log) s.words s.views id v w k.present at refl refl) far bare refl;
     }
+
+-- nothing changed
+abbrev pub reloaded : Beginning → Step Slot → Mine → ℕ → Mine → Type 0
+reloaded began st m n m' = (m' ≡ m) × Agrees began m.0.past
 
 -- a load that changes nothing, and tells that a history keeps the past
 pub reloads : (began : Beginning) (slots id b : ℕ) (me : Mine) → Allows (Kept began) slots id me b (λ n. n) (reloaded began (step slots b 0 0 none) me)

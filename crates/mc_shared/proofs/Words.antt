@@ -12,12 +12,12 @@ pub use mathlib.Core.Logic.{dite}
 pub use native.Mathlib.Decide.{ℕ_discrete}
 pub use Rattle.mc_shared.specs.View.{SeatView, starting}
 pub use Rattle.mc_shared.specs.Steps.{Mine, entry_of, Agrees, holding, decided_by, Decides, loaded, Counts, MayCount, AreKeys, Fitted, HoldsThis, next_name, Slot, without, BelongsAt}
-pub use Rattle.mc_shared.specs.Steps.{HoldsLast, MayAdd, HasTaken, HasDecided, newcomer, met, Shows, took, gave, decided, reloaded, added, counted, sought, called, gone, lowered, maker}
+pub use Rattle.mc_shared.specs.Steps.{HoldsLast, MayAdd, HasTaken, HasDecided, newcomer, met, Shows, took, gave, decided, added, counted, sought, called, gone, lowered, maker}
 pub use Rattle.mc_protocol.specs.Commands.{key_of}
 pub use Rattle.mc_shared.specs.Bays.{OfShelf, content_of, place, Content, OfDesk}
 pub use Rattle.mc_shelf.specs.Parts.{ArePartsOf, IsShelfOf, GoesTo, shelf_of, IsDeskOf, GoesByStep, GoesWithoutDesk}
 pub use Rattle.mc_shared.specs.Presence.{word_of, words_with}
-pub use Rattle.mc_shared.specs.Rule.{Kept, AllFit, holds_bay, FitsBay, times, named, Story, KeepsLimits, Named, Stocked, AreFirst, AreFilled, Present, IsHeldWord}
+pub use Rattle.mc_shared.specs.Rule.{Kept, AllFit, holds_bay, FitsBay, times, named, Story, KeepsLimits, Named, Stocked, AreFirst, Present, IsHeldWord}
 pub use mathlib.Core.Option.{none, some, some-ne-none, some-injective}
 pub use Rattle.mc_shared.specs.Stacks.{holds_all, stacked, hollow, stacked_on}
 pub use Rattle.atomic_table.specs.Table.{step, Allows, rest, opening, Act, Joins, Splits, State, Valid, carried_after, gives, keeps, takes}
@@ -31,7 +31,7 @@ pub use Rattle.mc_protocol.specs.declared.step.KeyStep.TheVariants.{Read, Flush,
 pub use Rattle.mc_shared.specs.Store.{holds_one, with_call, IsShown, Refuses, CanCome, MayFailAfter, holds_two, shelf_slot, spaced, HasCalled, IsSpentAfter, desk_slot, slot_alone}
 pub use Rattle.mc_shared.specs.Seats.{MayDecide, Sitter, IsTableOf, IsAnswered, Rests, IsAlive, IsSeatOf, SameSeat}
 pub use Rattle.mc_shelf.specs.Stores.{StoreState, IsSetUp}
-pub use Rattle.mc_shared.specs.Holds.{HoldsShelf, IsAsked, HoldsBoth, caller_at, IsLooked}
+pub use Rattle.mc_shared.specs.Holds.{HoldsShelf, IsAsked, HoldsBoth, caller_at}
 pub use Rattle.mc_shared.specs.declared.bay.Bay.{Bay}
 pub use Rattle.mc_shared.specs.declared.bay.Bay.TheVariants.{Desk, Shelf}
 pub use Rattle.mc_shared.specs.Spread.{spread, keys_in}
@@ -43,7 +43,7 @@ pub use Rattle.std.specs.List.{All, concat}
 pub use Rattle.mc_time.specs.Death.{expiry_of, is_dead, moment_named}
 pub use Rattle.mc_protocol.specs.declared.row.Row.TheVariants.{Reads, Touches, Deletes, Writes}
 pub use Rattle.std.proofs.lemmas.Option.{none-some, slice_get-get_or, get_or_from_slice_get, slice_get_within}
-pub use Rattle.mc_shelf.specs.Plans.{is_gone, next_of, writes, PlanIsSettled, IsPlan, IsSpent, MayWantMemory, NeedsPages, StepTaken, finished, stood, told_next}
+pub use Rattle.mc_shelf.specs.Plans.{is_gone, PlanIsSettled, IsPlan, IsSpent, MayWantMemory, NeedsPages, StepTaken, finished, stood, told_next}
 pub use Rattle.mc_protocol.specs.declared.step.StepFault.{StepFault}
 pub use Rattle.mc_protocol.specs.declared.step.StepFault.TheVariants.{NoMemory, NumbersSpent}
 pub use Rattle.std.proofs.lemmas.List.{append-nil, get_or-replicate, length-replicate, take_all, take_more}

@@ -1,15 +1,15 @@
 -- What a seat holds: a shelf, or a shelf and the desk.
-use Rattle.std.specs.Prelude.{◌≡◌, ℕ, ◌<◌, ◌≤◌, ◌⊎◌, List, length, true, Option, Some, None}
+use Rattle.std.specs.Prelude.{◌≡◌, ℕ, ◌<◌, ◌≤◌, ◌⊎◌, List, length}
 use Rattle.mc_protocol.specs.declared.step.KeyStep.{KeyStep}
 use Rattle.mc_protocol.specs.Commands.{key_of, longest_key}
-use Rattle.mc_shelf.specs.States.{ShelfState, ShelfContent, DeskState}
-use Rattle.mc_shelf.specs.Plans.{writes, next_of}
+use Rattle.mc_shelf.specs.States.{ShelfContent, DeskState}
+use Rattle.mc_shelf.specs.Plans.{IsPlan}
 use Rattle.mc_shelf.specs.declared.plan.Plan.{Plan}
 use Rattle.mc_shared.specs.Bays.{OfShelf, OfDesk}
 use Rattle.mc_shared.specs.History.{Beginning, Purged, start_of, shelf_in}
 use Rattle.mc_shared.specs.Past.{Past, Lives, Whole, call}
 use Rattle.mc_shared.specs.Steps.{Fitted, Agrees, entry_of}
-use Rattle.mc_shared.specs.Store.{IsPlanned, Refuses, holds_one, holds_two}
+use Rattle.mc_shared.specs.Store.{Refuses, holds_one, holds_two}
 use Rattle.mc_shared.specs.Seats.{Sitter}
 use Rattle.mc_shared.specs.Shown.{SharedState, CallerState}
 use Rattle.mc_shared.specs.declared.patience.Busy.{Busy}
@@ -69,11 +69,10 @@ pub record IsAsked {K : Type 0} (hash_of : K → List ℕ → ℕ) (shared : Sha
   pub own : shelf_in (start_of hash_of shared.began) (key_of ask.step.now) ≡ ask.at
   pub inside : ask.at < shared.began.settings.shelves
 
--- the result of looking a step up at a shelf: a plan of the step, or none, since only the desk can
--- decide a write
-abbrev pub IsLooked : Option Plan → ShelfState → Ask → Type 0
-IsLooked (Some plan) shelf ask = IsPlanned plan shelf ask.step.now ask.hash ask.moment
-IsLooked None shelf ask = writes (next_of shelf.content ask.step.now ask.moment) ≡ true
+-- a plan of a step by what a shelf holds, with the hash of the step's key
+pub record IsPlanned (plan : Plan) (shelf : ShelfContent) (ask : Ask) : Type 0 where
+  pub is_plan : IsPlan plan shelf ask.step.now ask.moment
+  pub hashed : plan.hash ≡ ask.hash
 
 -- another caller holds the bay, since its word was 1; not so if the past is whole
 pub record IsBusyTo (p : Past) (bay : ℕ) (busy : Busy) : Type 0 where

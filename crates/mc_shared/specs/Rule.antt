@@ -95,13 +95,6 @@ pub record AreFirst (start : Beginning) (words : List ℕ) : Type 0 where
   pub counts : (number : ℕ) → number < numbers → slice_index words (word_of start.shelves number)
       ≡ keys_with start.hash_of number start.plain.items
 
--- the words of a table that is being filled: those of the numbers below one are set to their counts
-pub record AreFilled (shelves : ℕ) (words counts : List ℕ) (number : ℕ) : Type 0 where
-  pub long : length words ≡ words_with shelves
-  pub free : (b : ℕ) → b < shelves + 1 → slice_index words (place b) ≡ 0
-  pub counts_set : (n : ℕ) → n < number → n < numbers
-      → slice_index words (word_of shelves n) ≡ slice_index counts n
-
 pub record Kept (start : Beginning) (s : State (Option Bay) SeatView) : Type 0 where
   pub log : List HistoryEntry
   pub story : Story start log s.views

@@ -197,7 +197,3 @@ met v o = record v { past = both v.past o.past }
 
 abbrev pub gone : SeatView
 gone = record { past = spent; bays = []; surplus = [] }
-
--- nothing changed
-abbrev pub reloaded : Beginning → Step Slot → Mine → ℕ → Mine → Type 0
-reloaded began st m n m' = (m' ≡ m) × Agrees began m.0.past

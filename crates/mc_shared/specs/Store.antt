@@ -1,6 +1,5 @@
 -- The promises of the shared store's calls.
-use Rattle.std.specs.Prelude.{◌≡◌, ℕ, ◌≤◌, ◌⊎◌, Bool, true, List, [], ◌∷◌, ◌++◌, Some, None}
-use Rattle.mc_slab.specs.Needs.{largest_charge}
+use Rattle.std.specs.Prelude.{◌≡◌, ℕ, ◌⊎◌, Bool, true, List, [], ◌∷◌, ◌++◌, Some, None}
 use Rattle.mc_protocol.specs.declared.step.KeyStep.{KeyStep}
 use Rattle.mc_protocol.specs.declared.reply.Reply.{Reply}
 use Rattle.mc_protocol.specs.declared.step.StepFault.{StepFault}
@@ -11,8 +10,6 @@ use Rattle.std.specs.FinMap.{get}
 use Rattle.mc_protocol.specs.Plain.{Plain, Outcome, Spent, MayFail, plain}
 use Rattle.mc_shelf.specs.Numbers.{number_of}
 use Rattle.mc_shelf.specs.States.{ShelfState, DeskState}
-use Rattle.mc_shelf.specs.Plans.{IsPlan, HasRoom}
-use Rattle.mc_shelf.specs.declared.plan.Plan.{Plan}
 use Rattle.mc_shared.specs.declared.bay.Bay.TheVariants.{Shelf, Desk}
 use Rattle.mc_shared.specs.Bays.{Content, place}
 use Rattle.mc_shared.specs.declared.fault.TryFault.{TryFault}
@@ -52,15 +49,6 @@ IsSpentAfter began p step now = CanCome began p step now (λ outcome. outcome �
 -- after some such history the reply is a hit or a write, for which memory may be refused
 abbrev pub MayFailAfter : Beginning → Past → KeyStep → (now : ℕ) → Type 0
 MayFailAfter began p step now = CanCome began p step now MayFail
-
--- a plan of a step on a key with this hash, from a look at a shelf, which made room for what it
--- writes
-pub record IsPlanned (plan : Plan) (shelf : ShelfState) (step : KeyStep) (hash now : ℕ) : Type 0
-  where
-    pub is_plan : IsPlan plan shelf.content step now
-    pub hashed : plan.hash ≡ hash
-    pub room : HasRoom plan shelf step
-    pub most : shelf.content.greatest ≤ largest_charge
 
 -- Why a tried step wasn't taken. The bay is busy only if its word was 1, so not if the past is
 -- whole; it is the key's shelf or the desk.

@@ -1,23 +1,27 @@
 //! A step on a key: at its shelf, and at the desk if that is needed.
 //!
-//! A refused look of a write isn't a reply yet: the step takes the desk and checks there for a
-//! number and chunks first, because these errors come before want of memory. A read gets its error
-//! at once. A purge that finds nothing dead, and a miss, are decided without the desk.
-ghost use Rattle.std.specs.Prelude.{◌≡◌, ◌≤◌, length, is_none, true, false, Some, Err};
-ghost use Rattle.std.specs.Prelude.{IfOk, IfErr, IfSome, OnErr};
-ghost use Rattle.std.specs.FinMap.{get};
+//! A step has one plan. Room for its entry, and a waiting step's pages and chunks in exchange, are
+//! made while the desk is free; what is refused then is made at the desk. So a write meets want of
+//! memory only behind the errors of numbers and chunks. A read whose copy is refused memory gets its
+//! error at once. A purge that finds nothing dead, and a miss, are decided without the desk.
+ghost use Rattle.std.specs.Prelude.{◌≡◌, ◌≤◌, ℕ, Option, length, true, false, Err};
+ghost use Rattle.std.specs.Prelude.{IfOk, IfErr, OnErr, OnOk};
+ghost use Rattle.mc_time.specs.declared.expiry.Expiry.{Expiry as Expires};
 ghost use Rattle.mc_protocol.specs.Commands.{key_of, longest_key};
 ghost use Rattle.mc_protocol.specs.Laws.{IsOnKey};
 ghost use Rattle.mc_protocol.specs.declared.reply.Reply.{Reply as Told};
-ghost use Rattle.mc_shelf.specs.States.{IsHash, CanStandAt};
-ghost use Rattle.mc_shelf.specs.Plans.{CanFinish, CanLook, IsSpent, LookTakesMemory, StepTaken};
-ghost use Rattle.mc_shelf.specs.Plans.{MayWantMemory, finished, told_next, wants_desk};
-ghost use Rattle.mc_shelf.specs.Hits.{is_read};
+ghost use Rattle.mc_protocol.specs.declared.step.KeyStep.{KeyStep as Step};
+ghost use Rattle.mc_protocol.specs.declared.row.Row.TheVariants.{Reads};
+ghost use Rattle.mc_slab.specs.Slabs.{IsSlab};
+ghost use Rattle.mc_shelf.specs.States.{CanStandAt};
+ghost use Rattle.mc_shelf.specs.Plans.{CanFinish, CanLook, CanWrite, HasRoom, IsPlan, IsSpent};
+ghost use Rattle.mc_shelf.specs.Plans.{MayWantMemory, PutsEntry, StepTaken, finished, row_at, told_next};
+ghost use Rattle.mc_shelf.specs.Plans.{wants_desk};
 ghost use Rattle.mc_shared.specs.History.{start_of};
-ghost use Rattle.mc_shared.specs.Store.{HasCalled, IsPlanned, Refuses, May};
+ghost use Rattle.mc_shared.specs.Store.{HasCalled, Refuses, May};
 ghost use Rattle.mc_shared.specs.Seats.{MayAsk, IsAnswered, IsFree};
 ghost use Rattle.mc_shared.specs.declared.ask.Ask.{Ask as Asked};
-ghost use Rattle.mc_shared.specs.Holds.{HoldsBoth, HoldsShelf, HoldsSome, IsAsked, IsLooked};
+ghost use Rattle.mc_shared.specs.Holds.{HoldsBoth, HoldsShelf, HoldsSome, IsAsked, IsPlanned};
 ghost use Rattle.mc_shared.specs.Holds.{KeepsShelf, TakesDesk, Unmet, caller_at, told_of};
 
 use crate::ask::{Ask, Untaken};
@@ -37,77 +41,87 @@ use mc_time::Moment;
 use std::alloc::{AllocError, Global};
 use std::sync::Wait;
 
-/// What a step has at the desk: its shelf and the desk, what was looked up, and memory for it.
-struct AtDesk<'k> {
-    shelf: Box<Shelf>,
-    desk: Box<Desk>,
-    looked: Option<Plan<'k>>,
+/// What was made ready for a step before the desk was taken.
+#[derive(Drop)]
+struct Ready {
+    /// Whether the shelf has room for the entry that the step inserts.
+    room: bool,
     brought: Brought,
 }
 
-/// Looks a step up at a shelf.
+/// What a step has at the desk: its shelf and the desk, its plan, and what was made ready.
+struct AtDesk<'k> {
+    shelf: Box<Shelf>,
+    desk: Box<Desk>,
+    plan: Plan<'k>,
+    ready: Ready,
+}
+
+/// Returns the plan of a step at a shelf, and whether the shelf has room for the entry that it
+/// inserts.
 ///
-/// `None` means that memory for a write's entry was refused: the desk decides whether the write can
-/// succeed. The only error is a read's: memory for the copy of its block is refused.
-fn look<'k>(alloc: Global, shelf: &mut Shelf, ask: &Ask<'k>) -> Result<Option<Plan<'k>>, AllocError>
+/// The only error is a read's: memory for the copy of its block is refused.
+fn look<'k>(alloc: Global, shelf: &mut Shelf, ask: &Ask<'k>) -> Result<(Plan<'k>, bool), AllocError>
     requires { CanLook ask.now.step.now ask.now.hash shelf.old.content }
     ensures content { shelf.new.content ≡ shelf.old.content }
-    ensures looked { IfOk result (λ looked. IsLooked looked shelf.new ask.now) }
-    ensures err { OnErr result ((is_read ask.now.step.now ≡ true)
-        × LookTakesMemory ask.now.step.now ask.now.moment shelf.old.content) }
+    ensures plan { IfOk result (λ looked. IsPlanned looked.0 shelf.new.content ask.now) }
+    ensures room { IfOk result (λ looked. looked.1 ≡ true →
+        HasRoom looked.0 shelf.new ask.now.step.now) }
+    ensures err { OnErr result ((expiry : Option Expires)
+        × (row_at shelf.old.content ask.now.step.now ask.now.moment ≡ Reads expiry)) }
 {
-    match shelf.look(alloc, ask.step, ask.hash, ask.moment) {
-        Ok(plan) => Ok(Some(plan)),
-        Err(_) if !is_read(ask.step) => Ok(None),
-        Err(refused) => Err(refused),
-    }
+    let plan = shelf.plan(alloc, ask.step, ask.hash, ask.moment)?;
+    // Room that is refused here is made at the desk, behind the errors of a number and chunks.
+    let has_room = shelf.make_room(alloc, &plan).is_ok();
+    Ok((plan, has_room))
 }
 
-/// Returns the plan of a step that its shelf decides alone, or else what was looked up.
-fn alone(looked: Option<Plan<'_>>) -> Result<Plan<'_>, Option<Plan<'_>>>
-    ensures ok { IfOk result (λ plan. (looked.entry ≡ Some plan)
-        × (wants_desk plan.next ≡ false)) }
-    ensures err { IfErr result (λ back. back ≡ looked.entry) }
+/// Makes the room for the entry that a plan inserts, if it is missing and the desk has a number and
+/// chunks for the write.
+fn make_missing_room(
+    alloc: Global,
+    shelf: &mut Shelf,
+    desk: &Desk,
+    plan: &Plan<'_>,
+    has_room: bool,
+) -> Result<(), AllocError>
+    requires { (step : Step) × ((now : ℕ) × (IsPlan plan.now shelf.old.content step now
+        × (has_room ≡ true → HasRoom plan.now shelf.old step))) }
+    ensures content { shelf.new.content ≡ shelf.old.content }
+    ensures room { OnOk result (CanWrite plan.now.next shelf.old.content plan.now.key
+        plan.now.moment desk.now → PutsEntry plan.now.next shelf.old.content plan.now.key
+        plan.now.moment → 1 ≤ shelf.new.room) }
+    ensures refused { OnErr result (CanWrite plan.now.next shelf.old.content plan.now.key
+        plan.now.moment desk.now) }
+    ensures slab { IsSlab desk.now.slab }
 {
-    match looked {
-        Some(plan) if !plan.needs_desk() => Ok(plan),
-        looked => Err(looked),
+    // for the proof: the invariant of the desk
+    let _number = desk.next_unique();
+    if has_room {
+        return Ok(());
     }
-}
-
-/// Returns whether a step may insert its key into a shelf, where the key has no item.
-fn may_come(looked: &Option<Plan<'_>>, shelf: &Shelf, ask: &Ask<'_>) -> bool
-    requires looked { IsLooked looked.now shelf.now ask.now }
-    requires hash { IsHash shelf.now.content (key_of ask.now.step.now) ask.now.hash }
-    ensures { result ≡ is_none (get shelf.now.content.items (key_of ask.now.step.now)) }
-{
-    match looked {
-        Some(plan) => plan.is_of_new_key(),
-        None => !shelf.has_item(ask.hash, ask.step.key()),
-    }
+    shelf.make_room_at(alloc, plan, desk)
 }
 
 /// Begins a step at a shelf and the desk, by its plan.
 ///
-/// Without a plan it is looked up again, and memory is used only if a number and the chunks are
-/// available.
-fn begin<'k>(
+/// Room that is missing is made, if the desk has a number and chunks for the write.
+fn begin(
     alloc: Global,
     shelf: &mut Shelf,
     desk: &mut Desk,
-    looked: Option<Plan<'k>>,
-    brought: Brought,
+    plan: &mut Plan<'_>,
+    ready: Ready,
     ask: &Ask<'_>,
-) -> Result<Plan<'k>, StepFault>
-    requires looked { IsLooked looked shelf.old ask.now }
-    requires on_key { IsOnKey ask.now.step.now }
+) -> Result<(), StepFault>
+    requires plan { IsPlanned plan.old shelf.old.content ask.now }
+    requires room { ready.room ≡ true → HasRoom plan.old shelf.old ask.now.step.now }
     requires key { length (key_of ask.now.step.now) ≤ longest_key }
-    requires hash { IsHash shelf.old.content (key_of ask.now.step.now) ask.now.hash }
     requires stands { CanStandAt (key_of ask.now.step.now) shelf.old.content desk.old }
-    ensures took { IfOk result (λ plan. StepTaken ask.now.step.now ask.now.moment ask.now.hash
-        shelf.old.content desk.old (told_next plan.next)
-        (finished plan ask.now.step.now shelf.new.content) desk.new) }
-    ensures left { IfOk result (λ plan. CanFinish plan ask.now.step.now shelf.new) }
+    ensures took { OnOk result (StepTaken ask.now.step.now ask.now.moment ask.now.hash
+        shelf.old.content desk.old (told_next plan.new.next)
+        (finished plan.new ask.now.step.now shelf.new.content) desk.new) }
+    ensures left { OnOk result (CanFinish plan.new ask.now.step.now shelf.new) }
     ensures spent { result ≡ Err StepFault.NumbersSpent →
         IsSpent ask.now.step.now ask.now.moment shelf.old.content desk.old }
     ensures refused { result ≡ Err StepFault.NoMemory →
@@ -115,28 +129,8 @@ fn begin<'k>(
     ensures err { OnErr result
         ((shelf.new.content ≡ shelf.old.content) × (desk.new ≡ desk.old)) }
 {
-    // for the proof: the invariant of the desk
-    let _number = desk.next_unique();
-    match looked {
-        Some(mut plan) => {
-            shelf.begin(alloc, &mut plan, ask.step, desk, brought)?;
-            Ok(plan)
-        }
-        None => {
-            let reply = shelf.step(alloc, ask.step, ask.hash, ask.moment, desk)?;
-            Ok(Plan::of(reply))
-        }
-    }
-}
-
-/// Returns whether a step reads an item: get and gets, gat and gats.
-pub(crate) fn is_read(step: &KeyStep<'_>) -> bool
-    ensures { result ≡ is_read step.now }
-{
-    match step {
-        KeyStep::Read { .. } | KeyStep::ReadTouch { .. } => true,
-        _ => false,
-    }
+    make_missing_room(alloc, shelf, desk, plan, ready.room)?;
+    shelf.begin(alloc, plan, ask.step, desk, ready.brought)
 }
 
 /// Returns the shelf if entries of it are left to move.
@@ -155,8 +149,7 @@ impl<K: KeyHash + Drop> Shared<K> {
     fn settle(&self, seat: &mut Seat, shelf: Box<Shelf>, plan: Plan<'_>, ask: &Ask<'_>) -> Reply
         requires holds { HoldsShelf K.hash_of self.now seat.old ask.now.at shelf.value.content }
         requires asked { IsAsked K.hash_of self.now ask.now }
-        requires on_key { IsOnKey ask.now.step.now }
-        requires plan { IsPlanned plan shelf.value ask.now.step.now ask.now.hash ask.now.moment }
+        requires plan { IsPlanned plan shelf.value.content ask.now }
         requires no_desk { wants_desk plan.next ≡ false }
         ensures free { IsFree self.now.table self.now.began seat.new }
         ensures called { HasCalled (start_of K.hash_of self.now.began) seat.old.me.0.past
@@ -188,9 +181,9 @@ impl<K: KeyHash + Drop> Shared<K> {
         seat: &mut Seat,
         alloc: Global,
         shelf: &Shelf,
-        looked: &Option<Plan<'_>>,
+        plan: &Plan<'_>,
     ) -> Result<(Box<Desk>, Brought), B>
-        requires looked { (ask : Asked) × IsLooked looked.now shelf.now ask }
+        requires plan { (ask : Asked) × IsPlanned plan.now shelf.now.content ask }
         requires holds { HoldsSome K.hash_of self.now seat.old }
         ensures past { seat.new.me.0.past ≡ seat.old.me.0.past }
         ensures ok { IfOk result (λ r.
@@ -202,10 +195,9 @@ impl<K: KeyHash + Drop> Shared<K> {
             pages: None,
             exchange: None,
         };
-        let plan = match looked {
-            Some(plan) if patience.comes_again() => plan,
-            _ => return Ok((self.take_desk(patience, seat)?, brought)),
-        };
+        if !patience.comes_again() {
+            return Ok((self.take_desk(patience, seat)?, brought));
+        }
         brought.exchange = shelf.exchange(alloc, plan).unwrap_or(None);
         let desk = self.take_desk(patience, seat)?;
         let Some(wanted) = shelf.page_wanted(plan, &*desk) else {
@@ -230,8 +222,9 @@ impl<K: KeyHash + Drop> Shared<K> {
         requires holds { HoldsBoth K.hash_of self.now seat.old ask.now.at
             at_desk.shelf.value.content at_desk.desk.value }
         requires asked { IsAsked K.hash_of self.now ask.now }
-        requires on_key { IsOnKey ask.now.step.now }
-        requires looked { IsLooked at_desk.looked at_desk.shelf.value ask.now }
+        requires plan { IsPlanned at_desk.plan at_desk.shelf.value.content ask.now }
+        requires room { at_desk.ready.room ≡ true →
+            HasRoom at_desk.plan at_desk.shelf.value ask.now.step.now }
         ensures free { IsFree self.now.table self.now.began seat.new }
         ensures answered { IsAnswered (start_of K.hash_of self.now.began) (caller_at seat.old)
             ask.now.step.now ask.now.moment Refuses result (caller_at seat.new) }
@@ -239,15 +232,15 @@ impl<K: KeyHash + Drop> Shared<K> {
         let AtDesk {
             mut shelf,
             mut desk,
-            looked,
-            brought,
+            mut plan,
+            ready,
         } = at_desk;
         let bay = self.settings.shelves as usize;
         let number = (ask.hash % NUMBERS as u64) as usize;
         let before = shelf.len();
-        let comes = may_come(&looked, &*shelf, ask);
-        match begin(alloc, &mut *shelf, &mut *desk, looked, brought, ask) {
-            Ok(plan) => {
+        let comes = plan.is_of_new_key();
+        match begin(alloc, &mut *shelf, &mut *desk, &mut plan, ready, ask) {
+            Ok(()) => {
                 let came = raise_for(&self.board, seat, bay, number, comes);
                 let had = before + came;
                 let decision = Decision::Begun {
@@ -309,20 +302,19 @@ impl<K: KeyHash + Drop> Shared<K> {
             Err(told) => return Err(Untaken::Met(told)),
         };
         patience.inside(ask.at);
-        let looked = match look(alloc, &mut *shelf, ask) {
+        let looked = look(alloc, &mut *shelf, ask);
+        *grows = growing_shelf(&*shelf, ask.at);
+        let (plan, room) = match looked {
             Ok(looked) => looked,
             Err(_) => {
-                *grows = Some(ask.at);
                 self.give_shelf(seat, shelf, ask.at);
                 return Err(Untaken::Refused(StepFault::NoMemory));
             }
         };
-        *grows = growing_shelf(&*shelf, ask.at);
-        let looked = match alone(looked) {
-            Ok(plan) => return Ok(self.settle(seat, shelf, plan, ask)),
-            Err(looked) => looked,
-        };
-        let (desk, brought) = match self.take_desk_for(patience, seat, alloc, &*shelf, &looked) {
+        if !plan.needs_desk() {
+            return Ok(self.settle(seat, shelf, plan, ask));
+        }
+        let (desk, brought) = match self.take_desk_for(patience, seat, alloc, &*shelf, &plan) {
             Ok(taken) => taken,
             Err(told) => {
                 self.give_shelf(seat, shelf, ask.at);
@@ -332,8 +324,8 @@ impl<K: KeyHash + Drop> Shared<K> {
         let at_desk = AtDesk {
             shelf,
             desk,
-            looked,
-            brought,
+            plan,
+            ready: Ready { room, brought },
         };
         match self.answer_at_desk(seat, alloc, at_desk, ask) {
             Ok(reply) => Ok(reply),

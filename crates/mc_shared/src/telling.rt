@@ -27,12 +27,12 @@ use crate::boxed::Boxed;
 use crate::decision::Decision;
 use crate::patience::{Gate, NoGate, Waiting};
 use crate::rule::Seat;
-use crate::step::{growing_shelf, is_read};
+use crate::step::growing_shelf;
 use crate::steps::decide;
 use crate::store::{Caller, Shared};
 use mc_bytes::Lent;
 use mc_hop::KeyHash;
-use mc_protocol::{Answer, Bytes, Reply, StepFault, Unanswered};
+use mc_protocol::{Answer, Bytes, KeyStep, Reply, StepFault, Unanswered};
 use mc_shelf::{Found, Hit, Place, Shelf};
 use std::alloc::{AllocError, Global};
 use std::snapshot::Snapshot;
@@ -181,6 +181,16 @@ fn tell_hit<A: Answer>(shelf: &Shelf, ask: &Ask<'_>, answer: &mut A) -> Result<S
             Ok(()) => Ok(Sought::Told(hit.place())),
             Err(refused) => Err(refused),
         },
+    }
+}
+
+/// Returns whether a step reads an item: get and gets, gat and gats.
+fn is_read(step: &KeyStep<'_>) -> bool
+    ensures { result ≡ is_read step.now }
+{
+    match step {
+        KeyStep::Read { .. } | KeyStep::ReadTouch { .. } => true,
+        _ => false,
     }
 }
 

@@ -1,4 +1,5 @@
-use Rattle.mc_shared.proofs.Words.{start_of, reloaded}
+use Rattle.mc_shared.proofs.Words.{start_of}
+use Rattle.mc_shared.proofs.StepsKept.{reloaded}
 use Rattle.mc_shared.proofs.steps.reload.Given as goal
 
 abbrev pub ghosts-load : goal.ghosts-load

@@ -1,4 +1,5 @@
-use Rattle.mc_shared.proofs.Words.{◌≤◌, AreFilled}
+use Rattle.mc_shared.proofs.Words.{◌≤◌}
+use Rattle.mc_shared.proofs.Opening.{AreFilled}
 use Rattle.mc_shared.proofs.store.first_words.Given as goal
 
 abbrev pub invariant-loop-number : goal.invariant-loop-number

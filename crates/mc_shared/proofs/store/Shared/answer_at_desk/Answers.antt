@@ -24,8 +24,9 @@ none_there (Some x) none = cc
 
 adds : (g : _) → (c : After-raise_for-came g) → is_some (get c.deref_mut.result.now.content.items (key_of c.args.ask.now.step.now)) ≡ false → c.raise_for-came.result ≡ 1
 adds g c none = c.raise_for-came.ensures.one.0
-    (c.may_come-comes.ensures ∙ none_there (get c.deref-2.result.now.content.items (key_of c.args.ask.now.step.now))
-    (subst (λ (s : ShelfState). is_some (get s.content.items (key_of c.args.ask.now.step.now)) ≡ false) (c.deref_mut.ensures.value ∙ sym c.deref-2.ensures) none))
+    (c.is_of_new_key-comes.ensures c.args.at_desk.shelf.value.content c.args.ask.now.step.now c.args.ask.now.moment c.requires.plan.is_plan
+    ∙ none_there (get c.args.at_desk.shelf.value.content.items (key_of c.args.ask.now.step.now))
+    (subst (λ (s : ShelfState). is_some (get s.content.items (key_of c.args.ask.now.step.now)) ≡ false) c.deref_mut.ensures.value none))
 
 pub begin-requires-clause-stands : goal.begin-requires-clause-stands
 begin-requires-clause-stands g c =
@@ -56,7 +57,7 @@ decide-requires g c =
     let old = c.deref_mut.result.now.content in
     let from = c.deref_mut-2.result.now in
     let to = c.begin.new.desk in
-    let plan = c.in-Ok.plan in
+    let plan = c.begin.new.plan in
     let new = finished plan step c.begin.new.shelf.content in
     let reply = told_next plan.next in
     let what = Stepped step ask.moment reply in
@@ -67,7 +68,7 @@ decide-requires g c =
     let taken : StepTaken step ask.moment (began.hash_of key) old from reply new to =
     subst (λ (h : ℕ). StepTaken step ask.moment h old from reply new to) asked.hashed c.in-Ok.ensures.took in
     let by_step = λ (m : Plain) (part : IsShelfOf began.hash_of began.shelves m at old) (desk : IsDeskOf m from).
-    goes_by_step step own part desk c.requires.on_key taken in
+    goes_by_step step own part desk c.requires.plan.is_plan.on_key taken in
     let added : ℕ = c.raise_for-came.result in
     let shelves : began.shelves ≡ c.self.inside.settings.shelves = ap (λ s. s.shelves) inv.1 in
     let word : ℕ = word_of began.shelves (ask.hash % 4096) in
@@ -89,7 +90,7 @@ decide-requires g c =
     (λ m fits. (fits.1.0.1, (to, goes_step began at old new from to step ask.moment reply by_step m fits.1.0.1 fits.0.1)))))
 
 -- what the shelf holds in the end
-left_at : (g : _) → (c : After-len g) → c.len.result ≡ len (finished c.in-Ok.plan c.args.ask.now.step.now c.deref_mut-in-Ok.result.now.content).items
+left_at : (g : _) → (c : After-len g) → c.len.result ≡ len (finished c.begin.new.plan c.args.ask.now.step.now c.deref_mut-in-Ok.result.now.content).items
 left_at g c = c.len.ensures.count ∙ ap (λ (s : ShelfState). len s.content.items) c.deref-in-Ok-2.ensures ∙ ap (λ (s : ShelfContent). len s.items) c.finish-reply.ensures.content
 
 pub overflow_sub-had : goal.overflow_sub-had
@@ -97,10 +98,10 @@ overflow_sub-had g c =
     let board = c.self.inside.board.shared in
     let at = goal.at.overflow_sub-had g c in
     let ask = c.args.ask.now in
-    let new = finished c.in-Ok.plan ask.step.now c.begin.new.shelf.content in
+    let new = finished c.begin.new.plan ask.step.now c.begin.new.shelf.content in
     let asked = subst (λ (s : SharedState g.row.K.Denot). IsAsked g.K.KeyHash.hash_of s ask) (sym c.self.view_is) c.requires.asked in
     let is : c.len.result ≡ len new.items =
-    left_at g at.After-len ∙ ap (λ (s : ShelfState). len (finished c.in-Ok.plan ask.step.now s.content).items) c.deref_mut-in-Ok.ensures.value in
+    left_at g at.After-len ∙ ap (λ (s : ShelfState). len (finished c.begin.new.plan ask.step.now s.content).items) c.deref_mut-in-Ok.ensures.value in
     let most = enough (start_of g.K.KeyHash.hash_of board.key.value) c.args.ask.now.at c.self.invariant.0.divides (key_of ask.step.now) asked.own
     c.deref_mut.result.now.content new c.in-Ok.ensures.took.others.items c.raise_for-came.result _ refl (adds g at.After-raise_for-came) in
     omega (arith, was g at.After-deref_mut-2, is, most)
@@ -110,11 +111,11 @@ named : (g : _) → (c : After-len g) → c.decide.new.seat.me.0.surplus
     ≡ replicate ((c.len-before.result + c.raise_for-came.result) - c.len.result) (word_of c.self.inside.settings.shelves (c.args.ask.now.hash % 4096)) ++ []
 named g c =
     let step = c.args.ask.now.step.now in
-    let new = finished c.in-Ok.plan step c.deref-in-Ok.result.now.content in
+    let new = finished c.begin.new.plan step c.deref-in-Ok.result.now.content in
     let all : ℕ = c.len-before.result + c.raise_for-came.result in
     let left : c.len.result ≡ len new.items = left_at g c
-    ∙ ap (λ (s : ShelfState). len (finished c.in-Ok.plan step s.content).items) (c.deref_mut-in-Ok.ensures.value ∙ sym c.deref-in-Ok.ensures) in
-    all_named c.raise_for-came.new.seat.me c.decide.new.seat.me (Stepped step c.args.ask.now.moment (told_next c.in-Ok.plan.next)) ((c.args.ask.now.at, OfShelf new) ∷ []) _
+    ∙ ap (λ (s : ShelfState). len (finished c.begin.new.plan step s.content).items) (c.deref_mut-in-Ok.ensures.value ∙ sym c.deref-in-Ok.ensures) in
+    all_named c.raise_for-came.new.seat.me c.decide.new.seat.me (Stepped step c.args.ask.now.moment (told_next c.begin.new.plan.next)) ((c.args.ask.now.at, OfShelf new) ∷ []) _
     (word_of c.self.inside.settings.shelves (c.args.ask.now.hash % 4096)) (all - c.len.result) c.decide.ensures.view.0
     (λ i. replicate (all - sym left i) (word_of (c.self.invariant.1 i).shelves (c.args.ask.now.hash % 4096)))
 
@@ -122,10 +123,10 @@ pub lower_all-requires-clause-named : goal.lower_all-requires-clause-named
 lower_all-requires-clause-named g c = ([], named g (goal.at.lower_all-requires-clause-named g c).After-len)
 
 abbrev new : (g : _) → After-lower_all g → ShelfContent
-new g c = finished c.in-Ok.plan c.args.ask.now.step.now c.deref-in-Ok.result.now.content
+new g c = finished c.begin.new.plan c.args.ask.now.step.now c.deref-in-Ok.result.now.content
 
 abbrev what : (g : _) → After-lower_all g → Operation
-what g c = Stepped c.args.ask.now.step.now c.args.ask.now.moment (told_next c.in-Ok.plan.next)
+what g c = Stepped c.args.ask.now.step.now c.args.ask.now.moment (told_next c.begin.new.plan.next)
 
 alone : (g : _) → (c : After-lower_all g) → c.lower_all.new.seat.me ≡ loaded c.decide.new.seat.me []
     → HoldsShelf g.K.KeyHash.hash_of c.args.self.now c.lower_all.new.seat c.args.ask.now.at (new g c)
@@ -140,7 +141,7 @@ pub give_shelf-requires : goal.give_shelf-requires
 give_shelf-requires g c =
     let at = goal.at.give_shelf-requires g c in
     let content = c.finish-reply.ensures.content
-    ∙ ap (λ (s : ShelfState). finished c.in-Ok.plan c.args.ask.now.step.now s.content) (c.deref_mut-in-Ok.ensures.value ∙ sym c.deref-in-Ok.ensures) in
+    ∙ ap (λ (s : ShelfState). finished c.begin.new.plan c.args.ask.now.step.now s.content) (c.deref_mut-in-Ok.ensures.value ∙ sym c.deref-in-Ok.ensures) in
     subst (λ (f : ShelfContent). HoldsShelf g.K.KeyHash.hash_of c.args.self.now c.lower_all.new.seat c.args.ask.now.at f) (sym content)
     (alone g at.After-lower_all (c.lower_all.ensures.view [] (named g at.After-len))).0
 
@@ -148,7 +149,7 @@ pub returns-in-Ok-clause-answered : goal.returns-in-Ok-clause-answered
 returns-in-Ok-clause-answered g c =
     let at = goal.at.returns-in-Ok-clause-answered g c in
     came_out (start_of g.K.KeyHash.hash_of c.args.self.now.began) (caller_at c.args.seat.now) (caller_at c.give_shelf.new.seat) c.args.ask.now.step.now c.args.ask.now.moment
-    c.finish-reply.result (told_next c.in-Ok.plan.next) Refuses
+    c.finish-reply.result (told_next c.begin.new.plan.next) Refuses
     (c.give_shelf.ensures.free.alive.seated.own ∙ sym c.requires.holds.own)
     (c.give_shelf.ensures.past ∙ (alone g at.After-lower_all (c.lower_all.ensures.view [] (named g at.After-len))).1)
     c.finish-reply.ensures.reply c.give_shelf.ensures.agrees

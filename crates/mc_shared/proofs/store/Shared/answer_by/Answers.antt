@@ -5,7 +5,7 @@ use Rattle.mc_shared.proofs.store.Shared.answer_by.Goals.{After-deref-2}
 -- the shelf is held as it was taken
 held : (g : _) → (c : After-deref-2 g) → HoldsShelf g.K.KeyHash.hash_of c.args.self.now c.take_shelf.new.seat c.args.ask.now.at c.deref-2.result.now.content
 held g c = subst (λ (f : ShelfContent). HoldsShelf g.K.KeyHash.hash_of c.args.self.now c.take_shelf.new.seat c.args.ask.now.at f)
-    (sym (ap (λ (s : ShelfState). s.content) c.deref-2.ensures ∙ (c.look.ensures.content ∙ ap (λ (s : ShelfState). s.content) c.deref_mut.ensures.value))) c.in-Ok.ensures.ok
+    (sym (ap (λ (s : ShelfState). s.content) c.deref-2.ensures ∙ (c.look-looked.ensures.content ∙ ap (λ (s : ShelfState). s.content) c.deref_mut.ensures.value))) c.in-Ok.ensures.ok
 
 pub take_desk_for-requires-clause-holds : goal.take_desk_for-requires-clause-holds
 take_desk_for-requires-clause-holds g c =

@@ -15,5 +15,5 @@ decide-requires g c =
     subst (λ (s : ShelfState). MayDecide board.table_id board.key.value c.args.seat.now ask.at (start_of g.K.KeyHash.hash_of board.key.value) (OfShelf s.content)
     (Stepped step ask.moment reply) [] []) (sym c.of.ensures)
     (at_settled g.K.KeyHash.hash_of board.table_id board.key.value c.args.self.now c.self.view_is c.self.invariant.0 c.args.seat.now ask old c.settle-reply.new.self.content reply
-    holds c.requires.asked c.requires.on_key
+    holds c.requires.asked plan.on_key
     (subst (λ h. PlanIsSettled step ask.moment h old reply c.settle-reply.new.self.content) c.requires.plan.hashed (c.settle-reply.ensures.told step ask.moment plan)))

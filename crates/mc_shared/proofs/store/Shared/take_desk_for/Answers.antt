@@ -14,8 +14,8 @@ take_desk-requires-3 g c =
     (holds.0, holds.1, c.give_desk.ensures.holds holds.0 holds.1 (c.in_ok-desk.ensures.ok holds.0 holds.1 holds.2))
 
 pub returns-clause-ok : goal.returns-clause-ok
-returns-clause-ok g c at shelf holds = c.in_ok-take_desk.ensures.ok at shelf (c.give_desk.ensures.holds at shelf (c.in_ok-desk.ensures.ok at shelf holds))
+returns-clause-ok g c at shelf holds = c.in_ok-take_desk-2.ensures.ok at shelf (c.give_desk.ensures.holds at shelf (c.in_ok-desk.ensures.ok at shelf holds))
 
-pub returns-in_err-take_desk-clause-stays : goal.returns-in_err-take_desk-clause-stays
-returns-in_err-take_desk-clause-stays g c = always c.from_residual-in_err-take_desk.result
-    (λ at shelf holds. c.in_err-take_desk.ensures.stays at shelf (c.give_desk.ensures.holds at shelf (c.in_ok-desk.ensures.ok at shelf holds)))
+pub returns-in_err-take_desk-2-clause-stays : goal.returns-in_err-take_desk-2-clause-stays
+returns-in_err-take_desk-2-clause-stays g c = always c.from_residual-in_err-take_desk-2.result
+    (λ at shelf holds. c.in_err-take_desk-2.ensures.stays at shelf (c.give_desk.ensures.holds at shelf (c.in_ok-desk.ensures.ok at shelf holds)))
