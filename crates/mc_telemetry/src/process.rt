@@ -34,7 +34,7 @@ const STARTED: &str = "btime ";
 const TICKS: u64 = 100;
 
 /// The bytes of a page of memory on x86-64.
-const PAGE: u64 = 4096;
+const KERNEL_PAGE: u64 = 4096;
 
 /// The first field behind the program's name, counted from 1.
 const FIRST: usize = 3;
@@ -130,7 +130,7 @@ fn figures_of(stat: &[u8]) -> ProcessReading
 fn resident_of(stat: &[u8]) -> Option<u64>
     ensures { result ≡ resident_of stat.now }
 {
-    Some(field_of(stat, RESIDENT)?.saturating_mul(PAGE))
+    Some(field_of(stat, RESIDENT)?.saturating_mul(KERNEL_PAGE))
 }
 
 /// Returns the time for which the process used a processor, in hundredths of a second.
