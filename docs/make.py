@@ -23,7 +23,7 @@ import style  # noqa: E402
 from tests.lib import bodies  # noqa: E402
 
 # The run that README.md, docs/BENCHMARKS.md and docs/tcp.svg show.
-RUN = "bench/results/2026-11-30-95d22079.json"
+RUN = "bench/results/2026-12-01-211ab182.json"
 # The workloads that README.md shows.
 SHOWN = ["get", "set", "get of 100 keys", "get, 32 deep", "set, 32 deep",
          *(f"{verb} of {size}" for size in ("10 KB", "100 KB", "1 MB", "8 MB") for verb in ("get", "set"))]
