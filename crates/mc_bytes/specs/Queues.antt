@@ -21,8 +21,8 @@ nothing_held = record { bytes = []; filled = 0; reserved = 0 }
 abbrev pub twice : ℕ → ℕ
 twice filled = max 8 (2 * filled)
 
--- the memory for a text, a sixteenth of which is there: room for the whole text, for as many
--- consumed bytes as are there, and for 16384 bytes behind it
+-- the memory reserved for a text once a sixteenth of it has come: the whole text, as many consumed
+-- bytes as have come, and 16384 bytes behind it
 abbrev pub begun : (there : ℕ) → ℕ
 begun there = 17 * there + 16399
 
@@ -34,7 +34,7 @@ IsHalfFull queue = queue.filled ≤ 2 * length queue.bytes
 abbrev pub IsGrown : (old new : QueueState) → Type 0
 IsGrown old new = new.reserved ≤ max old.reserved (twice new.filled)
 
--- the same for a part of a text, for which room may be made
+-- the same for a part of a text; room may be made for it
 abbrev pub IsGrownForText : (old new : QueueState) → Type 0
 IsGrownForText old new =
     new.reserved ≤ max (max old.reserved (twice new.filled)) (begun (length old.bytes))

@@ -227,7 +227,7 @@ impl Buffer {
         ensures none { result ≡ None → self.new ≡ self.old }
     {
         let bytes = mem::replace(&mut self.all, Vec::new(alloc));
-        match Arc::new(alloc, Large { bytes }) {
+        match Arc::new(alloc, Large::new(bytes)) {
             Ok(mut memory) => {
                 if let Some(large) = Arc::get_mut(&mut memory) {
                     fill_up(&mut large.bytes);

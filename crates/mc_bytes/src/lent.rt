@@ -1,6 +1,6 @@
 //! A part of memory that several owners read, and nobody writes.
 
-ghost use Rattle.std.specs.Prelude.{◌≡◌, ◌+◌, ◌-◌, ◌≤◌, length, take, drop, IfSome};
+ghost use Rattle.std.specs.Prelude.{◌≡◌, ◌+◌, ◌-◌, ◌*◌, ◌<◌, ◌≤◌, length, take, drop, IfSome};
 ghost use Rattle.std.specs.Arc.{arc_value};
 
 use crate::large::Large;
@@ -120,11 +120,16 @@ impl Lent {
         self.memory.bytes.len()
     }
 
-    /// Returns whether its bytes come right behind those of another part, in memory of the same size.
+    /// Returns the part's share of memory that has left the store: its bytes divided by the number
+    /// of its owners, rounded up. 0 while the memory is a chunk's.
     ///
-    /// Two parts of one hit for which it is true have the same memory.
-    pub(crate) fn comes_behind(&self, before: &Lent) -> bool {
-        self.from == before.to && self.memory.bytes.len() == before.memory.bytes.len()
+    /// So what has left counts once, however many read it.
+    pub fn left_bytes(&self) -> usize {
+        if self.memory.has_left() {
+            share_of(self.memory.bytes.len(), Arc::strong_count(&self.memory))
+        } else {
+            0
+        }
     }
 
     /// Leaves the first `count` bytes out from now on. The others are unchanged.
@@ -133,5 +138,20 @@ impl Lent {
         ensures { self.new ≡ drop count self.old }
     {
         self.from += count;
+    }
+}
+
+/// Returns the share of `bytes` bytes that one of this number of owners is counted for. The shares
+/// of all are at least the bytes, and each is rounded up by less than a byte.
+fn share_of(bytes: usize, owners: usize) -> usize
+    requires { 0 < owners }
+    ensures whole { bytes ≤ result * owners }
+    ensures close { result * owners < bytes + owners }
+{
+    let share = bytes / owners;
+    if bytes % owners == 0 {
+        share
+    } else {
+        share + 1
     }
 }

@@ -78,22 +78,14 @@ impl Lents {
         self.left == 0
     }
 
-    /// Returns the number of bytes of the memory that its parts keep.
-    ///
-    /// A part keeps its memory whole, so that is more than its bytes. Memory that several parts lie
-    /// in, one right behind another, counts once.
-    pub fn kept_bytes(&self) -> usize
-        ensures { length self.now ≤ result }
-    {
-        let mut kept = self.first.kept_bytes();
-        let mut before = &self.first;
+    /// Returns the bytes of memory that has left the store and that its parts keep, each memory
+    /// divided by the number of its owners.
+    pub fn left_bytes(&self) -> usize {
+        let mut left = self.first.left_bytes();
         for part in self.rest.iter() {
-            if !part.comes_behind(before) {
-                kept = kept.saturating_add(part.kept_bytes());
-            }
-            before = part;
+            left = left.saturating_add(part.left_bytes());
         }
-        kept.max(self.left)
+        left
     }
 
     /// Returns whether the bytes that aren't consumed are these.
