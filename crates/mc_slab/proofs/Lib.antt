@@ -2,7 +2,6 @@ pub mod BlockLemmas
 pub mod ChunkLemmas
 pub mod ClassLemmas
 pub mod HeldLemmas
-pub mod NeedLemmas
 pub mod ReadyLemmas
 pub mod RoomLemmas
 pub mod SheetLemmas

@@ -3,7 +3,7 @@ use Rattle.std.specs.Prelude.{◌≡◌, ℕ, ◌+◌, ◌*◌, ◌<◌, ◌≤�
 use Rattle.std.specs.Coded.{Coded, code_by, coded×, coded_ℕ, coded_list}
 use Rattle.mc_slab.specs.Classes.{page_size, size_of}
 use Rattle.mc_slab.specs.Needs.{NeedState, IsNeed, size_in}
-use Rattle.mc_slab.specs.declared.head.TheConstants.{HEADER_SIZE, LARGEST_BLOCK}
+use Rattle.mc_sizes.specs.declared.block.TheConstants.{HEADER_SIZE, LARGEST_BLOCK}
 
 -- chunks of one class: how many, their bytes one after another, and the bytes of their head
 pub record ChunksState : Type 0 where

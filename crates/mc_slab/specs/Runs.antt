@@ -1,4 +1,4 @@
--- The memory of a class of which no chunk is cut yet. It lies in runs.
+-- The uncut memory of a class. It lies in runs.
 use Rattle.std.specs.Prelude.{◌≡◌, ℕ, ◌*◌, ◌/◌, ◌<◌, ◌≤◌, List, max, refl, vec_capacity}
 use Rattle.std.specs.Coded.{Coded, code_by, coded×, coded_ℕ}
 use Rattle.std.specs.List.{All, sum_by}
@@ -35,7 +35,7 @@ coded_pages =
 abbrev pub chunks_a_run : ℕ → ℕ
 chunks_a_run class = max (32768 / size_of class) 1
 
--- the memory gives so many chunks of the class
+-- the memory gives `count` chunks of the class
 abbrev pub IsMemoryOf : (class count : ℕ) → Memory → Type 0
 IsMemoryOf class count (Bytes bytes) = (class < 27) × (count * size_of class ≤ vec_capacity bytes)
 IsMemoryOf class count (Chunk chunk) =
@@ -50,6 +50,6 @@ pub record IsRunOf (class : ℕ) (run : UncutState) : Type 0 where
   pub same_class : run.class ≡ class
   pub some : 1 ≤ run.count
 
--- runs of the class, each of which gives a chunk
+-- runs of the class; each gives a chunk
 abbrev pub AreRunsOf : ℕ → List UncutState → Type 0
 AreRunsOf class runs = All (IsRunOf class) runs

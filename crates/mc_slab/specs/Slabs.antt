@@ -24,7 +24,7 @@ coded_slab =
     (λ p. record { limit = p.0; pages = p.1.0; out = p.1.1 })
     (λ _. refl)
 
--- a slab of which nothing was taken
+-- a slab that nothing was taken from
 abbrev pub untouched : ℕ → SlabState
 untouched limit = record { limit = limit; pages = replicate 40 0; out = replicate 40 0 }
 
@@ -48,7 +48,7 @@ pages_left slab = slab.limit - sum slab.pages
 abbrev pub unused : SlabState → ℕ → ℕ
 unused slab class = chunks_of slab class - out_of slab class
 
--- the chunks of a need can be had once so many of its class came back: so many are unused, or can be cut of the pages left
+-- the chunks of a need can be had once a number of its class came back: they are unused, or can be cut from the pages left
 abbrev pub has_room_with : SlabState → NeedState → ℕ → Bool
 has_room_with slab need back =
     nat_le need.count (unused slab need.class + back + pages_left slab * chunks_a_page need.class)
@@ -57,12 +57,12 @@ has_room_with slab need back =
 abbrev pub has_room : SlabState → NeedState → Bool
 has_room slab need = has_room_with slab need 0
 
--- how many pages its class wants for a need, once so many chunks came back; a page gives one chunk
--- if several are needed
+-- how many pages its class wants for a need, once a number of chunks came back; a page gives one
+-- chunk if several are needed
 abbrev pub pages_wanted : SlabState → NeedState → ℕ → ℕ
 pages_wanted slab need back = need.count - (unused slab need.class + back)
 
--- so many pages more for the class
+-- the class has this number of pages more
 abbrev pub with_pages : SlabState → ℕ → ℕ → SlabState
 with_pages slab class count =
     record slab { pages = slice_set slab.pages (class - 1) (pages_of slab class + count) }
@@ -71,7 +71,7 @@ with_pages slab class count =
 abbrev pub made_ready : SlabState → NeedState → ℕ → SlabState
 made_ready slab need back = with_pages slab need.class (pages_wanted slab need back)
 
--- the class has so many chunks out
+-- the class has this number of chunks out
 abbrev pub with_out : SlabState → ℕ → ℕ → SlabState
 with_out slab class out = record slab { out = slice_set slab.out (class - 1) out }
 
@@ -81,7 +81,7 @@ taken slab need =
     let ready = made_ready slab need 0 in
     with_out ready need.class (out_of ready need.class + need.count)
 
--- after so many chunks of the class were given back
+-- after a number of chunks of the class were given back
 abbrev pub given : SlabState → ℕ → ℕ → SlabState
 given slab class count = with_out slab class (out_of slab class - count)
 
@@ -94,7 +94,7 @@ pub record IsSlab (slab : SlabState) : Type 0 where
   pub limit : sum slab.pages ≤ slab.limit
   pub most : slab.limit ≤ 65536
 
--- the chunks of a need can't be had, once so many of its class came back
+-- the chunks of a need can't be had, once a number of its class came back
 abbrev pub IsFull : SlabState → NeedState → ℕ → Type 0
 IsFull slab need back = has_room_with slab need back ≡ false
 
@@ -144,7 +144,7 @@ pub record Readies (need : NeedState) (back : ℕ) (old : SlabState) (result : R
 abbrev pub empty_stock : ℕ → StockState
 empty_stock class = record { class = class; pages = 0; out = 0 }
 
--- the state that the stocks show, with so many pages left
+-- the state that the stocks show, with the pages left
 abbrev pub state_of : ℕ → List StockState → SlabState
 state_of left stocks =
     let pages = map (λ stock. stock.pages) stocks in

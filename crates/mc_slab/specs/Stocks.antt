@@ -27,9 +27,8 @@ all_chunks stock = stock.pages * chunks_a_page stock.class
 abbrev pub IsChunkOf : ℕ → ChunksState → Type 0
 IsChunkOf class chunk = AreChunksOf (record { class = class; count = 1 }) chunk
 
--- A stock with these free chunks, in a list that has room for so many, and with memory of which chunks are to be cut: what is
--- out, what is free and what is to be cut add up to the chunks of its pages, all is of the class, and there is room for all
--- of them among the free ones.
+-- A stock with these free chunks, in a list with room for `room`, and with uncut memory: its chunks out, free and uncut add
+-- up to the chunks of its pages, all are of the class, and the list of free chunks has room for all.
 pub record IsStock (stock : StockState) (free : List ChunksState) (room : ℕ) (uncut : UncutState) : Type 0 where
   pub is_class : IsClass stock.class
   pub pages : stock.pages ≤ 65536

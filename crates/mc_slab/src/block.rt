@@ -18,19 +18,24 @@ ghost use Rattle.mc_slab.specs.Chunks.{with_part};
 ghost use Rattle.mc_slab.specs.Blocks.{bytes_in, is_shared, IsBlock};
 
 use mc_bytes::{Large, Lent};
+use mc_sizes::BESIDE;
 use std::alloc::{AllocError, Global};
 use std::marker::Model;
 use std::mem;
 use std::sync::Arc;
 
-/// Bytes beside its own that a chunk's memory may have, so that it can take over memory in which
-/// something stands before the block. With more, chunks would keep more memory than their pages.
-pub const BESIDE: usize = 512;
-
 /// Bytes of a chunk that can be lent. Contracts see the bytes.
-#[derive(Drop)]
 pub(crate) struct Lendable {
     memory: Memory,
+}
+
+impl Drop for Lendable {
+    fn drop(self) {
+        let Lendable { memory } = self;
+        if let Memory::Shared { large, .. } = &memory {
+            large.leave();
+        }
+    }
 }
 
 /// Where the bytes lie.
@@ -67,7 +72,7 @@ impl Lendable {
         ensures { IfOk result (λ block. length block ≡ size) }
     {
         let bytes = Vec::with_capacity(alloc, size.saturating_add(BESIDE))?;
-        let mut large = Large { bytes };
+        let mut large = Large::new(bytes);
         large.bytes.resize(size, 0)?;
         Ok(Lendable {
             memory: shared(alloc, large),
@@ -168,7 +173,7 @@ fn shared(alloc: Global, large: Large) -> Memory
     ensures block { IsBlock result }
 {
     match Vec::with_capacity(alloc, large.bytes.len().saturating_add(BESIDE)) {
-        Ok(bytes) => shared_beside(large, Large { bytes }),
+        Ok(bytes) => shared_beside(large, Large::new(bytes)),
         Err(_) => Memory::Own(large),
     }
 }
@@ -239,10 +244,11 @@ fn written_copy(memory: Memory, at: usize, part: &[u8]) -> Memory
             from,
             size,
         } => {
+            large.leave();
             let alloc = *spare.bytes.allocator();
             let old = part_of(large.bytes.as_slice(), from, size);
             match Vec::with_capacity(alloc, size.saturating_add(BESIDE)) {
-                Ok(bytes) => shared_beside(copy_into(Large { bytes }, old, at, part), spare),
+                Ok(bytes) => shared_beside(copy_into(Large::new(bytes), old, at, part), spare),
                 Err(_) => shared(alloc, copy_into(spare, old, at, part)),
             }
         }
@@ -278,6 +284,7 @@ fn make_blank(memory: &mut Memory, blank: &Arc<Large>)
         }
         if let Ok(other) = Arc::try_clone(blank) {
             *from = 0;
+            large.leave();
             *large = other;
         }
     }
@@ -288,7 +295,7 @@ pub(crate) fn blank_memory(alloc: Global, size: usize) -> Option<Arc<Large>> {
     let Ok(bytes) = Vec::with_capacity(alloc, size) else {
         return None;
     };
-    let mut large = Large { bytes };
+    let mut large = Large::new(bytes);
     if large.bytes.resize(size, 0).is_err() {
         return None;
     }
@@ -341,6 +348,7 @@ fn exchange(memory: &mut Memory, part: &Lent, most: usize) -> bool
                     return false;
                 }
                 *from = place;
+                large.leave();
                 part.leave(mem::replace(large, other));
                 true
             }

@@ -3,20 +3,18 @@
 //! `Chunks` may be dropped. Dropped chunks stay counted as in use. A linear type would need a
 //! destructor by hand in each type that holds chunks.
 
-ghost use Rattle.std.specs.Prelude.{◌≡◌, ◌+◌, ◌-◌, ◌<◌, ◌≤◌, length, take, drop, IfOk, IfSome, IsTrue, IsFalse};
+ghost use Rattle.std.specs.Prelude.{◌≡◌, ◌+◌, ◌-◌, ◌*◌, ◌<◌, ◌≤◌, length, take, drop, IfOk, IfSome, IsTrue, IsFalse};
 ghost use Rattle.mc_slab.specs.Chunks.{ChunksState, AreChunks, AreChunksOf, TakesOver, chunk_at};
 ghost use Rattle.mc_slab.specs.Chunks.{need_in, with_part, written_cut};
 ghost use Rattle.mc_slab.specs.Classes.{size_of};
 ghost use Rattle.mc_slab.specs.Helds.{chunks_in};
 ghost use Rattle.mc_slab.specs.declared.held.Held.TheVariants.{Sheets};
 
-use crate::block::BESIDE;
-use crate::class::Class;
 use crate::held::{self, Held};
 use crate::lone::LoneChunk;
-use crate::need::Need;
 use crate::sheet::Sheet;
 use mc_bytes::{Large, Lent};
+use mc_sizes::{BESIDE, Class, Need};
 use std::alloc::{AllocError, Global};
 use std::marker::Model;
 use std::sync::Arc;
@@ -215,7 +213,11 @@ impl Chunks {
 }
 
 /// Returns how many bytes memory may have that chunks of a need take over.
-fn memory_of(need: Need) -> usize {
+///
+/// They are those of the chunks, and at most 512 beside them.
+fn memory_of(need: Need) -> usize
+    ensures { result ≤ size_of need.class * need.count + 512 }
+{
     let size = need.class().size() as usize;
     size.saturating_mul(need.count() as usize)
         .saturating_add(BESIDE)

@@ -7,14 +7,7 @@ ghost use Rattle.std.specs.Prelude.{◌≡◌, ◌+◌, ◌≤◌, length};
 ghost use Rattle.mc_slab.specs.Chunks.{with_part};
 
 use crate::held::write_part;
-use crate::need::LARGEST_CHARGE;
 use std::marker::Model;
-
-/// The bytes of an item's header, which stands in front of its key.
-pub const HEADER_SIZE: usize = 48;
-
-/// The bytes of the largest block: what the largest charge leaves beside the header.
-pub const LARGEST_BLOCK: u64 = LARGEST_CHARGE - HEADER_SIZE as u64;
 
 /// Bytes of a head. The longest header and key have 298.
 const HEAD: usize = 304;

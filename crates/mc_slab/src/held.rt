@@ -13,11 +13,10 @@ ghost use Rattle.mc_slab.specs.Chunks.{one_chunk, with_part, written_cut};
 ghost use Rattle.mc_slab.specs.Classes.{size_of};
 ghost use Rattle.mc_slab.specs.Helds.{chunks_in};
 
-use crate::class::{CLASSES, Class, LENT, each_class};
 use crate::lone::LoneChunk;
-use crate::need::Need;
 use crate::sheet::Sheet;
 use mc_bytes::{Large, Lent};
+use mc_sizes::{CLASSES, Class, LENT, Need, each_class};
 use std::sync::Arc;
 
 /// One chunk of a class below the last, or the chunks of the last class.
@@ -374,7 +373,7 @@ fn lone(held: &Held) -> &LoneChunk
 }
 
 /// Returns where a chunk of a class below 27 lies whose bytes are given.
-#[tactic(auto, using(crate::proofs::ClassLemmas::sizes))]
+#[tactic(auto, using(mc_sizes::proofs::ClassLemmas::sizes))]
 pub(crate) fn of_bytes(class: Class, bytes: &'static mut [u8]) -> Held
     requires class { class < 27 }
     requires size { length bytes.old ≡ size_of class }

@@ -20,34 +20,31 @@
 //!
 //! Contracts see a slab as its limit of pages and, for each class, its pages and the chunks that
 //! are out. `take_all` fails as full exactly if the unused chunks and those of the pages left are
-//! too few. It allocates only for pages, and an error changes nothing. The laws state the table of
-//! sizes, and that no class is given more pages than a need wants.
+//! too few. It allocates only for pages, and an error changes nothing. The laws state that no class
+//! is given more pages than a need wants.
 //!
-//! Begin with `specs/Slabs.antt` and `src/slab.rt`; the table is `src/class.rt`.
+//! Begin with `specs/Slabs.antt` and `src/slab.rt`; the table of sizes is in `mc_sizes`.
 //!
 //! Tests: mc_item_tests, src/slab_tests.rt.
 #![tactic(auto)]
 
 mod block;
 mod chunks;
-mod class;
 mod head;
 mod held;
 mod laws;
 mod lone;
-mod need;
 mod run;
 mod sheet;
 mod slab;
 mod stock;
 mod whole;
 
-pub use block::BESIDE;
 pub use chunks::Chunks;
-pub use class::{Class, PAGE_SIZE, class_of};
-pub use head::{HEADER_SIZE, LARGEST_BLOCK};
-pub use laws::{ready_is_enough, table_of_classes, wanted_pages_are_least};
-pub use need::{LARGEST_CHARGE, Need, need_of};
+pub use laws::{ready_is_enough, wanted_pages_are_least};
+pub use mc_sizes::{
+    Account, BESIDE, Class, HEADER_SIZE, LARGEST_BLOCK, LARGEST_CHARGE, Need, PAGE_SIZE, class_of,
+    need_of, table_of_classes,
+};
 pub use run::Pages;
 pub use slab::{Slab, TakeFault};
-pub use stock::Account;

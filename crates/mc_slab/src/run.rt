@@ -11,7 +11,7 @@ ghost use Rattle.mc_slab.specs.Runs.{AreRunsOf, IsMemoryOf, chunks_a_run, uncut}
 ghost use Rattle.mc_slab.specs.Stocks.{IsChunkOf};
 
 use crate::chunks::Chunks;
-use crate::class::{CLASSES, Class, LENT};
+use mc_sizes::{CLASSES, Class, LENT};
 use std::alloc::{AllocError, Global};
 use std::marker::Model;
 

@@ -7,10 +7,9 @@ ghost use Rattle.mc_slab.specs.Slabs.{pages_of, out_of, pages_left, given, unuse
 ghost use Rattle.mc_slab.specs.declared.slab.TakeFault.TheVariants.{NoMemory};
 
 use crate::chunks::Chunks;
-use crate::class::{CLASSES, Class};
-use crate::need::Need;
 use crate::run::Pages;
-use crate::stock::{Account, Stock};
+use crate::stock::Stock;
+use mc_sizes::{Account, CLASSES, Class, Need};
 use std::alloc::{AllocError, Global};
 use std::marker::Model;
 use thiserror::Error;

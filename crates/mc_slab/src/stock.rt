@@ -9,21 +9,12 @@ ghost use Rattle.mc_slab.specs.Stocks.{IsChunkOf, all_chunks};
 
 use crate::block::blank_memory;
 use crate::chunks::Chunks;
-use crate::class::{CLASSES, Class};
 use crate::run::{Pages, Runs};
 use mc_bytes::Large;
+use mc_sizes::{Account, CLASSES, Class};
 use std::alloc::{AllocError, Global};
 use std::marker::Model;
 use std::sync::Arc;
-
-/// The pages of a class, and how many of their chunks are out.
-#[derive(Clone, Copy, Debug, PartialEq, Eq)]
-pub struct Account {
-    /// The number of pages that went to the class.
-    pub pages: u32,
-    /// The number of their chunks that are out.
-    pub out: u32,
-}
 
 /// The pages of one class: how many there are, the chunks that are out, the free ones, and uncut
 /// runs.

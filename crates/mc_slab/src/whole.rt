@@ -5,8 +5,8 @@ ghost use Rattle.mc_slab.specs.Chunks.{with_part};
 ghost use Rattle.mc_slab.specs.Classes.{page_size};
 
 use crate::block::Lendable;
-use crate::class::PAGE_SIZE;
 use mc_bytes::{Large, Lent};
+use mc_sizes::PAGE_SIZE;
 use std::alloc::{AllocError, Global};
 use std::marker::Model;
 use std::sync::Arc;

@@ -1,7 +1,7 @@
 use Rattle.std.proofs.Common.{ltb, rules}
 use Rattle.std.proofs.lemmas.List.Sorted.{IsPartitionPoint-from_clause}
-use Rattle.mc_slab.proofs.ClassLemmas.{table, chunk_sizes-is, sizes_part, PartsAt-from}
-use Rattle.mc_slab.proofs.class.smaller_sizes.Goals as goal
+use Rattle.mc_sizes.proofs.ClassLemmas.{table, chunk_sizes-is, sizes_part, PartsAt-from}
+use Rattle.mc_sizes.proofs.class.smaller_sizes.Goals as goal
 
 pub returns : goal.returns
 returns c =

@@ -1,7 +1,7 @@
 //! Slab classes: the sizes of chunks.
 
 ghost use Rattle.std.specs.Prelude.{◌≡◌, ℕ, ◌-◌, ◌+◌, ◌<◌, ◌≤◌, ◌↔◌, IfSome, IsNone};
-ghost use Rattle.mc_slab.specs.Classes.{IsClass, page_size, size_of, chunks_a_page, class_of, PartsAt};
+ghost use Rattle.mc_sizes.specs.Classes.{IsClass, page_size, size_of, chunks_a_page, class_of, PartsAt};
 
 use std::alloc::AllocError;
 use std::marker::Model;
@@ -10,16 +10,17 @@ use std::marker::Model;
 pub const PAGE_SIZE: u32 = 1048576;
 
 /// The number of classes.
-pub(crate) const CLASSES: u8 = 40;
+pub const CLASSES: u8 = 40;
 
 /// The first class whose chunks can be lent: each of them is memory of its own.
-pub(crate) const LENT: u8 = 27;
+pub const LENT: u8 = 27;
 
 /// Calls a macro with classes below the last: each one's number, variant of `Held`, and bytes of a
 /// chunk.
 ///
 /// What else the macro takes stands in front of them. `all` lists each class, `cut` the first 26,
 /// and `lent` the others.
+#[macro_export]
 macro_rules! each_class {
     (cut $to:ident! $($given:tt)*) => {
         $to! { $($given)*
@@ -40,8 +41,6 @@ macro_rules! each_class {
     };
 }
 
-pub(crate) use each_class;
-
 /// Lists the bytes of a chunk of each class, with those of the last, which is a page.
 macro_rules! sizes {
     ($($number:literal $variant:ident $size:literal,)*) => {
@@ -60,7 +59,7 @@ pub struct Class {
 
 impl Model for Class {
     ghost use Rattle.std.specs.Prelude.{ℕ};
-    ghost use Rattle.mc_slab.specs.Classes.{IsClass};
+    ghost use Rattle.mc_sizes.specs.Classes.{IsClass};
 
     ghost Value = { ℕ };
 
@@ -85,7 +84,7 @@ impl Copy for Class {}
 
 impl Class {
     /// Returns the class of a number, from 1 to 40.
-    pub(crate) fn of(number: u8) -> Class
+    pub fn of(number: u8) -> Class
         requires { IsClass number }
         ensures { result ≡ number }
     {
@@ -93,7 +92,7 @@ impl Class {
     }
 
     /// Returns its index in the table, from 0 to 39.
-    pub(crate) fn index(self) -> usize
+    pub fn index(self) -> usize
         ensures value { result ≡ self - 1 }
         ensures is_class { IsClass self }
     {

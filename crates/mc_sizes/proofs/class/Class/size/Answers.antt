@@ -1,7 +1,7 @@
 use Rattle.std.proofs.Common.{◌≡◌, ℕ, ap}
-use Rattle.mc_slab.specs.Classes.{size_of}
-use Rattle.mc_slab.proofs.ClassLemmas.{chunk_sizes-is, size_of-least, size_of-most}
-use Rattle.mc_slab.proofs.class.Class.size.Goals as goal
+use Rattle.mc_sizes.specs.Classes.{size_of}
+use Rattle.mc_sizes.proofs.ClassLemmas.{chunk_sizes-is, size_of-least, size_of-most}
+use Rattle.mc_sizes.proofs.class.Class.size.Goals as goal
 
 pub returns-clause-value : goal.returns-clause-value
 returns-clause-value c =

@@ -1,8 +1,8 @@
 //! The class and the number of chunks that hold a charge.
 
 ghost use Rattle.std.specs.Prelude.{◌≡◌, ◌+◌, ◌*◌, ◌<◌, ◌≤◌, ◌↔◌, IfSome, IsNone};
-ghost use Rattle.mc_slab.specs.Classes.{IsClass, page_size};
-ghost use Rattle.mc_slab.specs.Needs.{NeedState, IsNeed, IsSmaller, largest_charge, need_of, size_in};
+ghost use Rattle.mc_sizes.specs.Classes.{IsClass, page_size};
+ghost use Rattle.mc_sizes.specs.Needs.{NeedState, IsNeed, IsSmaller, largest_charge, need_of, size_in};
 
 use crate::class::{CLASSES, Class, PAGE_SIZE, class_of};
 use std::alloc::AllocError;
@@ -24,7 +24,7 @@ pub struct Need {
 }
 
 impl Model for Need {
-    ghost use Rattle.mc_slab.specs.Needs.{NeedState, coded_need, IsNeed};
+    ghost use Rattle.mc_sizes.specs.Needs.{NeedState, coded_need, IsNeed};
 
     ghost Value = { NeedState };
 
@@ -51,7 +51,7 @@ impl Copy for Need {}
 
 impl Need {
     /// Returns the need of one chunk of the class.
-    pub(crate) fn one(class: Class) -> Need
+    pub fn one(class: Class) -> Need
         requires { IsClass class }
         ensures { result ≡ record { class = class; count = 1 } }
     {
@@ -59,7 +59,7 @@ impl Need {
     }
 
     /// Returns the need of `count` pages, 1 to 8.
-    pub(crate) fn pages(count: u8) -> Need
+    pub fn pages(count: u8) -> Need
         requires { (1 ≤ count) × (count ≤ 8) }
         ensures { result ≡ record { class = 40; count = count } }
     {

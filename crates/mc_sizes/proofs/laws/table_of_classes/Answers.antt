@@ -1,6 +1,6 @@
 use Rattle.std.proofs.Common.{refl}
-use Rattle.mc_slab.specs.Classes.{chunk_sizes}
-use Rattle.mc_slab.proofs.laws.table_of_classes.Goals as goal
+use Rattle.mc_sizes.specs.Classes.{chunk_sizes}
+use Rattle.mc_sizes.proofs.laws.table_of_classes.Goals as goal
 
 pub returns-clause-sizes : goal.returns-clause-sizes
 unfolding chunk_sizes

@@ -1,6 +1,6 @@
 use Rattle.std.proofs.Common.{◌-◌, ◌≤◌, refl, sym, arith}
-use Rattle.mc_slab.proofs.ClassLemmas.{class_of-some, class_of-none, charge_most, charge_above}
-use Rattle.mc_slab.proofs.class.class_of.Goals as goal
+use Rattle.mc_sizes.proofs.ClassLemmas.{class_of-some, class_of-none, charge_most, charge_above}
+use Rattle.mc_sizes.proofs.class.class_of.Goals as goal
 
 pub returns-then-smaller-lt40-clause-value : goal.returns-then-smaller-lt40-clause-value
 returns-then-smaller-lt40-clause-value c = sym (class_of-some _ _ c.smaller_sizes-smaller.ensures c.if-smaller-lt40.true)

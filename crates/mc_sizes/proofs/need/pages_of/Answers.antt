@@ -1,7 +1,7 @@
 use Rattle.std.proofs.Common.{◌≡◌, ◌≤◌, ◌+◌, ◌/◌, subst, sym, refl}
-use Rattle.mc_slab.specs.Needs.{NeedState, IsNeed, IsSmaller, size_in}
-use Rattle.mc_slab.proofs.NeedLemmas.{pages_hold, pages_least}
-use Rattle.mc_slab.proofs.need.pages_of.Goals as goal
+use Rattle.mc_sizes.specs.Needs.{NeedState, IsSmaller, size_in}
+use Rattle.mc_sizes.proofs.NeedLemmas.{pages_hold, pages_least}
+use Rattle.mc_sizes.proofs.need.pages_of.Goals as goal
 
 pub returns-clause-holds : goal.returns-clause-holds
 returns-clause-holds c =

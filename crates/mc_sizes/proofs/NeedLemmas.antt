@@ -1,8 +1,8 @@
 -- What a charge needs.
-use Rattle.std.proofs.Common.{◌≡◌, ℕ, ◌+◌, ◌-◌, ◌*◌, ◌/◌, ◌<◌, ◌≤◌, ◌⊎◌, inl, inr, refl, sym, ap, subst, ◌∙◌, arith}
-use Rattle.mc_slab.specs.Classes.{IsClass, size_of}
-use Rattle.mc_slab.specs.Needs.{NeedState, IsNeed, IsSmaller, size_in}
-use Rattle.mc_slab.proofs.ClassLemmas.{size_of-last, size_of-most}
+use Rattle.std.proofs.Common.{◌≡◌, ℕ, ◌+◌, ◌*◌, ◌/◌, ◌<◌, ◌≤◌, inl, inr, ap, ◌∙◌, arith}
+use Rattle.mc_sizes.specs.Classes.{size_of}
+use Rattle.mc_sizes.specs.Needs.{NeedState, IsNeed, IsSmaller, size_in}
+use Rattle.mc_sizes.proofs.ClassLemmas.{size_of-last, size_of-most}
 
 -- so many pages hold the charge
 pub pages_hold : (charge count : ℕ) → count ≡ (charge + 1048575) / 1048576 → charge ≤ count * size_of 40
