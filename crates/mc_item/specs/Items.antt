@@ -37,7 +37,7 @@ pub record IsItem (item : ItemState) : Type 0 where
   pub key : length item.key ≤ longest_key
   pub fits : charge_of item ≤ size_in (item_need item)
 
--- bytes in so many pieces of a size, of which the last may be shorter, or empty
+-- bytes in `count` pieces of a size; the last may be shorter, or empty
 abbrev pub pieces : (size count : ℕ) → List ℕ → List (List ℕ)
 pieces size zero bytes = []
 pieces size (suc count) bytes = take size bytes ∷ pieces size count (drop size bytes)

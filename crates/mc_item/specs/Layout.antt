@@ -20,11 +20,11 @@ use Rattle.mc_time.specs.declared.expiry.Expiry.TheVariants.{Never, At}
 use Rattle.mc_slab.specs.Chunks.{ChunksState, AreChunks}
 use Rattle.mc_item.specs.Items.{ItemState, header_size, longest_key, start_of}
 
--- the number in so many bytes from the offset on
+-- the number in the bytes from the offset on
 unfoldable pub number_at : ℕ → ℕ → List ℕ → ℕ
 number_at offset count bytes = little_number count (drop offset bytes)
 
--- so many bytes that hold a number
+-- the bytes of a number, by their count
 unfoldable pub number_bytes : ℕ → ℕ → List ℕ
 number_bytes count number = little_bytes count number
 

@@ -429,6 +429,52 @@ fn a_chunk_of_class_27_is_lent_and_one_of_class_26_is_not(rt: HostRuntime) -> Re
     Ok(())
 }
 
+/// Returns the share of what has left that a reader has beside another one.
+fn share_of_two(lent: &Lent) -> Option<usize> {
+    let other = lent.another()?;
+    Some(other.left_bytes())
+}
+
+/// Returns the share of what has left that a reader of a chunk has: before the chunk is written,
+/// after it, beside another reader, and once it is alone again.
+fn shares_of(rt: &impl Abort, chunk: &mut Chunks) -> Option<[usize; 4]> {
+    put(rt, chunk, 0, b"before");
+    let lent = lent_of(rt, chunk, 0, 4)?;
+    let stands = lent.left_bytes();
+    put(rt, chunk, 2, b"after");
+    let alone = lent.left_bytes();
+    let beside = share_of_two(&lent)?;
+    Some([stands, alone, beside, lent.left_bytes()])
+}
+
+/// Returns whether a reader of a chunk counts for it only once it was written.
+fn counts_once_written(rt: &impl Abort, chunk: &mut Chunks) -> bool {
+    let size = chunk.need().class().size() as usize;
+    shares_of(rt, chunk) == Some([0, size, size - size / 2, size])
+}
+
+/// Returns whether a reader of chunks counts for them once they are dropped.
+fn counts_once_dropped(rt: &impl Abort, chunk: Chunks) -> bool {
+    let size = chunk.need().class().size() as usize;
+    let lent = lent_of(rt, &chunk, 0, 4);
+    drop(chunk);
+    match lent {
+        Some(lent) => lent.left_bytes() == size,
+        None => false,
+    }
+}
+
+#[test]
+fn a_reader_counts_for_what_its_chunk_let_go(rt: HostRuntime) -> Result<(), Fail> {
+    let mut slab = slab_of(rt.alloc(), 2)?;
+    for charge in [27121, 1000000] {
+        let mut chunk = take(&rt, rt.alloc(), &mut slab, needed(&rt, charge))?;
+        assert!(rt; counts_once_written(&rt, &mut chunk));
+        assert!(rt; counts_once_dropped(&rt, chunk));
+    }
+    Ok(())
+}
+
 /// Writes a part at the front of the chunks' head.
 fn put_head(rt: &impl Abort, chunks: &mut Chunks, part: &[u8]) {
     assert!(rt; part.len() <= chunks.head().len());
