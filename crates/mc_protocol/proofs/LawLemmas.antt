@@ -11,7 +11,7 @@ use Rattle.mc_protocol.specs.declared.reply.Reply.{Reply}
 use Rattle.mc_protocol.specs.declared.reply.Reply.TheVariants.{TooLarge, NoChunk}
 use Rattle.mc_protocol.specs.declared.step.KeyStep.{KeyStep}
 use Rattle.mc_protocol.specs.declared.step.KeyStep.TheVariants.{Flush}
-use Rattle.mc_slab.specs.Needs.{NeedState, need_for}
+use Rattle.mc_sizes.specs.Needs.{NeedState, need_for}
 use Rattle.mc_protocol.specs.Commands.{key_of}
 use Rattle.mc_protocol.specs.declared.row.Row.{Row}
 use Rattle.mc_protocol.specs.declared.row.Row.TheVariants.{Refuses, Reads, Touches, Deletes, Writes}

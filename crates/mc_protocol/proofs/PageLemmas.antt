@@ -5,9 +5,9 @@ use Rattle.std.proofs.lemmas.Bool.{cases_lt, leb-true}
 use Rattle.std.proofs.lemmas.List.{set_past}
 use Rattle.std.proofs.lemmas.List.Sums.{sum_by-set}
 use Rattle.mc_time.specs.declared.expiry.Expiry.{Expiry}
-use Rattle.mc_slab.specs.Classes.{chunk_sizes, chunks_a_page, class_holding}
-use Rattle.mc_slab.specs.Needs.{NeedState, IsNeed, need_for}
-use Rattle.mc_slab.proofs.ClassLemmas.{chunks_a_page-least}
+use Rattle.mc_sizes.specs.Classes.{chunk_sizes, chunks_a_page, class_holding}
+use Rattle.mc_sizes.specs.Needs.{NeedState, IsNeed, need_for}
+use Rattle.mc_sizes.proofs.ClassLemmas.{chunks_a_page-least}
 use Rattle.mc_protocol.specs.declared.reply.Reply.{Reply}
 use Rattle.mc_protocol.specs.declared.reply.Reply.TheVariants.{TooLarge, NoChunk}
 use Rattle.mc_protocol.specs.declared.step.KeyStep.{KeyStep}

@@ -133,11 +133,11 @@ after_by (Retrieval exptime keys with_unique) command taken =
     retrieval exptime (drop taken keys) with_unique
 after_by (Alone lone) command taken = command
 
--- what is left of a command after so many of its steps
+-- what is left of a command after a number of its steps
 abbrev pub after_steps : Command → ℕ → Command
 after_steps command taken = after_by (shape command) command taken
 
--- the shape of what is left after so many steps of a command of a shape
+-- the shape of what is left after a number of steps
 abbrev pub shape_left : Shape → ℕ → Shape
 shape_left (Single step has_block quiet) taken = Single step has_block quiet
 shape_left (Retrieval exptime keys with_unique) taken =

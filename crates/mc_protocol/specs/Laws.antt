@@ -1,7 +1,7 @@
 -- Definitions for the laws of the plain machine.
 use Rattle.std.specs.Prelude.{◌≡◌, ◌≢◌, ℕ, ◌-◌, ◌^◌, ◌≤◌, false, List, Option, Some, None, if◌then◌else◌}
 use Rattle.std.specs.FinMap.{get}
-use Rattle.mc_slab.specs.Needs.{NeedState, need_for}
+use Rattle.mc_sizes.specs.Needs.{NeedState, need_for}
 use Rattle.mc_protocol.specs.Commands.{View, OnKey, OnAll, view, key_of}
 use Rattle.mc_protocol.specs.declared.step.KeyStep.{KeyStep}
 use Rattle.mc_protocol.specs.declared.row.Row.{Row}

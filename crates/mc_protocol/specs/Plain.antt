@@ -9,8 +9,8 @@ use Rattle.std.specs.Char.{is_ascii_digit}
 use Rattle.mc_time.specs.declared.expiry.Expiry.{Expiry}
 use Rattle.mc_time.specs.Death.{expiry_of, moment_named, is_dead}
 use Rattle.mc_time.specs.Stored.{coded_expiry}
-use Rattle.mc_slab.specs.Classes.{chunks_a_page}
-use Rattle.mc_slab.specs.Needs.{NeedState, need_for, same_need}
+use Rattle.mc_sizes.specs.Classes.{chunks_a_page}
+use Rattle.mc_sizes.specs.Needs.{NeedState, need_for, same_need}
 use Rattle.mc_protocol.specs.Words.{is_space}
 use Rattle.mc_protocol.specs.Numbers.{number_up_to}
 use Rattle.mc_protocol.specs.declared.limits.TheConstants.{CHUNK_HEAD}
@@ -55,7 +55,7 @@ pub record Plain : Type 0 where
 abbrev pub class_count : ℕ
 class_count = 40
 
--- a store of no items that never drew a number, and no class of which has a page
+-- a store without items that never drew a number; no class has a page
 abbrev pub opening : ℕ → ℕ → Plain
 opening limit greatest = record {
   greatest = greatest;
@@ -112,7 +112,7 @@ chunks_of old class = pages_of old class * chunks_a_page class
 abbrev pub unused : Plain → ℕ → ℕ
 unused old class = chunks_of old class - count_of old.items class
 
--- the chunks of a need can be had: so many have no item, or can be cut of the pages that are left
+-- the chunks of a need can be had: they have no item, or can be cut from the pages that are left
 abbrev pub has_room : Plain → NeedState → Bool
 has_room old need =
     nat_le need.count
@@ -270,7 +270,7 @@ alive cut now (Some item) = if is_dead item.expiry item.updated cut now then Non
 abbrev pub standing : Plain → List ℕ → ℕ → Option Entry
 standing old key now = alive old.cut now (get old.items key)
 
--- the items without those that are dead
+-- the items that aren't dead
 abbrev pub living : Items → Option ℕ → ℕ → Items
 living items cut now = retain_keys items (λ key. is_some (alive cut now (get items key)))
 

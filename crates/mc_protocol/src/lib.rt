@@ -36,6 +36,7 @@ mod lone;
 mod number;
 mod reply;
 mod row;
+mod serving;
 mod step;
 mod words;
 
@@ -54,5 +55,6 @@ pub use lone::Lone;
 pub use number::{count_up_or_down, number_of, number_up_to};
 pub use reply::Reply;
 pub use row::{Body, Refusal, Row, Standing, row_of};
+pub use serving::ServeFault;
 pub use step::{KeyStep, StepFault, StepKind, Steps, Verb};
 pub use words::{Words, first_key, first_word, first_word_len, spaces_len};

@@ -1,6 +1,6 @@
 //! Numbers of the protocol.
 
-use mc_slab::HEADER_SIZE;
+use mc_sizes::HEADER_SIZE;
 
 /// The longest key in bytes.
 pub const LONGEST_KEY: usize = 250;
