@@ -8,7 +8,7 @@ use Rattle.mc_time.specs.Death.{is_dead}
 use Rattle.mc_protocol.specs.Plain.{Plain, Entry, alive, standing}
 use Rattle.std.specs.BTreeMap.{insert_entry, is_at}
 use Rattle.std.specs.Map.{set_value}
-use Rattle.mc_slab.specs.Needs.{NeedState}
+use Rattle.mc_sizes.specs.Needs.{NeedState}
 use Rattle.mc_command.specs.Steps.{needs_this}
 use Rattle.std.specs.declared.vec.Vec.{Vec}
 use Rattle.std.specs.declared.alloc.Global.{Global}

@@ -2,8 +2,8 @@
 use Rattle.std.proofs.Common.{◌≡◌, ℕ, ◌+◌, ◌-◌, ◌*◌, leb, set, sum, List, ◌∷◌, Option, Some, None, refl, sym, ap, arith}
 use Rattle.std.specs.declared.vec.Vec.{Vec}
 use Rattle.std.specs.declared.alloc.Global.{Global}
-use Rattle.mc_slab.specs.Classes.{chunks_a_page}
-use Rattle.mc_slab.specs.Needs.{NeedState}
+use Rattle.mc_sizes.specs.Classes.{chunks_a_page}
+use Rattle.mc_sizes.specs.Needs.{NeedState}
 use Rattle.mc_protocol.specs.Plain.{Plain, Entry, Items, chunks_in, item_need, count_of, chunks_of, unused, has_room, pages_of, without_dead}
 use Rattle.mc_command.specs.Accounts.{dead_item}
 use Rattle.mc_protocol.specs.Laws.{of_class}

@@ -8,8 +8,8 @@ use Rattle.std.specs.FinMap.{get, get-remove}
 use Rattle.std.specs.Cmp.Lexicographic.{nat_list_cmp_total}
 use Rattle.std.proofs.lemmas.Bool.{cases_lt, ne_eqb, lt-leb, le-leb}
 use Rattle.std.proofs.lemmas.Fmt.{length-decimal-le}
-use Rattle.mc_slab.specs.Classes.{class_holding}
-use Rattle.mc_slab.specs.Needs.{NeedState, need_for, need_of, same_need}
+use Rattle.mc_sizes.specs.Classes.{class_holding}
+use Rattle.mc_sizes.specs.Needs.{NeedState, need_for, need_of, same_need}
 use Rattle.mc_protocol.specs.declared.step.StepFault.{StepFault}
 use Rattle.mc_protocol.specs.declared.step.StepFault.TheVariants.{NoMemory, NumbersSpent}
 use Rattle.mc_protocol.specs.declared.reply.Reply.{Reply}

@@ -1,6 +1,6 @@
 -- What the plain store counts: its pages, and the chunks of a dead item.
 use Rattle.std.specs.Prelude.{◌≡◌, ◌≤◌, ℕ, List, length, sum, Option, Some, None}
-use Rattle.mc_slab.specs.Needs.{largest_charge}
+use Rattle.mc_sizes.specs.Needs.{largest_charge}
 use Rattle.mc_protocol.specs.Plain.{Plain, Entry}
 use Rattle.std.specs.FinMap.{get}
 

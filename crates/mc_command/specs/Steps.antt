@@ -1,7 +1,7 @@
 -- How the plain store takes a step, part by part.
 use Rattle.std.specs.Prelude.{◌≡◌, ◌≢◌, ℕ, ◌+◌, ◌-◌, ◌^◌, ◌++◌, Bool, false, List, [], Option, Some, None, Result, Err, IfOk, OnErr, IsTrue, slice_set}
 use Rattle.mc_time.specs.declared.expiry.Expiry.{Expiry}
-use Rattle.mc_slab.specs.Needs.{NeedState, IsNeed, same_need}
+use Rattle.mc_sizes.specs.Needs.{NeedState, IsNeed, same_need}
 use Rattle.mc_protocol.specs.Commands.{key_of}
 use Rattle.mc_protocol.specs.declared.step.KeyStep.{KeyStep}
 use Rattle.mc_protocol.specs.declared.step.StepFault.{StepFault}
@@ -33,7 +33,7 @@ abbrev pub writing : (stays : Bool) → Reply → Written → List ℕ → Plain
 writing stays reply w key old now =
     wrote stays reply key w.flags w.expiry w.block (found key old now) now
 
--- so many pages more for a class
+-- a class with this number of pages more
 abbrev pub paged : ℕ → Plain → (class : ℕ) → Plain
 paged more old class =
     record old { pages = slice_set old.pages (class - 1) (pages_of old class + more) }
@@ -110,7 +110,7 @@ pub record CanRewrite (reply : Reply) (w : Written) (key : List ℕ) (old : Plai
   pub stays : StaysIn old key w now
   pub number : old.next_unique ≢ 2 ^ 64 - 1
 
--- an item that is written in other chunks, those that it needs
+-- an item is written in other chunks: the ones that it needs
 pub record CanPlace (reply : Reply) (need : NeedState) (w : Written) (key : List ℕ) (old : Plain)
     (now : ℕ) : Type 0 where
   pub copies : CopiesBlock reply

@@ -11,7 +11,7 @@ mod write;
 ghost use Rattle.std.specs.Prelude.{◌≡◌, ◌≤◌, length, Err, IfOk, OnErr, refl};
 ghost use Rattle.std.specs.Option.{option_copied};
 ghost use Rattle.std.specs.FinMap.{get, remove};
-ghost use Rattle.mc_slab.specs.Needs.{largest_charge};
+ghost use Rattle.mc_sizes.specs.Needs.{largest_charge};
 ghost use Rattle.mc_protocol.specs.Commands.{key_of, longest_key};
 ghost use Rattle.mc_command.specs.Steps.{Ends, found, applied, reading};
 ghost use Rattle.mc_protocol.specs.Plain.{opening, starting, plain, stepped, standing, expiring, hit_of, living, Answered, Spent, CopiesBlock, MayFail};

@@ -2,13 +2,13 @@
 
 ghost use Rattle.std.specs.Prelude.{◌≡◌, ◌+◌, ◌-◌, ◌/◌, ◌^◌, ◌<◌, ◌≤◌, ◌++◌, ℕ, List, min, length, IfSome, IfOk};
 ghost use Rattle.mc_time.specs.Death as death;
-ghost use Rattle.mc_slab.specs.Classes.{IsClass, page_size};
-ghost use Rattle.mc_slab.specs.Needs.{IsNeed, need_of, need_for};
+ghost use Rattle.mc_sizes.specs.Classes.{IsClass, page_size};
+ghost use Rattle.mc_sizes.specs.Needs.{IsNeed, need_of, need_for};
 ghost use Rattle.mc_protocol.specs.Plain.{charge, chunk_head, chunks_in, item_need};
 ghost use Rattle.mc_command.specs.Steps.{made_block};
 
 use mc_protocol::{Block, Body, CHUNK_HEAD, Reply, Standing, number_of};
-use mc_slab::{Class, Need, PAGE_SIZE};
+use mc_sizes::{Class, Need, PAGE_SIZE};
 use mc_time::{Expiry, Moment};
 use std::alloc::{AllocError, Global};
 use std::marker::Model;
@@ -92,7 +92,7 @@ impl<'a> LentWrite<'a> {
         ensures value { result ≡ need_of (charge key.now self.now.block) }
         ensures is_need { IfSome result IsNeed }
     {
-        mc_slab::need_of(self.charge(key))
+        mc_sizes::need_of(self.charge(key))
     }
 
     /// Copies its block.
@@ -160,7 +160,7 @@ impl PlainItem {
         ensures value { result ≡ need_of (charge key.now self.now.block) }
         ensures is_need { IfSome result IsNeed }
     {
-        mc_slab::need_of(charge_of(key, self.bytes().len() as u64))
+        mc_sizes::need_of(charge_of(key, self.bytes().len() as u64))
     }
 
     /// Returns the number of its chunks of the class under a key.
@@ -237,7 +237,7 @@ fn chunks_of(len: u64, class: Class) -> u64
     ensures value { result ≡ chunks_in (need_for (chunk_head + len)) class }
     ensures range { result ≤ 2 ^ 45 }
 {
-    match mc_slab::class_of(CHUNK_HEAD.saturating_add(len)) {
+    match mc_sizes::class_of(CHUNK_HEAD.saturating_add(len)) {
         Some(held) => u64::from(held == class),
         None if class.number() == 40 => pages_for(len),
         None => 0,

@@ -4,7 +4,7 @@
 //! It is counted each time, so the cost grows with the number of items.
 
 ghost use Rattle.std.specs.Prelude.{◌≡◌, ◌+◌, ◌-◌, ◌*◌, ◌^◌, ◌<◌, ◌≤◌, sum};
-ghost use Rattle.mc_slab.specs.Classes.{IsClass};
+ghost use Rattle.mc_sizes.specs.Classes.{IsClass};
 ghost use Rattle.mc_protocol.specs.Plain.{class_count, count_of, pages_of, chunks_of, unused, has_room, standing};
 ghost use Rattle.mc_protocol.specs.Laws.{of_class};
 ghost use Rattle.mc_command.specs.Accounts.{dead_item};
@@ -13,7 +13,7 @@ ghost use Rattle.mc_command.specs.Steps.{found, paged};
 
 use crate::plain::PlainStore;
 use crate::plain::item::PlainItem;
-use mc_slab::{Class, Need};
+use mc_sizes::{Class, Need};
 use mc_time::Moment;
 use std::collections::BTreeMap;
 

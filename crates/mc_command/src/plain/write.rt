@@ -4,7 +4,7 @@
 ghost use Rattle.std.specs.Prelude.{◌≡◌, ◌≢◌, ◌≤◌, ◌-◌, ◌^◌, ◌==◌, ℕ, List, length, nat_lt, true, if◌then◌else◌, Some, None, IfSome, IsTrue, OnOk, OnErr};
 ghost use Rattle.std.specs.FinMap.{get};
 ghost use Rattle.std.specs.Option.{option_copied};
-ghost use Rattle.mc_slab.specs.Needs.{IsNeed};
+ghost use Rattle.mc_sizes.specs.Needs.{IsNeed};
 ghost use Rattle.mc_protocol.specs.Commands.{key_of, longest_key};
 ghost use Rattle.mc_protocol.specs.Plain.{charge, block_need, has_room, keeps_chunk, written_block, CopiesBlock};
 ghost use Rattle.mc_command.specs.Steps.{Ends, Prepares, IsReady, StaysIn, WritesItem, needs_this, same_needs};
@@ -14,7 +14,7 @@ use crate::plain::PlainStore;
 use crate::plain::item::{LentWrite, PlainItem, Written, halves};
 use itoa::Buffer;
 use mc_protocol::{Body, KeyStep, Reply, Row, StepFault};
-use mc_slab::Need;
+use mc_sizes::Need;
 use mc_time::Moment;
 use std::alloc::{AllocError, Global};
 

@@ -1,5 +1,5 @@
 use Rattle.std.proofs.Common.{◌≤◌, ◌-◌, ℕ, List, sum, ap, sym, subst, ◌∙◌}
-use Rattle.mc_slab.specs.Needs.{NeedState}
+use Rattle.mc_sizes.specs.Needs.{NeedState}
 use Rattle.mc_protocol.specs.Plain.{Plain, standing, unused, with_chunk}
 use Rattle.mc_command.specs.Steps.{found, paged, rewritten}
 use Rattle.mc_protocol.proofs.PageLemmas.{pages-left}
