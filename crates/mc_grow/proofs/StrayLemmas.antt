@@ -1,12 +1,18 @@
 -- A stray goes out, to the table or for good, and the strays are tried one by one.
 use Rattle.mc_grow.proofs.Words.{◌≡◌, ℕ, zero, suc, ◌+◌, ◌-◌, ◌<◌, ◌≤◌, inl, inr, Bool, true, false, if◌then◌else◌, List, [], ◌∷◌, ◌++◌, map, length, take, drop, set, Option, Some, None}
 use Rattle.mc_grow.proofs.Words.{add-one, get_or, refl, sym, ap, subst, ◌∙◌, arith, none-some, cases_eq, append-nil, length-map, take_all, drop-cons, take-suc, swap_remove, get, insert}
-use Rattle.mc_grow.proofs.Words.{IsSwapped, AreApart, content, reads, apart_parts, same_entries, HoldsAll, IsTried, AreAdded, AreTried, IsAdded, Side, cells_of}
+use Rattle.mc_grow.proofs.Words.{IsSwapped, AreApart, content, reads, apart_parts, same_entries, HoldsAll, IsTried, AreAdded, AreTried, IsAdded, IsCrowded, Side, cells_of, home_in}
+use Rattle.mc_grow.specs.Adding.{NoneNear}
 use Rattle.std.proofs.lemmas.List.Sorted.{IsPermutation-pop_more, IsPermutation-refl, IsPermutation-swap_remove, length_permutation}
 use Rattle.std.proofs.Math.ListN.{drop_of_length-le}
 use Rattle.std.specs.List.Sorted.{IsPermutation}
-use Rattle.mc_grow.proofs.PartLemmas.{less_at, less_other, stood_less, stray_inside, stray_there}
+use Rattle.mc_grow.proofs.PartLemmas.{less_at, less_other, some_stray, stood_less, stray_inside, stray_is, stray_there}
 use Rattle.mc_grow.proofs.MoveLemmas.{IsOut, moved_back, new_to_each, one_added, out_second, out_taken}
+
+-- near a crowded home no bucket is empty
+none_near : {X : Type 0} (hash_of : X → ℕ) (k : ℕ) (items : List (Option X)) (home : ℕ) → IsCrowded hash_of k items home → NoneNear items home
+none_near hash_of k items home (inl none) at near = none at near.low (omega (arith, near.high)) near.empty
+none_near hash_of k items home (inr stuck) at near = stuck.2 at near.low (omega (arith, near.high, stuck.1.low)) near.empty
 
 -- ---- a stray goes out
 
@@ -49,6 +55,20 @@ module _ {X : Type 0} (hash_of : X → ℕ) (key_of : X → List ℕ) (strays le
       → content hash_of key_of others ≡ insert (content hash_of key_of items) (hash_of x ∷ key_of x) x → HoldsAll hash_of key_of (items ++ map Some strays) (others ++ map Some less)
   stray_put items others apart own put =
       moved_back hash_of key_of items (map Some strays) (map Some less) others x apart (stray_out (apart_parts hash_of key_of items (map Some strays) apart).1) (record { come = put; apart = own })
+
+-- a stray stays without a search, as no bucket can be had near its home
+pub stays_crowded : {X : Type 0} (hash_of : X → ℕ) (key_of : X → List ℕ) (k at home : ℕ) (side : Side X) → at < length side.strays
+    → ((x : X) → x ≡ get_or side.strays at x → home ≡ home_in k (hash_of x)) → IsCrowded hash_of k side.items home → IsTried hash_of key_of k at false side side
+stays_crowded {X} hash_of key_of k at home side inside its crowded =
+    let x = some_stray side.strays at inside in
+    let there : x.0 ≡ get_or side.strays at x.0 = sym (stray_is side.strays at x.0 x.0 x.1) in
+    let here = subst (IsCrowded hash_of k side.items) (its x.0 there) crowded in
+    record { entry = x.0; inside = inside; there = there; outcome = (refl, none_near hash_of k side.items (home_in k (hash_of x.0)) here, here, refl) }
+
+-- its home is crowded, once it was tried and stays
+pub tried_crowded : {X : Type 0} (hash_of : X → ℕ) (key_of : X → List ℕ) (k at home : ℕ) (old new : Side X)
+    → ((x : X) → x ≡ get_or old.strays at x → home ≡ home_in k (hash_of x)) → IsTried hash_of key_of k at false old new → IsCrowded hash_of k new.items home
+tried_crowded hash_of key_of k at home old new its one = subst (IsCrowded hash_of k new.items) (sym (its one.entry one.there)) one.outcome.2
 
 -- ---- the strays are tried
 

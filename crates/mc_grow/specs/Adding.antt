@@ -66,13 +66,13 @@ pub record IsInserted {X : Type 0} (hash_of : X → ℕ) (key_of : X → List �
   pub same_old : new.draining ≡ old.draining
   pub same_growing : new.growing ≡ old.growing
 
--- the strays were tried once more, each once, in some order, and those that found no bucket are strays again
+-- the strays were tried once more, each once, in some order; the ones without a bucket are strays again
 pub record AreTried {X : Type 0} (hash_of : X → ℕ) (key_of : X → List ℕ) (k : ℕ) (old new : Side X) : Type 0 where
   pub tried : List X
   pub each : IsPermutation old.strays tried
   pub added : AreAdded hash_of key_of k tried (record old { strays = [] }) new
 
--- so many entries were taken out of the old table, and added to the other by the rule, one by one
+-- `n` entries were taken out of the old table, and added to the other by the rule, one by one
 pub record AreTaken {X : Type 0} (hash_of : X → ℕ) (key_of : X → List ℕ) (k n : ℕ) (drained_old drained_new : List (Option X)) (old new : Side X) : Type 0 where
   pub entries : List X
   pub many : length entries ≡ n

@@ -9,7 +9,7 @@ abbrev pub drained_items : {X : Type 0} → Option (HopState X) → List (Option
 drained_items None = []
 drained_items (Some table) = table.items
 
--- where a number leads, over so many buckets of the old table and so many of the table
+-- where a number leads, by the number of buckets of the old table and of the table
 abbrev pub IsSpot : (old table number : ℕ) → Spot → Type 0
 IsSpot old table number (Spot.Drained at) = (at < old) × (number ≡ at)
 IsSpot old table number (Spot.Table at) = (at < table) × (number ≡ old + at)

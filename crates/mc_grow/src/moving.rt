@@ -107,6 +107,8 @@ pub(crate) fn move_entries<T: Keyed + Drop>(
 }
 
 /// Tries each stray once in the table. It takes no memory.
+///
+/// Of strays of one home that follow each other, those behind one that stays need no search.
 pub(crate) fn try_strays<T: Keyed + Drop>(table: &mut Hop<T>, strays: &mut Strays<T>)
     requires apart { AreApart T.hash_of T.key_of (cells_of (beside table.old strays.old.items)) }
     ensures tried { AreTried T.hash_of T.key_of table.old.k
@@ -118,8 +120,11 @@ pub(crate) fn try_strays<T: Keyed + Drop>(table: &mut Hop<T>, strays: &mut Stray
     ensures capacity { strays.new.room ≡ strays.old.room }
 {
     let mut kept = 0;
+    // the home of the stray before, if that stays
+    let mut crowded = None;
     for _turn in 0..strays.len() {
-        if !strays.try_in(table, kept) {
+        crowded = strays.try_unless(table, kept, crowded);
+        if crowded.is_some() {
             kept += 1;
         }
     }

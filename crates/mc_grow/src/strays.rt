@@ -5,13 +5,13 @@
 //! moves 8 bytes for each following stray, and no entries.
 
 ghost use Rattle.std.specs.Prelude.{◌≡◌, ℕ, ◌+◌, ◌<◌, ◌≤◌, ◌^◌, ◌∷◌, ◌++◌, [], Some, None, IfSome, IsNone, IfOk, IfErr, OnOk, map, length};
-ghost use Rattle.std.specs.Prelude.{option_copied, slice_index_or, vec_capacity};
+ghost use Rattle.std.specs.Prelude.{is_some, not, option_copied, slice_index_or, vec_capacity};
 ghost use Rattle.std.specs.List.{insert, swap_remove};
 ghost use Rattle.std.specs.Ordering.{nat_cmp};
 ghost use Rattle.std.specs.Cmp.Lexicographic.{slice_cmp};
 ghost use Rattle.mc_hop.specs.Links.{IsSwapped};
-ghost use Rattle.mc_hop.specs.Tables.{AreApart, IsAbsent, IsAt, KeepsKey};
-ghost use Rattle.mc_grow.specs.Adding.{beside, cells_of};
+ghost use Rattle.mc_hop.specs.Tables.{AreApart, IsAbsent, IsAt, KeepsKey, home_in};
+ghost use Rattle.mc_grow.specs.Adding.{IsCrowded, beside, cells_of};
 ghost use Rattle.mc_grow.specs.Moving.{HoldsAll, IsTried};
 ghost use Rattle.mc_grow.specs.Parts.{IsChanged};
 ghost use Rattle.mc_grow.specs.Strays.{IsGap, IsOrder, forgotten, key_by, keys_in};
@@ -252,6 +252,15 @@ impl<T: Keyed + Drop> Strays<T> {
         update_stray(&mut self.items, at, change)
     }
 
+    /// Returns the home in a table of the stray of a number.
+    fn home_of(&self, table: &Hop<T>, at: usize) -> usize
+        requires { at < length self.now.items }
+        ensures { (entry : T) → entry ≡ slice_index_or self.now.items at entry →
+            result ≡ home_in table.now.k (T.hash_of entry) }
+    {
+        table.home_of(self.items[at].hash())
+    }
+
     /// Tries to move the stray of a number into a table, and returns whether it moved.
     ///
     /// The last stray then gets its number. It takes no memory.
@@ -274,5 +283,38 @@ impl<T: Keyed + Drop> Strays<T> {
             forget(&mut self.order, place, last);
         }
         went
+    }
+
+    /// Tries a stray as `try_in` does, and returns its home if it stays: no bucket can be had there.
+    ///
+    /// `crowded` is a home of which that is known. A stray of that home stays without a search.
+    pub(crate) fn try_unless(
+        &mut self,
+        table: &mut Hop<T>,
+        at: usize,
+        crowded: Option<usize>,
+    ) -> Option<usize>
+        requires inside { at < length self.old.items }
+        requires apart { AreApart T.hash_of T.key_of (cells_of (beside table.old self.old.items)) }
+        requires crowded { IfSome crowded (IsCrowded T.hash_of table.old.k table.old.items) }
+        ensures tried { IsTried T.hash_of T.key_of table.old.k at (not (is_some result))
+            (beside table.old self.old.items) (beside table.new self.new.items) }
+        ensures crowded { IfSome result (IsCrowded T.hash_of table.new.k table.new.items) }
+        ensures content { HoldsAll T.hash_of T.key_of
+            (cells_of (beside table.old self.old.items))
+            (cells_of (beside table.new self.new.items)) }
+        ensures k { table.new.k ≡ table.old.k }
+        ensures len { length self.new.items ≤ length self.old.items }
+        ensures room { self.new.room ≡ self.old.room }
+    {
+        let home = self.home_of(table, at);
+        if crowded == Some(home) {
+            return crowded;
+        }
+        if self.try_in(table, at) {
+            None
+        } else {
+            Some(home)
+        }
     }
 }

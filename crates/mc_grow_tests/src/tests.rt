@@ -7,4 +7,5 @@ mod hop_tests;
 mod index_tests;
 mod lag_tests;
 mod random_tests;
+mod stray_tests;
 mod stream_tests;
