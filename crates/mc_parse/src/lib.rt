@@ -42,8 +42,8 @@ mod peek;
 
 pub use feed::Feed;
 pub use laws::{
-    a_spelling_has_a_byte, cutting_does_not_matter, no_spelling_begins_another, one_list_of_units,
-    pieces_are_fed_as_joined,
+    a_spelling_has_a_byte, cutting_does_not_matter, names_of_the_protocol,
+    no_spelling_begins_another, one_list_of_units, pieces_are_fed_as_joined,
 };
 pub use line::line_of;
 pub use line_laws::{keys_of_a_line_are_keys, words_hold_no_space_or_feed};

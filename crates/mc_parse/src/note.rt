@@ -15,7 +15,7 @@ use crate::line::line_of;
 use crate::offer::Offer;
 use crate::peek::{Peek, block_peeked, without_carriage_return};
 use mc_protocol::{Bytes, CHUNK_HEAD, Command, CommandOf, KeyPlace, Keys, KeysPlace, LineFault};
-use mc_slab::{BESIDE, need_of};
+use mc_sizes::{BESIDE, need_of};
 
 /// The place of a key in the text of a line.
 #[derive(Clone, Copy)]

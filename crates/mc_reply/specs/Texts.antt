@@ -15,7 +15,7 @@ use Rattle.mc_reply.specs.declared.retrieval.HitFields.{HitFields}
 use Rattle.mc_reply.specs.declared.text.Text.{Text}
 use Rattle.mc_reply.specs.declared.text.Text.TheVariants.{First, Hit as FirstHit, Spent, Plain, Flaw, TooLong}
 
--- a vector has no room for these bytes behind those that it holds
+-- a vector has no room for these bytes behind its own
 abbrev pub HasNoRoom : Vec ℕ Global → List ℕ → Type 0
 HasNoRoom vector bytes = vec_capacity vector < length vector.items + length bytes
 
