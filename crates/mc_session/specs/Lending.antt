@@ -8,6 +8,11 @@ abbrev pub behind_bytes : {Z : Type 0} → Option (Box Behind Z) → List ℕ
 behind_bytes None = []
 behind_bytes (Some behind) = behind.value.parts ++ behind.value.tail.bytes
 
+-- how many of these are lent
+abbrev pub lent_in : {Z : Type 0} → Option (Box Behind Z) → ℕ
+lent_in None = 0
+lent_in (Some behind) = length behind.value.parts
+
 -- texts, the parts that are lent behind them, and the texts behind these
 abbrev pub all_bytes : (head : List ℕ) → Behind → List ℕ
 all_bytes head behind = head ++ (behind.parts ++ behind.tail.bytes)

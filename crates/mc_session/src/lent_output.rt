@@ -1,8 +1,8 @@
 //! An output that lends parts of memory in place of copying them.
 
-ghost use Rattle.std.specs.Prelude.{◌≡◌, ◌<◌, ◌≤◌, ◌^◌, ◌↔◌, [], ◌++◌, length, drop, IsTrue, IsFalse, OnOk, OnErr, IfOk};
+ghost use Rattle.std.specs.Prelude.{◌≡◌, ◌+◌, ◌<◌, ◌≤◌, ◌^◌, ◌↔◌, [], ◌++◌, length, drop, IsTrue, IsFalse, OnOk, OnErr, IfOk};
 ghost use Rattle.mc_bytes.specs.Parts.{IsFront};
-ghost use Rattle.mc_session.specs.Lending.{behind_bytes, all_bytes, IsArranged};
+ghost use Rattle.mc_session.specs.Lending.{behind_bytes, lent_in, all_bytes, IsArranged};
 
 use crate::copying::append_copy;
 use crate::output::{Outgoing, Texts};
@@ -25,7 +25,7 @@ pub struct Behind {
 /// bytes of memory.
 ///
 /// A part is counted and not copied, and it is given back once it is written. Without parts the
-/// output is a queue. Contracts see the bytes.
+/// output is a queue. Contracts see the bytes, and how many are lent.
 #[derive(Drop)]
 pub struct LentOutput {
     alloc: Global,
@@ -36,19 +36,24 @@ pub struct LentOutput {
 }
 
 impl Model for LentOutput {
-    ghost use Rattle.std.specs.Prelude.{ℕ, List, ◌++◌};
+    ghost use Rattle.std.specs.Prelude.{◌++◌};
+    ghost use Rattle.mc_session.specs.Outputs.{OutputState};
+    ghost use Rattle.mc_session.specs.Lending.{behind_bytes, lent_in, IsArranged};
 
-    ghost Value = { List ℕ };
+    ghost Value = { OutputState };
 
-    ghost use Rattle.mc_session.specs.Lending.{behind_bytes, IsArranged};
-
-    ghost view = { λ o. o.head.bytes ++ behind_bytes o.behind };
+    ghost view = { λ o. record {
+      bytes = o.head.bytes ++ behind_bytes o.behind;
+      lent = lent_in o.behind;
+    } };
 
     ghost invariant = { λ o. IsArranged o.head.bytes o.behind };
 }
 
 impl Outgoing for LentOutput {
-    ghost bytes = { λ o. o };
+    ghost bytes = { λ o. o.bytes };
+
+    ghost lent = { λ o. o.lent };
 
     fn new(alloc: Global, spares: Option<Spares>) -> LentOutput {
         let head = Queue::with_spares(alloc, Spares::another(spares.as_ref()));
@@ -135,7 +140,22 @@ impl Outgoing for LentOutput {
         }
     }
 
-    /// Returns the number of reserved bytes. A part that is lent counts by the memory that it keeps.
+    #[inline]
+    fn lent_len(&self) -> usize {
+        match &self.behind {
+            None => 0,
+            Some(behind) => behind.parts.len(),
+        }
+    }
+
+    #[inline]
+    fn left_bytes(&self) -> usize {
+        match &self.behind {
+            None => 0,
+            Some(behind) => behind.parts.left_bytes(),
+        }
+    }
+
     #[inline]
     fn capacity(&self) -> usize {
         match &self.behind {
@@ -216,37 +236,37 @@ fn is_same(one: &[u8], other: &[u8]) -> bool
     one == other
 }
 
-/// Returns how many bytes are counted if the texts count this many: a part that is lent counts by
-/// the memory that it keeps.
-fn count_of(head: &Texts, behind: &Behind, texts: usize) -> usize
+/// Returns the number of bytes of texts in front of parts that are lent and behind them.
+fn texts_of(head: &Texts, behind: &Behind) -> usize
     requires { length head.now.bytes ≤ 2 ^ 62 }
-    ensures { length (all_bytes head.now.bytes behind.now) ≤ result }
+    ensures { result ≡ length head.now.bytes + length behind.now.tail.bytes }
 {
-    texts
-        .saturating_add(behind.parts.kept_bytes())
-        .max(len_of(head, behind))
+    let tail = behind.tail.as_slice().len();
+    head.len() + tail
 }
 
-/// Returns how many bytes of texts and of what comes behind them are in memory.
+/// Returns how many bytes of texts and of what comes behind them are in memory. Of parts that are
+/// lent those count that aren't written.
 #[inline(never)]
 fn filled_bytes_of(head: &Texts, behind: &Behind) -> usize
     requires { length head.now.bytes ≤ 2 ^ 62 }
     ensures { length (all_bytes head.now.bytes behind.now) ≤ result }
 {
-    let texts = head
-        .filled_bytes()
-        .saturating_add(behind.tail.filled_bytes());
-    count_of(head, behind, texts)
+    head.filled_bytes()
+        .saturating_add(behind.tail.filled_bytes())
+        .saturating_add(behind.parts.len())
+        .max(len_of(head, behind))
 }
 
-/// Returns the number of bytes reserved for texts and for what comes behind them.
+/// Returns the number of bytes reserved for texts in front of parts that are lent and behind them.
 #[inline(never)]
 fn capacity_of(head: &Texts, behind: &Behind) -> usize
     requires { length head.now.bytes ≤ 2 ^ 62 }
-    ensures { length (all_bytes head.now.bytes behind.now) ≤ result }
+    ensures { length (all_bytes head.now.bytes behind.now) ≤ result + length behind.now.parts }
 {
-    let texts = head.capacity().saturating_add(behind.tail.capacity());
-    count_of(head, behind, texts)
+    head.capacity()
+        .saturating_add(behind.tail.capacity())
+        .max(texts_of(head, behind))
 }
 
 /// Appends a text behind parts that are lent. An error leaves the bytes unchanged.
@@ -286,6 +306,7 @@ fn consume_front(head: &mut Texts, behind: &mut Option<Box<Behind>>, n: usize)
     ensures arranged { IsArranged head.new.bytes behind.new }
     ensures bytes { head.new.bytes ++ behind_bytes behind.new
         ≡ drop n (head.old.bytes ++ behind_bytes behind.old) }
+    ensures fewer { lent_in behind.new ≤ lent_in behind.old }
 {
     match behind {
         None => head.consume(n),
@@ -310,6 +331,7 @@ fn consume_lent(head: &mut Texts, behind: &mut Behind, n: usize) -> bool
         ≡ drop n (all_bytes head.old.bytes behind.old) }
     ensures some { IsFalse result → 0 < length behind.new.parts }
     ensures few { IsFalse result → length head.new.bytes ≤ length head.old.bytes }
+    ensures fewer { length behind.new.parts ≤ length behind.old.parts }
 {
     consume_each(head, behind, n);
     if behind.parts.is_empty() {
@@ -327,6 +349,7 @@ fn consume_each(head: &mut Texts, behind: &mut Behind, n: usize)
         ≡ drop n (all_bytes head.old.bytes behind.old) }
     ensures spent { behind.new.parts ≡ [] → head.new.bytes ≡ [] }
     ensures few { length head.new.bytes ≤ length head.old.bytes }
+    ensures fewer { length behind.new.parts ≤ length behind.old.parts }
 {
     let of_head = n.min(head.len());
     head.consume(of_head);

@@ -29,6 +29,7 @@ mod after_turn;
 mod answer;
 mod copying;
 mod endpoint;
+mod holding;
 mod laws;
 mod lent_output;
 mod output;
@@ -38,12 +39,14 @@ mod session;
 mod teller;
 
 pub use endpoint::Endpoint;
+pub use holding::Holding;
 pub use laws::{
     a_run_takes_the_turns_of_its_stream, passing_over_early_does_not_matter,
     the_pieces_of_a_stream_do_not_matter,
 };
 pub use lent_output::LentOutput;
+pub use mc_protocol::ServeFault;
 pub use output::{Outgoing, Output};
 pub use rounds::{LONGEST_PIECE, TurnContext, WRITE_AT, piece_buffer, serve_endpoint, write_out};
-pub use serving::{ServeFault, serve};
+pub use serving::serve;
 pub use session::{Session, SessionOf, Turn, TurnFault};

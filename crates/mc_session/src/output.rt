@@ -19,7 +19,7 @@ pub type Texts = Queue<KEPT_OUTPUT>;
 ///
 /// Its bytes may lie in several parts of memory. It lends the first part.
 pub trait Outgoing {
-    ghost use Rattle.std.specs.Prelude.{◌≡◌, ◌≤◌, ◌++◌, ◌↔◌, ℕ, List, [], drop, length, IsTrue, OnOk, OnErr};
+    ghost use Rattle.std.specs.Prelude.{◌≡◌, ◌+◌, ◌≤◌, ◌++◌, ◌↔◌, ℕ, List, [], drop, length, IsTrue, OnOk, OnErr};
     ghost use Rattle.mc_bytes.specs.Queues.{first_piece};
     ghost use Rattle.mc_bytes.specs.Parts.{IsFront};
     ghost use Rattle.mc_session.specs.Outputs.{kept_output};
@@ -27,10 +27,14 @@ pub trait Outgoing {
     /// The bytes that aren't written yet.
     ghost bytes: { Self → List ℕ };
 
+    /// How many of them are lent. The others lie in the output's own memory.
+    ghost lent: { Self → ℕ };
+
     /// Makes an empty output, which takes the memory of large texts from these spares. It takes no
     /// memory.
     fn new(alloc: Global, spares: Option<Spares>) -> Self
-        ensures { bytes result ≡ [] };
+        ensures empty { bytes result ≡ [] }
+        ensures own { lent result ≡ 0 };
 
     /// Lends the first bytes that aren't written: none only if all are.
     fn front(&self) -> &[u8]
@@ -48,6 +52,7 @@ pub trait Outgoing {
     fn append<T: Append>(&mut self, text: &T) -> Result<(), AllocError>
         requires { T.can_append text.now }
         ensures ok { OnOk result (bytes self.new ≡ bytes self.old ++ T.bytes text.now) }
+        ensures own { OnOk result (lent self.new ≡ lent self.old) }
         ensures err { OnErr result (self.new ≡ self.old) };
 
     /// Appends a text as `append` does, into a spare if it is large and there is one of its size.
@@ -56,6 +61,7 @@ pub trait Outgoing {
     fn append_sized<T: Append>(&mut self, text: &T, largest: usize) -> Result<(), AllocError>
         requires { T.can_append text.now }
         ensures ok { OnOk result (bytes self.new ≡ bytes self.old ++ T.bytes text.now) }
+        ensures own { OnOk result (lent self.new ≡ lent self.old) }
         ensures err { OnErr result (self.new ≡ self.old) };
 
     /// Appends a text, parts that are lent, and a text behind them. An error leaves the output
@@ -72,29 +78,42 @@ pub trait Outgoing {
         requires back { U.can_append back.now }
         ensures ok { OnOk result
             (bytes self.new ≡ bytes self.old ++ T.bytes front.now ++ parts ++ U.bytes back.now) }
+        ensures lends { OnOk result (lent self.new ≤ lent self.old + length parts) }
         ensures err { OnErr result (self.new ≡ self.old) };
 
     /// Drops the first `n` bytes, which were written.
     fn consume(&mut self, n: usize)
         requires { n ≤ length (bytes self.old) }
-        ensures { bytes self.new ≡ drop n (bytes self.old) };
+        ensures bytes { bytes self.new ≡ drop n (bytes self.old) }
+        ensures fewer { lent self.new ≤ lent self.old };
+
+    /// Returns the number of bytes that aren't written and are lent.
+    fn lent_len(&self) -> usize
+        ensures all { result ≡ lent self.now }
+        ensures within { result ≤ length (bytes self.now) };
+
+    /// Returns the bytes of memory that has left the store and that lent parts keep, each memory
+    /// divided by the number of its owners.
+    fn left_bytes(&self) -> usize
+        ensures { lent self.now ≡ 0 → result ≡ 0 };
 
     /// Returns how many bytes are in memory: those not written, and written ones before them.
     fn filled_bytes(&self) -> usize
         ensures least { length (bytes self.now) ≤ result }
         ensures empty { bytes self.now ≡ [] → result ≡ 0 };
 
-    /// Returns the number of reserved bytes.
+    /// Returns the number of bytes reserved for what isn't lent.
     fn capacity(&self) -> usize
-        ensures filled { length (bytes self.now) ≤ result }
+        ensures filled { length (bytes self.now) ≤ result + lent self.now }
         ensures empty { bytes self.now ≡ [] → result ≤ kept_output };
 
     /// Frees memory beyond that of a first piece, if there are no bytes.
     ///
-    /// Returns the number of reserved bytes afterwards.
+    /// Returns the number of bytes reserved for what isn't lent afterwards.
     fn rest(&mut self) -> usize
         ensures same { bytes self.new ≡ bytes self.old }
-        ensures filled { length (bytes self.new) ≤ result }
+        ensures lends { lent self.new ≡ lent self.old }
+        ensures filled { length (bytes self.new) ≤ result + lent self.new }
         ensures empty { bytes self.new ≡ [] → result ≤ first_piece };
 }
 
@@ -128,6 +147,8 @@ impl Output {
 
 impl Outgoing for Output {
     ghost bytes = { λ o. o };
+
+    ghost lent = { λ _. 0 };
 
     fn new(alloc: Global, spares: Option<Spares>) -> Output {
         Output {
@@ -173,6 +194,14 @@ impl Outgoing for Output {
     #[inline]
     fn consume(&mut self, n: usize) {
         self.texts.consume(n);
+    }
+
+    fn lent_len(&self) -> usize {
+        0
+    }
+
+    fn left_bytes(&self) -> usize {
+        0
     }
 
     fn filled_bytes(&self) -> usize {

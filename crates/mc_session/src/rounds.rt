@@ -7,8 +7,8 @@ ghost use Rattle.mc_session.specs.Exchanges.{scene, Wrote, Exchanges, FallsShort
 ghost use Rattle.mc_session.specs.Rounds.{Reads, LosesPiece, GoesOn, IsRefused};
 
 use crate::endpoint::Endpoint;
-use crate::serving::ServeFault;
 use crate::session::Turn;
+use mc_protocol::ServeFault;
 use mc_time::Clock;
 use std::alloc::Global;
 use std::io::{ErrorKind, Read, Write};

@@ -8,25 +8,10 @@ ghost use Rattle.mc_session.specs.Serving.{Serves, ServesAll, ServesUntilRefused
 
 use crate::rounds::{TurnContext, piece_buffer, serve_endpoint, write_out};
 use crate::session::Session;
-use mc_protocol::Steps;
+use mc_protocol::{ServeFault, Steps};
 use mc_time::Clock;
 use std::alloc::Global;
 use std::io::{Read, Write};
-use thiserror::Error;
-
-/// Why a run ended early.
-#[derive(Debug, Drop, Error)]
-pub enum ServeFault {
-    /// The reader failed, or 2^40 calls of `Session::turn` were made.
-    #[error("reading failed")]
-    Read,
-    /// The writer failed.
-    #[error("writing failed")]
-    Write,
-    /// An allocation was refused.
-    #[error("out of memory")]
-    NoMemory,
-}
 
 /// Serves one session until the input ends or the session closes.
 ///

@@ -8,6 +8,7 @@ ghost use Rattle.mc_session.specs.Turns.{SessionState};
 
 use crate::after_turn::AfterTurn;
 use crate::answer::answer;
+use crate::holding::Holding;
 use crate::output::{Outgoing, Output};
 use mc_bytes::{Source, Spares};
 use mc_parse::{Feed, Peek};
@@ -79,7 +80,7 @@ impl<O: Outgoing + Drop> Model for SessionOf<O> {
 }
 
 impl<O: Outgoing + Drop> SessionOf<O> {
-    ghost use Rattle.std.specs.Prelude.{◌≡◌, ◌≤◌, ◌↔◌, ℕ, List, [], length, option_copied, IsTrue, IsFalse, OnOk, OnErr, IfOk, IfErr, Ok, Some, IfSome};
+    ghost use Rattle.std.specs.Prelude.{◌≡◌, ◌+◌, ◌≤◌, ◌↔◌, ℕ, List, [], length, option_copied, IsTrue, IsFalse, OnOk, OnErr, IfOk, IfErr, Ok, Some, IfSome};
     ghost use Rattle.mc_protocol.specs.Commands.{longest_key};
     ghost use Rattle.mc_bytes.specs.Sources.{Brings};
     ghost use Rattle.mc_session.specs.Turns.{TakesTurn, FindsNoTurn, FindsClosed, TurnIsDue, NoTurnDue};
@@ -256,23 +257,37 @@ impl<O: Outgoing + Drop> SessionOf<O> {
         self.out.filled_bytes()
     }
 
-    /// Returns the number of bytes reserved for unread bytes and output: at most 196608 if there
-    /// are neither.
+    /// Returns the number of bytes reserved for unread bytes, and for output that isn't lent: at most
+    /// 196608 if there are neither.
     pub fn capacity(&self) -> usize
         ensures unread { length self.now.unread.bytes ≤ result }
-        ensures out { length self.now.out ≤ result }
         ensures empty { self.now.unread.bytes ≡ [] → self.now.out ≡ [] → result ≤ kept_empty }
     {
         self.feed.capacity().saturating_add(self.out.capacity())
     }
 
+    /// Returns the bytes that the session holds: its own, and those that are lent to it.
+    pub fn holding(&self) -> Holding
+        ensures unread { length self.now.unread.bytes ≤ result.own }
+        ensures out { length self.now.out ≤ result.own + result.lent }
+        ensures lent { result.lent ≤ length self.now.out }
+        ensures left { result.lent ≡ 0 → result.left ≡ 0 }
+    {
+        let unread = self.feed.capacity();
+        Holding {
+            own: unread.saturating_add(self.out.capacity()),
+            lent: self.out.lent_len(),
+            left: self.out.left_bytes(),
+        }
+    }
+
     /// Frees memory beyond that of two first pieces, if there are no unread bytes and no output.
     ///
-    /// Returns the number of reserved bytes afterwards.
+    /// Returns the number of bytes reserved for unread bytes, and for output that isn't lent,
+    /// afterwards.
     pub fn rest(&mut self) -> usize
         ensures same { self.new ≡ self.old }
         ensures unread { length self.new.unread.bytes ≤ result }
-        ensures out { length self.new.out ≤ result }
         ensures empty { self.new.unread.bytes ≡ [] → self.new.out ≡ [] → result ≤ resting }
     {
         let unread = self.feed.rest();

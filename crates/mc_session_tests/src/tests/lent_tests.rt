@@ -38,9 +38,7 @@ fn text_of(bytes: &[u8]) -> Line<'_> {
 fn shared(alloc: Global, bytes: &[u8]) -> Result<Lent, AllocError>
     ensures { IfOk result (λ lent. lent ≡ bytes.now) }
 {
-    let mut memory = Large {
-        bytes: Vec::new(alloc),
-    };
+    let mut memory = Large::new(Vec::new(alloc));
     memory.bytes.extend_from_slice(bytes)?;
     match Arc::new(alloc, memory) {
         Ok(memory) => Ok(Lent::of(memory, 0, bytes.len())),
@@ -110,8 +108,10 @@ enum Event {
     Text(&'static [u8]),
     /// A text, two parts that are lent and a text are appended: `b `, `abcd`, `efgh` and ` c`.
     Parts,
-    /// So many bytes are held, and reserved.
+    /// This number of bytes is held in memory of its own, and is reserved.
     Holds(usize),
+    /// So many bytes are lent.
+    Lent(usize),
     /// The first so many bytes are written.
     Writes(usize),
     /// Exactly these pieces are lent and written.
@@ -126,7 +126,10 @@ fn happens(alloc: Global, out: &mut LentOutput, event: Event) -> Result<bool, Al
             Ok(true)
         }
         Event::Parts => append_parts(alloc, out),
-        Event::Holds(len) => Ok(out.len() == len && out.capacity() >= len),
+        Event::Holds(len) => Ok(
+            out.len() == len && out.capacity() >= len - len.min(out.lent_len()),
+        ),
+        Event::Lent(len) => Ok(out.lent_len() == len),
         Event::Writes(len) => {
             out.consume(len.min(out.len()));
             Ok(true)
@@ -165,13 +168,17 @@ fn goes(rt: &impl Abort, alloc: Global, events: &[Event]) -> Result<(), AllocErr
     Ok(())
 }
 
-static BETWEEN_TEXTS: [Event; 6] = [
+static BETWEEN_TEXTS: [Event; 10] = [
     Event::Text(b"a "),
+    Event::Lent(0),
     Event::Parts,
     Event::Text(b" d"),
     Event::Holds(16),
+    Event::Lent(8),
     Event::Writes(5),
+    Event::Lent(7),
     Event::Lends(&[b"bcd", b"efgh", b" c d"]),
+    Event::Lent(0),
 ];
 
 #[test]
@@ -339,5 +346,48 @@ fn a_hit_in_shared_memory_is_written(rt: HostRuntime) -> Result<(), Fail> {
         Err(_) => a_store_is_read(rt.alloc(), false)?,
     };
     holds(&rt, is_written);
+    Ok(())
+}
+
+/// Returns what an output with a part of 4 bytes keeps of memory that has left: while it stands,
+/// after it left while somebody else has it, too, and when the output has it alone.
+fn shares_kept(alloc: Global, out: &mut LentOutput) -> Result<[usize; 3], AllocError> {
+    let mut large = Large::new(Vec::new(alloc));
+    large.bytes.extend_from_slice(b"abcd")?;
+    let Ok(memory) = Arc::new(alloc, large) else {
+        return Err(AllocError);
+    };
+    let part = Lent::of(Arc::try_clone(&memory)?, 0, 4);
+    out.append_lent(&text_of(b"b "), Lents::of(alloc, part), &text_of(b" c"))?;
+    let stands = out.left_bytes();
+    memory.leave();
+    let shared = out.left_bytes();
+    drop(memory);
+    Ok([stands, shared, out.left_bytes()])
+}
+
+/// The same for a new output.
+fn shares(alloc: Global) -> Result<[usize; 3], AllocError> {
+    let mut out = LentOutput::new(alloc, None);
+    shares_kept(alloc, &mut out)
+}
+
+#[test]
+fn what_has_left_is_shared_by_those_who_keep_it(rt: HostRuntime) -> Result<(), Fail> {
+    holds(&rt, shares(rt.alloc())? == [0, 2, 4]);
+    Ok(())
+}
+
+/// Returns how many bytes an output of a part of 100000 bytes has reserved.
+fn reserved_beside(alloc: Global) -> Result<usize, AllocError> {
+    let mut out = LentOutput::new(alloc, None);
+    let part = shared(alloc, &[b'x'; 100_000])?;
+    out.append_lent(&text_of(b"b "), Lents::of(alloc, part), &text_of(b" c"))?;
+    Ok(out.capacity())
+}
+
+#[test]
+fn what_is_lent_is_not_reserved(rt: HostRuntime) -> Result<(), Fail> {
+    holds(&rt, reserved_beside(rt.alloc())? < 100);
     Ok(())
 }

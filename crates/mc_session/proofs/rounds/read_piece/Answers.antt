@@ -1,5 +1,5 @@
 use Rattle.std.proofs.Common.{◌≡◌, ◌≤◌, length, subst, take, arith, Ok, Err, true}
-use Rattle.mc_session.specs.declared.serving.ServeFault.TheVariants.{Read}
+use Rattle.mc_protocol.specs.declared.serving.ServeFault.TheVariants.{Read}
 use Rattle.std.specs.Io.KnownBytes.{Consumes}
 use Rattle.mc_session.specs.Exchanges.{longest_piece}
 use Rattle.mc_session.specs.Rounds.{read_piece, read_nothing}
