@@ -19,7 +19,7 @@ use Rattle.mc_guests.specs.Telling.{TakenTurn, Visits, nothing, visit, texts, tu
 use Rattle.mc_guests.specs.Telling.{piece_of, part_of, bytes_given, bytes_taken, AnswerFirst, AnswerAll}
 use Rattle.mc_guests.specs.declared.guest.Visit.{Visit}
 use Rattle.mc_guests.specs.declared.guest.Visit.TheVariants.{Wrote, Turned, Read, Later, Served, Broken, Refused}
-use Rattle.mc_guests.proofs.LinkLemmas.{grown_nothing, grown_twice}
+use Rattle.mc_links.proofs.LinkLemmas.{grown_nothing, grown_twice}
 use Rattle.mc_guests.proofs.TellingLemmas.{moved_out, fed_out, texts_append, served_written}
 
 -- steps of any store

@@ -10,7 +10,7 @@ use Rattle.std.proofs.lemmas.List.Sums.{sum_by-le, sum_by-set, sum_by_more_le, s
 use Rattle.std.proofs.lemmas.List.Sorted.{sum_by-IsPermutation, IsPermutation-swap}
 use Rattle.mc_guests.specs.Asks.{little, most}
 use Rattle.mc_guests.specs.Guests.{GuestState, RowGuest, newcomer}
-use Rattle.mc_guests.specs.Budgets.{plus, one_if, is_large, uncounted, rest_of, Recounts, RecountsAll, AreSums, CountsAll, held_by, waiting_of, large_of, fits, is_kept_for_one, IsHeldBack}
+use Rattle.mc_guests.specs.Budgets.{plus, one_if, is_large, uncounted, rest_of, with_left, Recounts, RecountsAll, AreSums, CountsAll, held_by, waiting_of, large_of, fits, is_kept_for_one, IsHeldBack}
 use Rattle.mc_guests.specs.declared.budget.Budget.{Budget}
 
 pub at_most_one : (test : Bool) → one_if test ≤ 1
@@ -45,6 +45,24 @@ recounts_none old new before after bytes waits same = record {
   waiting = λ others few is. ap (λ (b : Budget). b.waiting) same ∙ is ∙ ap (λ (w : Bool). others + one_if w) (sym waits);
   large = λ others few is. ap (λ (b : Budget). b.large) same ∙ is ∙ (λ i. others + one_if (is_large (sym bytes i) (sym waits i)));
   rest = ap rest_of same;
+}
+
+-- one that is counted as it was, but for what it reads that has left
+pub recounts_left : (old new : RowGuest) (before after : Budget) → new.counted ≡ old.counted → new.waits ≡ old.waits → after ≡ with_left after.left before
+    → Recounts old new before after
+recounts_left old new before after bytes waits same = record {
+  held = λ others is. ap (λ (b : Budget). b.held) same ∙ is ∙ ap (λ (n : ℕ). others + n) (sym bytes);
+  waiting = λ others few is. ap (λ (b : Budget). b.waiting) same ∙ is ∙ ap (λ (w : Bool). others + one_if w) (sym waits);
+  large = λ others few is. ap (λ (b : Budget). b.large) same ∙ is ∙ (λ i. others + one_if (is_large (sym bytes i) (sym waits i)));
+  rest = ap rest_of same;
+}
+
+-- guests are counted as before where what they read that has left changes
+pub counts_left : (before after : Budget) (guests : List RowGuest) → after ≡ with_left after.left before → CountsAll before guests → CountsAll after guests
+counts_left before after guests same counts = record {
+  bytes = ap (λ (b : Budget). b.held) same ∙ counts.bytes;
+  waits = ap (λ (b : Budget). b.waiting) same ∙ counts.waits;
+  larges = ap (λ (b : Budget). b.large) same ∙ counts.larges;
 }
 
 -- one that is counted anew, and then once more

@@ -1,8 +1,6 @@
 pub mod VisitLemmas
 pub mod TellingLemmas
-pub mod LinkLemmas
 pub mod AnswerLemmas
-pub mod GatheringLemmas
 pub mod RoundLemmas
 pub mod PlaceLemmas
 pub mod BookLemmas

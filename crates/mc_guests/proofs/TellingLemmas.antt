@@ -9,7 +9,7 @@ use Rattle.mc_parse.specs.Streams.{is_last}
 use Rattle.mc_session.specs.Turns.{SessionState, TakesTurn, moved, fed, turn_count}
 use Rattle.mc_guests.specs.Links.{LinkState, grown}
 use Rattle.mc_guests.specs.Guests.{GuestState, welcomed, told}
-use Rattle.mc_guests.proofs.LinkLemmas.{grown_nothing, grown_twice}
+use Rattle.mc_links.proofs.LinkLemmas.{grown_nothing, grown_twice}
 use Rattle.mc_guests.specs.Visits.{Does, Visited, GoesRound, WritesFront}
 use Rattle.mc_guests.specs.Telling.{TakenTurn, Visits, nothing, visit, texts, turns_of}
 use Rattle.mc_guests.specs.declared.guest.Visit.{Visit}

@@ -1,5 +1,5 @@
 -- What a round does to the store, where guests that want much may be kept waiting.
-use Rattle.std.specs.Prelude.{◌≡◌, ◌⊎◌, ◌-◌, ◌^◌, ℕ, List, [], length, min, Some, IsFalse}
+use Rattle.std.specs.Prelude.{◌≡◌, ◌⊎◌, ◌<◌, ◌-◌, ◌^◌, ℕ, List, [], length, min, Some, IsFalse}
 use Rattle.mc_protocol.specs.declared.step.KeyStep.{KeyStep}
 use Rattle.mc_protocol.specs.declared.step.KeyStep.TheVariants.{Read}
 use Rattle.mc_protocol.specs.declared.step.Steps.{Ghosts as Relations}
@@ -43,12 +43,18 @@ abbrev pub block_length : Reply → ℕ
 block_length (Hit flags unique block) = length block
 block_length reply = 0
 
+-- this number of bytes of the block of a reply is copied: all, or none if the block is lent; a block of less than
+-- 32 KiB isn't lent
+pub record IsCopied (bytes : ℕ) (reply : Reply) : Type 0 where
+  pub some : (bytes ≡ min (block_length reply) most) ⊎ (bytes ≡ 0)
+  pub short : block_length reply < 32768 → bytes ≡ min (block_length reply) most
+
 module _ {S : Type 0} (took : S → KeyStep → ℕ → Reply → S → Type 0) (now : ℕ) where
-  -- a key was read at that moment, and the block that was found has this length; 0 if none was
+  -- a key was read at that moment, and so many bytes of the block that was found are copied; 0 if none was
   pub record ReadsLength (key : List ℕ) (bytes : ℕ) (before after : S) : Type 0 where
     pub reply : Reply
     pub took_it : took before (Read key) now reply after
-    pub length_is : bytes ≡ min (block_length reply) most
+    pub length_is : IsCopied bytes reply
 
 -- a key was read at that moment
 abbrev pub WasRead : {S : Type 0} → (S → KeyStep → ℕ → Reply → S → Type 0) → (now : ℕ) (key : List ℕ) (before after : S)
@@ -77,7 +83,7 @@ module _ {S : Type 0} (relations : Relations S) (now : ℕ) where
   abbrev pub MayAsk : (names : List ℕ → Type 0) (before after : S) → Type 0
   MayAsk names before after = (after ≡ before) ⊎ (relations.same before after ⊎ ReadsKey names before after)
 
-  -- a key that is named was read, and the block that was found has this length
+  -- a key that is named was read, and so many bytes of the block that was found are copied
   pub record ReadsNamed (names : List ℕ → Type 0) (bytes : ℕ) (before after : S) : Type 0 where
     pub key : List ℕ
     pub named : names key
@@ -89,7 +95,7 @@ module _ {S : Type 0} (relations : Relations S) (now : ℕ) where
     pub zero : bytes ≡ 0
     pub store : after ≡ before
 
-  -- the block of the key that is named has this length, by a read at that moment; 0 if no key is named
+  -- so many bytes of the block of the key that is named are copied, by a read at that moment; 0 if no key is named
   abbrev pub MeasuresNext : (names : List ℕ → Type 0) (bytes : ℕ) (before after : S) → Type 0
   MeasuresNext names bytes before after = ReadsNamed names bytes before after ⊎ NamesNone names bytes before after
 

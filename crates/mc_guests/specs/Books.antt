@@ -1,6 +1,6 @@
 -- The books that a worker has of its guests.
 use Rattle.std.specs.Prelude.{◌≡◌, ◌⊎◌, ◌≤◌, ◌<◌, ◌+◌, ◌-◌, ◌^◌, ◌==◌, ◌&&◌, not, ℕ, zero, suc, List, [], ◌∷◌, ◌++◌, length, take, drop, min, swap, slice_get, Option, Some, Bool, true, false, IsTrue, IsFalse}
-use Rattle.mc_guests.specs.Budgets.{rest_of, may_try}
+use Rattle.mc_guests.specs.Budgets.{rest_of, may_try, with_left}
 use Rattle.mc_guests.specs.Guests.{GuestState, RowGuest, newcomer, has_ended, is_to_sleep, is_stray, in_line}
 use Rattle.mc_time.specs.Chains.{Repeats}
 use Rattle.mc_guests.specs.declared.budget.Budget.{Budget}
@@ -23,6 +23,10 @@ nobody = record { guests = []; numbers = [] }
 -- the link of the guest at a place has this number
 abbrev pub HasNumber : RowState → (at number : ℕ) → Type 0
 HasNumber row at number = slice_get row.numbers at ≡ Some number
+
+-- the link of one of the guests has this number
+abbrev pub HasLink : RowState → (number : ℕ) → Type 0
+HasLink row number = (at : ℕ) × HasNumber row at number
 
 -- the place of each number that stands in the row is found, and no other place
 pub record TellsPlaces (place_of : ℕ → Option ℕ) (numbers : List ℕ) : Type 0 where
@@ -77,7 +81,7 @@ abbrev pub books : RowState → (awake : ℕ) → Budget → (queue : List ℕ) 
 books row awake budget queue last strays =
     record { row = row; awake = awake; budget = budget; queue = queue; is_last = last; has_strays = strays }
 
--- no guests, with what a budget has beside those that it counts
+-- no guests, and a budget that counts none
 abbrev pub no_books : Budget → BooksState
 no_books budget = books nobody 0 (rest_of budget) [] false false
 
@@ -85,15 +89,19 @@ no_books budget = books nobody 0 (rest_of budget) [] false false
 abbrev pub quiet : BooksState → Bool
 quiet books = books.awake == 0 && not (may_try books.budget)
 
--- the time is set, in ticks
-abbrev pub at_ticks : (ticks : ℕ) → BooksState → BooksState
-at_ticks ticks books = record books { budget = record books.budget { ticks = ticks } }
+-- guests read this many bytes of memory that has left the store
+abbrev pub reading : (left : ℕ) → BooksState → BooksState
+reading left books = record books { budget = with_left left books.budget }
+
+-- the time is set, in ticks, and guests read this many bytes of memory that has left the store
+abbrev pub at_ticks : (ticks left : ℕ) → BooksState → BooksState
+at_ticks ticks left books = record books { budget = record books.budget { ticks = ticks; left = left } }
 
 -- the judgement of slow guests was taken in this tick
 abbrev pub took_judging : BooksState → BooksState
 took_judging books = record books { budget = record books.budget { judged = books.budget.ticks } }
 
--- the guest at a place wakes: it stands behind those that were awake
+-- the guest at a place wakes, and is the last of the awake guests
 abbrev pub woken : ℕ → BooksState → BooksState
 woken at books = record books {
   row = swapped at books.awake books.row;
@@ -120,8 +128,8 @@ abbrev pub LinesUp : (at : ℕ) (old new : BooksState) → Type 0
 LinesUp at old new = ((number : ℕ) × HasNumber old.row at number × (new ≡ put_behind at (queued_up at number old)))
     ⊎ (new ≡ put_behind at (record old { has_strays = true }))
 
--- The guest at a place is gone, of those that are awake. The last of these stands at its place then, and
--- the last of all at that one's.
+-- An awake guest is removed. The last awake guest takes its place, and the last guest takes that
+-- one's.
 abbrev pub let_gone : ℕ → BooksState → BooksState
 let_gone at books = record books {
   row = cut (length books.row.guests - 1)
@@ -216,12 +224,12 @@ pub record SettlesBefore (old new : ℕ × BooksState × WorkEnd) : Type 0 where
   pub place : old.0 ≡ new.0 + 1
   pub settles : Settles new.0 old.1 new.1 old.2 new.2
 
--- of those that were awake the ones from a place on were settled, the last one first
+-- the awake guests from a place on were settled, the last one first
 abbrev pub SettlesFrom : (at : ℕ) (old new : BooksState) (before after : WorkEnd) → Type 0
 SettlesFrom at old new before after =
     (count : ℕ) × Repeats SettlesBefore count (old.awake, old, before) (at, new, after)
 
--- a round leaves those that sleep, all numbers, who is awake, the share, and the queue
+-- a round leaves the sleepers, all numbers, who is awake, the share, and the queue
 pub record KeepsBooks (old new : BooksState) : Type 0 where
   pub share : new.budget.share ≡ old.budget.share
   pub asleep : drop old.awake new.row.guests ≡ drop old.awake old.row.guests

@@ -16,6 +16,7 @@ unused share greatest = record {
   share = share;
   tight = max (share - plus greatest little) (share / 2);
   held = 0;
+  left = 0;
   large = 0;
   waiting = 0;
   is_eased = false;
@@ -27,7 +28,7 @@ unused share greatest = record {
 }
 
 -- whether there is room for one more guest that wants this many bytes: for a little always, and for more if so much is
--- left or if no other guest holds more than a little
+-- left or if no other guest that goes on holds more than its own bytes
 abbrev pub fits : ℕ → Budget → Bool
 fits wanted budget =
     (nat_le wanted little || nat_le wanted (budget.share - budget.held)) || budget.large == 0
@@ -50,7 +51,7 @@ abbrev pub is_kept_for_one : Budget → Bool
 is_kept_for_one budget = budget.is_kept && nat_lt 0 budget.waiting
 
 -- a guest wants more than a little, and others wait for the oldest that waits, or so much isn't left while another guest
--- holds more than a little
+-- holds more than its own bytes
 pub record LacksRoom (budget : Budget) : Type 0 where
   pub wanted : ℕ
   pub much : little < wanted
@@ -65,11 +66,11 @@ IsHeldBack guest others = IsTrue (has_ended guest.last) ⊎ LacksRoom others
 abbrev pub may_try : Budget → Bool
 may_try budget = budget.is_eased && nat_lt 0 budget.waiting
 
--- whether those that wait are tried again now: some do, and memory came back or a tick has passed
+-- whether waiting guests are retried now: there are some, and memory came back or a tick has passed
 abbrev pub is_retry_due : Budget → Bool
 is_retry_due budget = nat_lt 0 budget.waiting && (budget.is_eased || not (budget.ticks == budget.tried))
 
--- those that wait are tried again
+-- waiting guests are retried
 abbrev pub retried : Budget → Budget
 retried budget = record budget { is_eased = false; is_kept = false; promised = 0; tried = budget.ticks }
 
@@ -81,9 +82,9 @@ to_judge budget = if budget.ticks == budget.judged then 0 else min budget.waitin
 abbrev pub one_if : Bool → ℕ
 one_if test = cond test 1 0
 
--- whether a guest goes on and is counted for more than a little
+-- whether a guest goes on and holds more than its own bytes
 abbrev pub is_large : (bytes : ℕ) (waits : Bool) → Bool
-is_large bytes waits = not waits && nat_lt little bytes
+is_large bytes waits = not waits && nat_lt 0 bytes
 
 -- a guest isn't counted any more that was counted for this many bytes
 abbrev pub uncounted : (bytes : ℕ) (waits : Bool) → Budget → Budget
@@ -109,9 +110,17 @@ counted_too bytes waits budget = record budget {
   large = plus budget.large (one_if (is_large bytes waits));
 }
 
+-- the same, while guests read this many bytes of memory that has left the store
+abbrev pub with_left : (left : ℕ) → Budget → Budget
+with_left left budget = record budget { left = left }
+
+-- whether guests read more of what has left than their share
+abbrev pub is_over : Budget → Bool
+is_over budget = nat_lt budget.share budget.left
+
 -- what a budget has beside what it counts, and whether memory came back
 abbrev pub rest_of : Budget → Budget
-rest_of budget = record budget { held = 0; large = 0; waiting = 0; is_eased = false }
+rest_of budget = record budget { held = 0; left = 0; large = 0; waiting = 0; is_eased = false }
 
 -- A guest is counted anew: beside what the budget counts of others it counts the guest as it is now. Nothing else of the
 -- budget changes but whether memory came back.
@@ -123,20 +132,22 @@ pub record Recounts (old new : RowGuest) (before after : Budget) : Type 0 where
       → after.large ≡ others + one_if (is_large new.counted new.waits)
   pub rest : rest_of after ≡ rest_of before
 
--- the most bytes that a guest holds beyond those for which it is counted
-abbrev pub most_uncounted : ℕ
-most_uncounted = 65536
+-- the bytes that each guest has as its own: it is counted for what it holds beyond them
+abbrev pub own : ℕ
+own = 73728
 
--- a guest that is counted for this many bytes may hold these unread bytes, and this output
-pub record Covers (counted : ℕ) (session : SessionState) : Type 0 where
-  pub unread : length session.unread.bytes ≤ counted + most_uncounted
-  pub out : length session.out ≤ counted + most_uncounted
+-- a guest that is counted for this many bytes may hold these unread bytes; and this output, of which so many bytes are
+-- lent
+pub record Covers (counted lent : ℕ) (session : SessionState) : Type 0 where
+  pub unread : length session.unread.bytes ≤ counted + own
+  pub out : length session.out ≤ counted + own + lent
+  pub within : lent ≤ length session.out
 
 -- a guest is counted for what it holds, unless the budget counts the greatest number of bytes
 abbrev pub IsCounted : RowGuest → Budget → Type 0
-IsCounted guest budget = budget.held < most → Covers guest.counted guest.guest.session
+IsCounted guest budget = budget.held < most → Covers guest.counted guest.lent guest.guest.session
 
--- the bytes for which guests are counted
+-- the bytes that guests are counted for
 abbrev pub held_by : List RowGuest → ℕ
 held_by guests = sum_by (λ guest. guest.counted) guests
 
@@ -144,7 +155,7 @@ held_by guests = sum_by (λ guest. guest.counted) guests
 abbrev pub waiting_of : List RowGuest → ℕ
 waiting_of guests = sum_by (λ guest. one_if guest.waits) guests
 
--- how many guests go on and are counted for more than a little
+-- how many guests go on and hold more than their own bytes
 abbrev pub large_of : List RowGuest → ℕ
 large_of guests = sum_by (λ guest. one_if (is_large guest.counted guest.waits)) guests
 

@@ -9,8 +9,8 @@ use Rattle.mc_guests.specs.declared.talk.Came.{Came}
 use Rattle.mc_guests.specs.declared.talk.Came.TheVariants.{Link, Later, Closed}
 use Rattle.mc_guests.specs.declared.talk.Talk.{Talk}
 use Rattle.mc_guests.specs.declared.door.Door.{Door}
-use Rattle.mc_guests.specs.declared.links.Next.{Next}
-use Rattle.mc_guests.specs.declared.links.Next.TheVariants as next
+use Rattle.mc_links.specs.declared.links.Next.{Next}
+use Rattle.mc_links.specs.declared.links.Next.TheVariants as next
 
 -- what came next, without the link
 abbrev pub came_of : {L : Type 0} → Next L → Came

@@ -1,4 +1,4 @@
--- Who goes on and who waits on when those that wait for room are tried again.
+-- Which guests go on and which wait on after a retry.
 use Rattle.std.specs.Prelude.{◌≡◌, ◌⊎◌, ◌<◌, ◌≤◌, ◌+◌, ◌-◌, ◌++◌, ◌∷◌, ℕ, List, [], length, slice_get, Some, if◌then◌else◌, IsTrue, IsFalse}
 use Rattle.std.specs.List.{sum_by}
 use Rattle.mc_guests.specs.Budgets.{plus, has_left}
@@ -71,9 +71,10 @@ pub record OldestLacksRoom (books : BooksState) : Type 0 where
   pub long : IsTrue (waits_long books.budget.ticks guest)
   pub none : IsFalse (finds_room guest books)
 
--- The queue afterwards: those that weren't looked at, and behind them those that were, none of whom finds room. Before,
--- these stood in front of them, in the same order. If others don't wait for the oldest, at most those beyond 256 weren't
--- looked at; if the newest of them is in turn it finds no room either, or 256 have left. Who left waits there no more.
+-- The queue afterwards: first the guests that weren't retried, behind them the ones that were and found no room. Before,
+-- the second were in front of the first, each in the same order. If others don't wait for the oldest, at most the guests
+-- beyond 256 weren't retried. If the newest is in turn, it found no room either, or 256 have left. A guest that left
+-- isn't in the queue.
 pub record WaitsOn (old new : BooksState) : Type 0 where
   pub unseen : List ℕ
   pub seen : List ℕ
@@ -90,7 +91,7 @@ pub record WaitsOn (old new : BooksState) : Type 0 where
 abbrev pub misses : RowGuest → ℕ
 misses guest = if is_queued guest then missing guest else 0
 
--- what those that wait in the queue miss
+-- the bytes that the queued guests wait for
 abbrev pub missed_by : RowState → ℕ
 missed_by row = sum_by misses row.guests
 

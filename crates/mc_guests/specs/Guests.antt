@@ -61,30 +61,30 @@ abbrev pub IsDemand : (session : SessionState) → AwaitsLink session → (bytes
 IsDemand session (inl has_output) bytes = IsOffer bytes (length session.out)
 IsDemand session (inr is_waiting) bytes = IsRoom bytes
 
--- the bytes that its link took, and those that wait for it
+-- the bytes that its link took, and the output that waits
 abbrev pub told : GuestState → Option (List ℕ)
 told guest = grown guest.link.taken guest.session.out
 
 -- A guest of a worker: whether it waits for room, and the bytes for which it is counted. Where it stands in the queue of
--- those that wait, the bytes that it wanted when it began to wait, and whether it waits with output that its client
--- doesn't read. And the pace of its link.
+-- those that wait, and the bytes that it wanted when it began to wait. How many bytes of its output were lent when it
+-- was counted, and the pace of its link.
 pub record RowGuest : Type 0 where
   pub guest : GuestState
   pub waits : Bool
   pub counted : ℕ
   pub line : Line
   pub wanted : ℕ
-  pub is_unread : Bool
+  pub lent : ℕ
   pub pace : Pace
 
 -- what contracts see of a guest of a worker with these fields
-abbrev pub row_guest : GuestState → (waits : Bool) → (counted : ℕ) → Line → (wanted : ℕ) → (is_unread : Bool) → Pace → RowGuest
-row_guest guest waits counted line wanted unread pace =
-    record { guest = guest; waits = waits; counted = counted; line = line; wanted = wanted; is_unread = unread; pace = pace }
+abbrev pub row_guest : GuestState → (waits : Bool) → (counted : ℕ) → Line → (wanted : ℕ) → (lent : ℕ) → Pace → RowGuest
+row_guest guest waits counted line wanted lent pace =
+    record { guest = guest; waits = waits; counted = counted; line = line; wanted = wanted; lent = lent; pace = pace }
 
 -- a guest that just came
 abbrev pub newcomer : GuestState → RowGuest
-newcomer guest = row_guest guest false 0 Out 0 false (begun 0)
+newcomer guest = row_guest guest false 0 Out 0 0 (begun 0)
 
 -- whether a guest that waits is in the queue
 abbrev pub is_in_queue : Line → Bool
@@ -104,7 +104,7 @@ is_queued guest = guest.waits && is_in_queue guest.line
 abbrev pub is_stray : RowGuest → Bool
 is_stray guest = guest.waits && is_left_out guest.line
 
--- the bytes that a guest waits for, beyond those that are counted
+-- the bytes that a guest waits for, beyond its counted ones
 abbrev pub missing : RowGuest → ℕ
 missing guest = guest.wanted - guest.counted
 

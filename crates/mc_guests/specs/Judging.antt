@@ -1,19 +1,15 @@
 -- Which guests that hold much are judged, and closed.
-use Rattle.std.specs.Prelude.{◌≡◌, ◌<◌, ◌≤◌, ◌&&◌, not, nat_lt, ℕ, Bool, true, List, length, slice_get, Option, Some, None, if◌then◌else◌}
-use Rattle.mc_guests.specs.Asks.{little}
+use Rattle.std.specs.Prelude.{◌≡◌, ◌<◌, ◌≤◌, ◌&&◌, nat_lt, ℕ, Bool, true, List, length, slice_get, Option, Some, None, if◌then◌else◌}
+use Rattle.mc_guests.specs.Budgets.{plus, own}
 use Rattle.mc_guests.specs.Guests.{RowGuest}
 use Rattle.mc_guests.specs.Paces.{begun, asked_again, rate, is_slow, was_asked}
 use Rattle.mc_guests.specs.Books.{RowState, StandsAt, HasNumber, with_guest}
 use Rattle.mc_guests.specs.declared.weighed.Judged.{Judged}
 use Rattle.mc_guests.specs.declared.weighed.Judged.TheVariants.{Asks, Ends}
 
--- whether a guest is held up by others: it waits for room, and its client reads all of its output
-abbrev pub is_held_up : RowGuest → Bool
-is_held_up guest = guest.waits && not guest.is_unread
-
--- whether a guest holds more than a little, isn't held up by others, and its link is slow
+-- whether a guest holds more than its own bytes, and its link is slow for as much as it holds
 abbrev pub is_hoarding : (ticks : ℕ) → RowGuest → Bool
-is_hoarding ticks guest = (not (is_held_up guest) && nat_lt little guest.counted) && is_slow ticks guest.pace
+is_hoarding ticks guest = nat_lt 0 guest.counted && is_slow (plus guest.counted own) ticks guest.pace
 
 -- the rate of a guest that may be judged
 unfoldable pub slowness : (ticks : ℕ) → RowGuest → Option ℕ

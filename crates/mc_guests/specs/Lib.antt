@@ -1,5 +1,4 @@
 pub mod Links
-pub mod Gathered
 pub mod Paces
 pub mod Guests
 pub mod Visits

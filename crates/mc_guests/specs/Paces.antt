@@ -39,10 +39,15 @@ was_quiet least ticks pace = nat_le least (ticks - pace.heard)
 abbrev pub is_silent : (ticks : ℕ) → Pace → Bool
 is_silent ticks pace = was_quiet 20 ticks pace
 
--- whether the link moved less than 64 KiB/s for at least 5 s
-abbrev pub lags : (ticks : ℕ) → Pace → Bool
-lags ticks pace = nat_le 20 (age ticks pace) && nat_lt (rate ticks pace) 16384
+-- at this rate, in bytes a tick, so many bytes are moved within 10 s
+unfoldable pub least_rate : (held : ℕ) → ℕ
+least_rate held = held / 40
 
--- whether the link is slow: it is silent or lags, and wasn't asked again in the last 0.5 s
-abbrev pub is_slow : (ticks : ℕ) → Pace → Bool
-is_slow ticks pace = (is_silent ticks pace || lags ticks pace) && not (is_recent 2 ticks pace.asked)
+-- whether the link moved so little for at least 5 s that it won't have moved so many bytes within 10 s
+abbrev pub lags : (held ticks : ℕ) → Pace → Bool
+lags held ticks pace = nat_le 20 (age ticks pace) && nat_lt (rate ticks pace) (least_rate held)
+
+-- whether the link of a guest that holds so many bytes is slow: it is silent or lags, and wasn't asked again in the last
+-- 0.5 s
+abbrev pub is_slow : (held ticks : ℕ) → Pace → Bool
+is_slow held ticks pace = (is_silent ticks pace || lags held ticks pace) && not (is_recent 2 ticks pace.asked)

@@ -1,4 +1,4 @@
--- Who of those that wait for room goes on.
+-- Which waiting guests go on.
 use Rattle.std.specs.Prelude.{◌≡◌, ◌⊎◌, ◌<◌, ◌+◌, ◌-◌, ◌&&◌, not, nat_le, min, ℕ, zero, suc, Bool, false, [], ◌∷◌, ◌++◌, length, take, drop, slice_get, Option, Some, None, if◌then◌else◌, IsTrue, IsFalse}
 use Rattle.mc_guests.specs.Budgets.{promised_more, has_left, is_retry_due, retried}
 use Rattle.mc_guests.specs.Guests.{RowGuest, is_queued, is_stray, missing, in_line}
@@ -154,12 +154,12 @@ abbrev pub strays_tried : (count from : ℕ) → BooksState → BooksState
 strays_tried zero from books = books
 strays_tried (suc count) from books = stray_tried (from + count) (strays_tried count from books)
 
--- those that sleep and are left out of the queue are tried again, if there are strays
+-- the sleepers that aren't queued are retried, if there are strays
 abbrev pub all_strays_tried : BooksState → BooksState
 all_strays_tried books = if books.has_strays
     then strays_tried (length books.row.guests - books.awake) books.awake (record books { has_strays = false }) else books
 
--- those that wait are tried again: first in turn, then all others, and then strays
+-- waiting guests are retried: first in turn, then all others, then strays
 pub record LetsOnAll (old new : BooksState) : Type 0 where
   pub after_turns : BooksState
   pub after_looks : BooksState
@@ -180,7 +180,7 @@ abbrev pub FindsNone : BooksState → (number : ℕ) → Type 0
 FindsNone books number = (at : ℕ) (guest : RowGuest) → HasNumber books.row at number → StandsAt at books.row guest
     → IsTrue (is_queued guest) → IsFalse (finds_room guest books)
 
--- if a retry is due those that wait are tried again, and else nothing changes
+-- if a retry is due, waiting guests are retried; else nothing changes
 pub record LetsOn (old new : BooksState) : Type 0 where
   pub due : IsTrue (is_retry_due old.budget) → LetsOnAll (begun_anew old) new
   pub early : IsFalse (is_retry_due old.budget) → new ≡ old

@@ -1,4 +1,4 @@
--- What visits tell: the bytes that a link took, and those that wait for it.
+-- The output of visits: the bytes that a link took, and the bytes that wait for it.
 use mathlib.Core.Logic.{inl, inr}
 use Rattle.std.specs.Prelude.{◌≡◌, ℕ, List, [], ◌∷◌, ◌++◌, map}
 use Rattle.mc_protocol.specs.declared.step.Steps.{Ghosts as Relations}

@@ -42,7 +42,7 @@ module _ {S : Type 0} (relations : Relations S) (now : ℕ) where
     pub turns : HaveTurns (take old.awake old.row.guests) (take old.awake new.row.guests) before after old.budget new.budget
     pub keeps : KeepsBooks old new
 
-  -- if a retry is due those that wait are tried again, and then all that are awake have their turns
+  -- if a retry is due, waiting guests are retried; then all awake guests have their turns
   pub record VisitsAll (old new : BooksState) (before after : S) : Type 0 where
     pub between : BooksState
     pub wakes : LetsOn old between

@@ -1,14 +1,19 @@
 //! How much memory the guests of one worker may hold together.
 
-ghost use Rattle.std.specs.Prelude.{◌≡◌, ◌<◌, ◌-◌, min, IsTrue, IsFalse};
+ghost use Rattle.std.specs.Prelude.{◌≡◌, ◌<◌, ◌+◌, ◌-◌, min, IsTrue, IsFalse};
 ghost use Rattle.mc_guests.specs.Asks.{most};
 ghost use Rattle.mc_guests.specs.Budgets.{unused, fits, has_left, promised_more, is_tight};
 ghost use Rattle.mc_guests.specs.Budgets.{is_kept_for_one};
 ghost use Rattle.mc_guests.specs.Budgets.{may_try, is_retry_due, retried, to_judge};
 ghost use Rattle.mc_guests.specs.Budgets.{is_large, one_if, rest_of, uncounted, counted_too};
+ghost use Rattle.mc_guests.specs.Budgets.{is_over, with_left};
 
-/// The bytes that a guest may always hold, whatever others hold.
+/// The bytes that a request may always take, whatever others hold.
 pub const LITTLE: usize = 16_384;
+
+/// The bytes that each guest has as its own: a line, the first part of its answer and 6 KiB. They
+/// aren't counted, so they make no others wait.
+pub const OWN: usize = 73_728;
 
 /// The memory that a worker's guests hold, and its limit.
 #[derive(Drop)]
@@ -17,9 +22,11 @@ pub struct Budget {
     pub share: usize,
     /// The bytes held from which on a turn's need is checked first.
     pub tight: usize,
-    /// The bytes for which they are counted.
+    /// The bytes for which they are counted: those beyond `OWN` of each.
     pub held: usize,
-    /// The guests that go on and are counted for more than `LITTLE`.
+    /// The bytes of memory that has left the store and that they read. Nobody waits for these.
+    pub left: usize,
+    /// The guests that go on and are counted for some bytes.
     pub large: usize,
     /// The guests that wait.
     pub waiting: usize,
@@ -47,6 +54,7 @@ impl Budget {
             share,
             tight: share.saturating_sub(greatest).max(share / 2),
             held: 0,
+            left: 0,
             large: 0,
             waiting: 0,
             is_eased: false,
@@ -63,6 +71,7 @@ impl Budget {
         ensures { result ≡ rest_of self }
     {
         self.held = 0;
+        self.left = 0;
         self.large = 0;
         self.waiting = 0;
         self.is_eased = false;
@@ -71,7 +80,7 @@ impl Budget {
 
     /// Returns whether there is room for one more guest that wants `wanted` bytes.
     ///
-    /// There is always room up to `LITTLE`, and always if no other guest holds more than `LITTLE`.
+    /// There is always room up to `LITTLE`, and always if no other guest that goes on is counted.
     pub(crate) fn fits(&self, wanted: usize) -> bool
         ensures { result ≡ fits wanted self.now }
     {
@@ -152,6 +161,25 @@ impl Budget {
         }
     }
 
+    /// Returns whether guests read more of what has left the store than their share.
+    pub(crate) fn is_over(&self) -> bool
+        ensures { result ≡ is_over self.now }
+    {
+        self.left > self.share
+    }
+
+    /// Counts a guest for `left` bytes that it reads of what has left the store, in place of `was`.
+    /// Returns for how many it is counted: for as many as fit the counter.
+    pub(crate) fn recount_left(&mut self, was: usize, left: usize) -> usize
+        ensures all { result ≡ min left (most - (self.old.left - was)) }
+        ensures counts { self.new ≡ with_left (self.old.left - was + result) self.old }
+    {
+        self.left = self.left.saturating_sub(was);
+        let counted = left.min(usize::MAX - self.left);
+        self.left += counted;
+        counted
+    }
+
     /// Uncounts a guest that was counted for `counted` bytes.
     pub(crate) fn take_out(&mut self, counted: usize, waits: bool)
         ensures { self.new ≡ uncounted counted waits self.old }
@@ -175,11 +203,11 @@ impl Budget {
     }
 }
 
-/// Returns whether a guest goes on and is counted for more than `LITTLE`.
+/// Returns whether a guest goes on and is counted for some bytes.
 fn is_large(counted: usize, waits: bool) -> bool
     ensures { result ≡ is_large counted waits }
 {
-    !waits && counted > LITTLE
+    !waits && counted > 0
 }
 
 /// Returns 1 if a test holds, else 0.

@@ -7,9 +7,8 @@ ghost use Rattle.mc_guests.specs.Books.{one_more};
 ghost use Rattle.mc_guests.specs.Doors.{shut, counted_in, LetsIn, Opens, OpensForAll};
 
 use crate::guests::{Guests, WorkEnd};
-use crate::link::Link;
-use crate::links::{Links, Next};
 use crate::talk::Talk;
+use mc_links::{Link, Links, Next};
 use std::alloc::Global;
 
 /// The most links that are admitted between two rounds.

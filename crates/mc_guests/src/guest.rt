@@ -3,7 +3,7 @@
 //! A visit that reads the end of the stream answers `Served` in that visit; a visit of an ended
 //! guest changes nothing, so `visit` has no premise. A guest reads 2048 bytes at first and 16384
 //! once a read filled that, so an idle connection holds little.
-ghost use Rattle.std.specs.Prelude.{◌≡◌, ◌↔◌, ◌<◌, ◌≤◌, ℕ, List, length, option_copied, IfOk, IfSome, Some, None, [], IsTrue, IsFalse};
+ghost use Rattle.std.specs.Prelude.{◌≡◌, ◌↔◌, ◌<◌, ◌≤◌, ◌+◌, ℕ, List, length, option_copied, IfOk, IfSome, Some, None, [], IsTrue, IsFalse};
 ghost use Rattle.mc_protocol.specs.Commands.{longest_key};
 ghost use Rattle.mc_session.specs.Resting.{resting};
 ghost use Rattle.mc_guests.specs.Guests.{welcomed, has_ended, ends, IsWaiting};
@@ -11,12 +11,12 @@ ghost use Rattle.mc_guests.specs.Visits.{Visited, Does, Writes, Reads};
 ghost use Rattle.mc_guests.specs.Asks.{StaysOrLosesLink};
 ghost use Rattle.mc_guests.specs.Outcomes.{too_large};
 
-use crate::link::{Link, LinkFault, Took};
 use crate::measure::Naming;
 use crate::tap::{Tap, Tapped};
 use mc_bytes::{FIRST_PIECE, Spares};
+use mc_links::{Link, LinkFault, Took};
 use mc_protocol::Steps;
-use mc_session::{LONGEST_PIECE, LentOutput, SessionOf, Turn};
+use mc_session::{Holding, LONGEST_PIECE, LentOutput, SessionOf, Turn};
 use mc_time::Moment;
 use std::alloc::{AllocError, Global};
 use std::marker::Model;
@@ -117,23 +117,33 @@ impl<L: Link + Drop> Guest<L> {
         answer
     }
 
-    /// Returns the bytes reserved for its session, and for output that its link still has.
+    /// Returns the bytes reserved for its session, but for what is lent, and for output that its link
+    /// still has.
     pub(crate) fn capacity(&self) -> usize
-        ensures unread { length self.now.session.unread.bytes ≤ result }
-        ensures out { length self.now.session.out ≤ result }
+        ensures { length self.now.session.unread.bytes ≤ result }
     {
         let link = self.link.capacity();
         self.session.capacity().saturating_add(link)
     }
 
+    /// Returns the bytes that it holds; output that its link still has is among its own.
+    pub(crate) fn holding(&self) -> Holding
+        ensures unread { length self.now.session.unread.bytes ≤ result.own }
+        ensures out { length self.now.session.out ≤ result.own + result.lent }
+        ensures within { result.lent ≤ length self.now.session.out }
+    {
+        let mut holding = self.session.holding();
+        holding.own = holding.own.saturating_add(self.link.capacity());
+        holding
+    }
+
     /// Frees memory beyond two first pieces, if there are no unread bytes and no output.
     ///
-    /// Returns the number of bytes reserved for it afterwards.
+    /// Returns the number of bytes reserved for it afterwards, but for what is lent.
     #[inline(never)]
     pub fn rest(&mut self) -> usize
         ensures same { self.new ≡ self.old }
         ensures unread { length self.new.session.unread.bytes ≤ result }
-        ensures out { length self.new.session.out ≤ result }
         ensures empty { self.new.session.unread.bytes ≡ [] → self.new.session.out ≡ [] →
             result ≤ resting }
     {

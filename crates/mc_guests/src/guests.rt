@@ -5,12 +5,12 @@
 //! nothing.
 ghost use Rattle.std.specs.Prelude.{◌≡◌, ◌↔◌, ◌<◌, ◌≤◌, ◌&&◌, not, length, slice_get, false, Some, None, IfSome, IsTrue, IsFalse};
 ghost use Rattle.mc_guests.specs.Asks.{MakesRound};
-ghost use Rattle.mc_guests.specs.Budgets.{is_retry_due, to_judge};
+ghost use Rattle.mc_guests.specs.Budgets.{is_retry_due, is_over as exceeds_share, to_judge};
 ghost use Rattle.mc_guests.specs.Guests.{welcomed, has_ended, is_later, is_left_out};
 ghost use Rattle.mc_guests.specs.Books.{no_books, quiet, woken, put_behind, let_in, counted};
 ghost use Rattle.mc_guests.specs.Books.{SleepsAt, IsFateOf, is_over, is_asleep, is_to_queue};
 ghost use Rattle.mc_guests.specs.Books.{Wakes, LinesUp, LetsGo, Settles, SettlesFrom};
-ghost use Rattle.mc_guests.specs.Books.{at_ticks, took_judging};
+ghost use Rattle.mc_guests.specs.Books.{at_ticks, reading, took_judging, HasLink};
 ghost use Rattle.mc_guests.specs.Judging.{Judges};
 ghost use Rattle.mc_guests.specs.Retries.{LetsOn, LetsOnAll, begun_anew, GoInTurn, GoBeside, TakesTurn, EndsTurns};
 ghost use Rattle.mc_guests.specs.Retries.{LooksAtFirst, IsQueuedAt, NoneWaits, PromisesRoom, KeepsRoom};
@@ -20,12 +20,11 @@ ghost use Rattle.mc_guests.specs.Turns.{VisitsAll, VisitsAwake};
 
 use crate::budget::Budget;
 use crate::guest::{Guest, Visit};
-use crate::link::Link;
 use crate::reports::Reports;
 use crate::row::GuestRow;
-use crate::tally::Tally;
 use crate::weighed::{Judged, Line};
 use mc_bytes::Spares;
+use mc_links::{Link, Tally};
 use mc_protocol::Steps;
 use mc_time::Moment;
 use std::alloc::Global;
@@ -61,6 +60,8 @@ pub struct Guests<L: Link + Drop> {
     has_strays: bool,
     /// The bytes held and the number of waiting guests, as they were last reported.
     reported: (usize, usize),
+    /// The tick in which readers of what has left the store were last ended.
+    ended: u64,
     /// The large buffers of all guests between two requests, if there was memory for them.
     spares: Option<Spares>,
 }
@@ -80,6 +81,9 @@ impl<L: Link + Drop> Model for Guests<L> {
 
 /// The ticks after which unused spares are freed.
 const UNUSED: u64 = 4;
+
+/// The most readers of what has left the store that are ended in one tick.
+const ENDED: usize = 16;
 
 /// The most waiting guests that one retry looks at.
 const LOOKS: usize = 256;
@@ -109,6 +113,7 @@ impl<L: Link + Drop> Guests<L> {
             is_last: false,
             has_strays: false,
             reported: (0, 0),
+            ended: 0,
             spares: Spares::new(alloc).ok(),
         }
     }
@@ -173,10 +178,11 @@ impl<L: Link + Drop> Guests<L> {
 
     /// Sets the time, in ticks of 0.25 s.
     ///
-    /// In a new tick, quiet guests free the memory that they keep, and spares are freed that, with
-    /// what guests hold, are more than the share. Every fourth tick frees unused spares.
+    /// In a new tick, quiet guests free the memory that they keep, guests are counted anew for what
+    /// they read that has left the store, and spares are freed that, with what guests hold, are more
+    /// than the share. Every fourth tick frees unused spares.
     pub fn tick(&mut self, ticks: u64)
-        ensures { self.new ≡ at_ticks ticks self.old }
+        ensures { self.new ≡ at_ticks ticks self.new.budget.left self.old }
     {
         let before = self.budget.ticks;
         if ticks != before {
@@ -197,10 +203,11 @@ impl<L: Link + Drop> Guests<L> {
         }
     }
 
-    /// Frees the memory that quiet guests keep.
+    /// Frees the memory that quiet guests keep, and counts guests anew for what they read that has
+    /// left the store.
     #[inline(never)]
     fn rest_quiet(&mut self)
-        ensures { self.new ≡ self.old }
+        ensures { self.new ≡ reading self.new.budget.left self.old }
     {
         let Guests { row, budget, .. } = self;
         row.rest_quiet(budget);
@@ -454,8 +461,37 @@ impl<L: Link + Drop> Guests<L> {
         self.budget.takes_turn_to_judge()
     }
 
-    /// Judges the slowest of the guests that hold more than 16 KiB, if it is slow: it moved
-    /// nothing for 5 s, or less than 64 KiB/s for at least 5 s. All guests are looked at.
+    /// Returns how many readers of what has left the store may be ended now: once a tick 16 if that
+    /// is more than the share, else none.
+    pub fn takes_turn_to_end(&mut self) -> usize
+        ensures same { self.new ≡ self.old }
+        ensures within { IsFalse (exceeds_share self.old.budget) → result ≡ 0 }
+        ensures few { result ≤ 16 }
+    {
+        if self.ended == self.budget.ticks || !self.budget.is_over() {
+            return 0;
+        }
+        self.ended = self.budget.ticks;
+        ENDED
+    }
+
+    /// Returns the number of the link of the slowest guest that reads what has left the store, if
+    /// that is more than the share. The caller closes the link; the guest is counted no more.
+    pub fn end_slowest_reader(&mut self) -> Option<u64>
+        ensures same { self.new ≡ reading self.new.budget.left self.old }
+        ensures number { IfSome result (λ number. HasLink self.old.row number) }
+        ensures over { IfSome result (λ _. IsTrue (exceeds_share self.old.budget)) }
+    {
+        if !self.budget.is_over() {
+            return None;
+        }
+        let Guests { row, budget, .. } = self;
+        row.end_slowest_reader(budget)
+    }
+
+    /// Judges the slowest of the guests that hold more than 72 KiB, if it is slow: it moved nothing
+    /// for 5 s, or for at least 5 s so little that what it holds takes more than 10 s. All guests are
+    /// looked at.
     pub fn judge_slowest(&mut self) -> Option<Judged>
         ensures judges { Judges self.old.budget.ticks result self.old.row self.new.row }
         ensures rest { self.new ≡ record self.old { row = self.new.row } }

@@ -6,14 +6,13 @@
 //! in memory, whose bytes can be compared. Stores are outside too: a guest takes its steps on any
 //! `Steps`, so this crate needs no store.
 //!
-//! A [`Link`] gives and takes bytes, or answers `Later`. [`Links`] return new links, and name those
-//! that are ready again. A [`Guest`] is a session with its link. A visit writes output, else takes
-//! a turn, else reads; [`round`] visits each guest once. [`Guests`] are those of one thread: a
-//! guest that answered `Later` sleeps until its link is named, and a guest that wants much memory
-//! waits while others use up their [`Budget`]. Guests come through a [`Door`], which gets links
-//! between two rounds. A [`Tally`] gets each step, each request that is too large, and what the
-//! guests hold; a store that [`Reports`] passes them on, and measures blocks without a report.
-//! [`Gathering`] is a link that makes one large write of many small ones.
+//! Links are those of `mc_links`. A [`Guest`] is a session with its link. A visit writes output,
+//! else takes a turn, else reads; [`round`] visits each guest once. [`Guests`] are those of one
+//! thread: a guest that answered `Later` sleeps until its link is named, and a guest that wants
+//! much memory waits while others use up their [`Budget`]. Guests come through a [`Door`], which
+//! gets links between two rounds. A [`Tally`] gets each step, each request that is too large, and
+//! what the guests hold; a store that [`Reports`] passes them on, and measures blocks without a
+//! report.
 //!
 //! Contracts see the bytes that a link gave and took, unless they are unspecified, and describe a
 //! round visit by visit: which guests were visited, ended and came. By the laws, what a link took
@@ -26,12 +25,9 @@
 
 mod budget;
 mod door;
-mod gathering;
 mod guest;
 mod guests;
 mod laws;
-mod link;
-mod links;
 mod measure;
 mod numbers;
 mod pace;
@@ -40,24 +36,20 @@ mod rounds;
 mod row;
 mod seat;
 mod talk;
-mod tally;
 mod tap;
 mod weighed;
 
 pub use budget::Budget;
 pub use door::Door;
-pub use gathering::Gathering;
 pub use guest::{Guest, Visit};
 pub use guests::{Guests, WorkEnd};
 pub use laws::{
     links_are_answered_what_they_gave, links_take_texts_of_turns, retries_are_fair,
     rounds_are_visits,
 };
-pub use link::{Got, Link, LinkFault, Took};
-pub use links::{Links, Next};
+pub use mc_links::{Gathering, Got, Link, LinkFault, Links, Next, NoTally, Outcome, Tally, Took};
 pub use measure::length_at;
 pub use reports::Reports;
 pub use rounds::round;
 pub use talk::{Came, Talk};
-pub use tally::{NoTally, Outcome, Tally};
 pub use weighed::Judged;

@@ -1,5 +1,5 @@
-//! The length of a block before it is delivered.
-ghost use Rattle.std.specs.Prelude.{◌≡◌, ◌≤◌, length, min, Err, IfOk, OnErr};
+//! How many bytes of a block are copied when it is delivered.
+ghost use Rattle.std.specs.Prelude.{◌≡◌, ◌⊎◌, ◌<◌, ◌≤◌, length, min, Err, IfOk, OnErr};
 ghost use Rattle.mc_protocol.specs.Commands.{longest_key};
 ghost use Rattle.mc_guests.specs.Asks.{block_length, most, MayRead, ReadsLength, MeasuresNext, MayAsk};
 ghost use Rattle.mc_guests.specs.Asks.{SpendsRead, WasRead};
@@ -10,26 +10,48 @@ use mc_reply::length_of;
 use mc_time::Moment;
 use std::alloc::{AllocError, Global};
 
-/// Notes the length of the block of a reply.
+/// Notes how many bytes of the block of a reply are copied.
 #[derive(Drop)]
 struct Measure {
     length: usize,
 }
 
 impl Answer for Measure {
-    ghost use Rattle.std.specs.Prelude.{◌≡◌, min};
-    ghost use Rattle.mc_guests.specs.Asks.{block_length};
+    ghost use Rattle.mc_guests.specs.Asks.{IsCopied};
 
-    ghost told = { λ old reply new. new.length ≡ min (block_length reply) most };
+    ghost told = { λ old reply new. IsCopied new.length reply };
 
     fn hit(&mut self, _flags: u32, _unique: u64, parts: &[Bytes<'_>]) -> Result<(), AllocError> {
-        self.length = length_of(parts);
+        self.length = copied(length_of(parts), are_lent(parts));
         Ok(())
     }
 
     fn reply(&mut self, reply: &Reply) -> Result<(), AllocError> {
         self.length = length_in(reply);
         Ok(())
+    }
+}
+
+/// The least bytes of a block that is lent.
+const LEAST_LENT: usize = 32_768;
+
+/// Returns how many bytes of a block of this length are copied: all, or none if it is lent.
+fn copied(length: usize, is_lent: bool) -> usize
+    ensures some { (result ≡ length) ⊎ (result ≡ 0) }
+    ensures short { length < 32768 → result ≡ length }
+{
+    if is_lent && length >= LEAST_LENT {
+        0
+    } else {
+        length
+    }
+}
+
+/// Returns whether the parts of a block lie in shared memory, so that an output lends them.
+fn are_lent(parts: &[Bytes<'_>]) -> bool {
+    match parts.split_first() {
+        Some((part, _)) => part.lent().is_some(),
+        None => false,
     }
 }
 
@@ -69,8 +91,8 @@ pub trait Naming {
         ensures short { IfSome result (λ key. length key.now ≤ longest_key) };
 }
 
-/// Returns the length of the block that the next turn would deliver at this moment, or 0 if it
-/// delivers none.
+/// Returns how many bytes of a block the next turn would copy at this moment: its length, or 0 if
+/// the block is lent or there is none.
 ///
 /// The store is asked once at most, for the key that is lent.
 #[inline(never)]
@@ -90,8 +112,8 @@ pub fn next_length<N: Naming, S: Reports>(
     }
 }
 
-/// Returns the length of the block that a get of this key finds at this moment, or 0 if it finds
-/// none.
+/// Returns how many bytes of its block a get of this key copies at this moment: its length, or 0 if
+/// the block is lent or none is found.
 ///
 /// It is a read of the key. After an error the key was read at most; it is `NumbersSpent` only if
 /// the read is refused so.

@@ -1,13 +1,13 @@
 //! How fast a guest's link moves bytes.
 ghost use Rattle.std.specs.Prelude.{◌≡◌};
 ghost use Rattle.mc_guests.specs.Paces.{begun, moves, asked_again, age, rate, is_slow, is_silent};
-ghost use Rattle.mc_guests.specs.Paces.{lags, is_recent, was_asked, was_quiet};
+ghost use Rattle.mc_guests.specs.Paces.{lags, least_rate, is_recent, was_asked, was_quiet};
 
 /// Ticks for which a link may move nothing, and after which its rate is judged. A tick is 0.25 s.
 const PATIENCE: u64 = 20;
 
-/// The least rate of a link that isn't slow, in bytes a tick.
-const LEAST: u64 = 16_384;
+/// Ticks within which a guest has to move as much as it holds.
+const WHOLE: usize = 40;
 
 /// Ticks for which a slow link may still move bytes after it was asked again.
 const ASKED: u64 = 2;
@@ -62,12 +62,14 @@ impl Pace {
         self.moved / self.age(ticks).max(1)
     }
 
-    /// Returns whether the link moved nothing for 5 s, or less than 64 KiB/s for at least 5 s. A
-    /// link that was just asked again isn't slow for 0.5 s.
-    pub fn is_slow(&self, ticks: u64) -> bool
-        ensures { result ≡ is_slow ticks self.now }
+    /// Returns whether the link is slow for a guest that holds `held` bytes.
+    ///
+    /// It moved nothing for 5 s, or for at least 5 s so little that `held` bytes take more than 10 s.
+    /// A link that was just asked again isn't slow for 0.5 s.
+    pub fn is_slow(&self, held: usize, ticks: u64) -> bool
+        ensures { result ≡ is_slow held ticks self.now }
     {
-        (self.is_silent(ticks) || self.lags(ticks)) && !self.is_recent(ASKED, ticks)
+        (self.is_silent(ticks) || self.lags(held, ticks)) && !self.is_recent(ASKED, ticks)
     }
 
     /// Returns whether the link moved nothing for this many ticks.
@@ -84,11 +86,11 @@ impl Pace {
         self.was_quiet(ticks, PATIENCE)
     }
 
-    /// Returns whether the link moved less than 64 KiB/s for at least 5 s.
-    fn lags(&self, ticks: u64) -> bool
-        ensures { result ≡ lags ticks self.now }
+    /// Returns whether the link moved so little for at least 5 s that `held` bytes take more than 10 s.
+    fn lags(&self, held: usize, ticks: u64) -> bool
+        ensures { result ≡ lags held ticks self.now }
     {
-        self.age(ticks) >= PATIENCE && self.rate(ticks) < LEAST
+        self.age(ticks) >= PATIENCE && self.rate(ticks) < least_rate(held)
     }
 
     /// Returns whether the link was asked again less than `within` ticks ago.
@@ -114,4 +116,12 @@ impl Pace {
     {
         self.asked = Some(ticks);
     }
+}
+
+/// Returns the rate, in bytes a tick, at which `held` bytes are moved within 10 s.
+#[tactic(auto, unfolding(crate::specs::Paces::least_rate))]
+fn least_rate(held: usize) -> u64
+    ensures { result ≡ least_rate held }
+{
+    (held / WHOLE) as u64
 }

@@ -6,9 +6,9 @@ ghost use Rattle.mc_guests.specs.Visits.{GoesRound};
 
 use crate::budget::Budget;
 use crate::guest::Guest;
-use crate::link::Link;
 use crate::reports::Reports;
 use crate::seat::GuestSeat;
+use mc_links::Link;
 use mc_protocol::Steps;
 use mc_time::Moment;
 use std::alloc::Global;

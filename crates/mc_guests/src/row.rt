@@ -4,22 +4,22 @@
 //! and how many are awake, the first ones. So a contract names which guest wakes, sleeps and ends.
 ghost use Rattle.std.specs.Prelude.{◌≡◌, ◌<◌, ◌≤◌, ◌-◌, ◌+◌, ◌++◌, ◌∷◌, ℕ, [], take, drop, length, Some, IfSome, IsTrue, IsFalse, false};
 ghost use Rattle.mc_guests.specs.Asks.{MakesRound};
-ghost use Rattle.mc_guests.specs.Budgets.{CountsAll, RecountsAll, rest_of};
+ghost use Rattle.mc_guests.specs.Budgets.{CountsAll, RecountsAll, rest_of, with_left};
 ghost use Rattle.mc_guests.specs.Turns.{HaveTurns};
 ghost use Rattle.mc_guests.specs.Retries.{IsWhole};
 ghost use Rattle.mc_guests.specs.Books.{nobody, swapped, cut, joined, HasNumber, StandsAt};
-ghost use Rattle.mc_guests.specs.Books.{with_guest};
+ghost use Rattle.mc_guests.specs.Books.{with_guest, HasLink};
 ghost use Rattle.mc_guests.specs.Guests.{newcomer, in_line};
 ghost use Rattle.mc_guests.specs.Judging.{FindsSlowest, Judges, JudgesAt, undercuts};
 
 use crate::budget::Budget;
 use crate::guest::Guest;
-use crate::link::Link;
 use crate::numbers::NumberList;
 use crate::reports::Reports;
 use crate::rounds::round_within;
 use crate::seat::GuestSeat;
 use crate::weighed::{Judged, Line, Weighed};
+use mc_links::Link;
 use mc_protocol::Steps;
 use mc_time::Moment;
 use std::alloc::{AllocFailed, Global};
@@ -127,18 +127,22 @@ impl<L: Link + Drop> GuestRow<L> {
         self.numbers.at(at)
     }
 
-    /// Frees the memory that quiet guests keep. It looks at up to 1024 of them, in turn.
-    pub fn rest_quiet(&mut self, budget: &Budget)
-        ensures { self.new ≡ self.old }
+    /// Frees the memory that quiet guests keep, and counts guests anew for what they read that has
+    /// left the store. It looks at up to 1024 of them, in turn.
+    pub fn rest_quiet(&mut self, budget: &mut Budget)
+        ensures same { self.new ≡ self.old }
+        ensures counts { budget.new ≡ with_left budget.new.left budget.old }
     {
         for _ in 0..self.guests.len().min(LOOKS) {
             self.rest_next(budget);
         }
     }
 
-    /// Frees the memory that the next guest in turn keeps, if it is quiet.
-    fn rest_next(&mut self, budget: &Budget)
-        ensures { self.new ≡ self.old }
+    /// Frees the memory that the next guest in turn keeps, if it is quiet, and counts it anew for
+    /// what it reads that has left the store.
+    fn rest_next(&mut self, budget: &mut Budget)
+        ensures same { self.new ≡ self.old }
+        ensures counts { budget.new ≡ with_left budget.new.left budget.old }
     {
         if self.next >= self.guests.len() {
             self.next = 0;
@@ -147,6 +151,57 @@ impl<L: Link + Drop> GuestRow<L> {
             guest.inner.rest_if_quiet(budget);
         }
         self.next = self.next.wrapping_add(1);
+    }
+
+    /// Returns the number of the link of the slowest guest that reads what has left the store, which
+    /// is counted no more. Of equal ones it is the first.
+    pub fn end_slowest_reader(&mut self, budget: &mut Budget) -> Option<u64>
+        ensures same { self.new ≡ self.old }
+        ensures number { IfSome result (λ number. HasLink self.old number) }
+        ensures counts { budget.new ≡ with_left budget.new.left budget.old }
+    {
+        let (at, _) = self.slowest_reader(budget.ticks)?;
+        let number = self.number_of(at);
+        self.uncount_left_at(at, budget);
+        Some(number)
+    }
+
+    /// Counts the guest at a place no more for what has left the store.
+    fn uncount_left_at(&mut self, at: usize, budget: &mut Budget)
+        ensures same { self.new ≡ self.old }
+        ensures counts { budget.new ≡ with_left budget.new.left budget.old }
+    {
+        if let Some(guest) = self.guests.get_mut(at) {
+            guest.inner.uncount_left(budget);
+        }
+    }
+
+    /// Returns the place and the rate of the slowest guest that reads what has left the store.
+    fn slowest_reader(&self, ticks: u64) -> Option<(usize, u64)>
+        ensures { IfSome result (λ found. found.0 < length self.now.guests) }
+    {
+        let mut found = None;
+        for at in 0..self.guests.len() {
+            found = self.slower_reader(found, at, ticks);
+        }
+        found
+    }
+
+    /// Returns the slowest reader up to a place, if `found` is the slowest before it.
+    fn slower_reader(
+        &self,
+        found: Option<(usize, u64)>,
+        at: usize,
+        ticks: u64,
+    ) -> Option<(usize, u64)>
+        requires stands { at < length self.now.guests }
+        requires found { IfSome found (λ one. one.0 < length self.now.guests) }
+        ensures { IfSome result (λ one. one.0 < length self.now.guests) }
+    {
+        match self.at(at).reading_rate(ticks) {
+            Some(rate) if undercuts(rate, found) => Some((at, rate)),
+            _ => found,
+        }
     }
 
     /// Judges the slowest guest that holds much, if one is slow. Of equal ones it is the first.

@@ -5,8 +5,8 @@ ghost use Rattle.std.specs.Prelude.{◌≡◌, IfSome};
 ghost use Rattle.mc_guests.specs.Guests.{newcomer};
 
 use crate::guest::Guest;
-use crate::link::Link;
 use crate::weighed::Weighed;
+use mc_links::Link;
 use std::alloc::{AllocFailed, Global};
 use std::marker::Model;
 

@@ -7,8 +7,7 @@ ghost use Rattle.mc_guests.specs.Doors.{unasked, came, came_of, heard, most_name
 ghost use Rattle.mc_guests.specs.declared.talk.Came.TheVariants.{Link as ALink};
 
 use crate::guests::Guests;
-use crate::link::Link;
-use crate::links::{Links, Next};
+use mc_links::{Link, Links, Next};
 
 /// The answer to the call for the next link.
 #[derive(Clone, Copy, PartialEq, Eq)]

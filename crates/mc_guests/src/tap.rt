@@ -2,8 +2,8 @@
 ghost use Rattle.std.specs.Prelude.{IsTrue};
 ghost use Rattle.mc_guests.specs.Links.{IsRoom};
 
-use crate::link::{Got, Link, LinkFault};
 use mc_bytes::Source;
+use mc_links::{Got, Link, LinkFault};
 use mc_session::LONGEST_PIECE;
 
 /// The result of a read through a tap.

@@ -1,34 +1,39 @@
 //! Guests with the memory that they hold.
 //!
 //! A guest that needs more than 16 KiB waits if its worker's share of `--buffer-limit` is used up;
-//! its state doesn't change. Output that its client hasn't read counts too. A block is counted
-//! whole when it is admitted, so an admitted guest never stops half way. Waiting guests are retried
-//! after memory came back, the oldest and the newest in turn: with the oldest only, a thousand
-//! half-sent blocks delayed everyone else for minutes.
+//! its state doesn't change. The first 72 KiB of a guest are its own: it is counted for what it
+//! reserves beyond them. Output that its client hasn't read counts too, but for what is lent: that
+//! is the store's. A block is counted whole when it is admitted, so an admitted guest never stops
+//! half way. Waiting guests are retried after memory came back, the oldest and the newest in turn:
+//! with the oldest only, a thousand half-sent blocks delayed everyone else for minutes.
+//!
+//! Memory that has left the store while guests read it is in a sum of its own, for which nobody
+//! waits: if it exceeds the share, the slowest of its readers are closed.
 ghost use Rattle.std.specs.Prelude.{◌≡◌, ◌≢◌, ◌<◌, not, true, false, is_none, IfSome, None};
 ghost use Rattle.std.specs.Prelude.{IsTrue, IsFalse};
 ghost use Rattle.mc_guests.specs.Asks.{AsksAndVisits, IsKeptWaiting};
 ghost use Rattle.mc_guests.specs.Asks.{little, most, MayAsk, NamesKey};
 ghost use Rattle.mc_guests.specs.Budgets.{uncounted, counted_too, IsHeldBack, GoesOnOrWaits, Recounts};
-ghost use Rattle.mc_guests.specs.Budgets.{Covers, IsCounted};
+ghost use Rattle.mc_guests.specs.Budgets.{Covers, IsCounted, with_left};
 ghost use Rattle.mc_guests.specs.Guests.{newcomer, has_ended, is_in_queue, is_left_out};
 ghost use Rattle.mc_guests.specs.Guests.{is_queued, is_stray, missing, in_line};
-ghost use Rattle.mc_guests.specs.Judging.{is_held_up, is_hoarding, slowness, verdict, judged};
+ghost use Rattle.mc_guests.specs.Judging.{is_hoarding, slowness, verdict, judged};
+ghost use Rattle.mc_guests.specs.Paces.{rate as rate_of};
 ghost use Rattle.mc_guests.specs.Retries.{waits_long};
 ghost use Rattle.mc_guests.specs.Visits.{Visited};
 
-use crate::budget::{Budget, LITTLE};
+use crate::budget::{Budget, LITTLE, OWN};
 use crate::guest::{Guest, Visit};
-use crate::link::Link;
 use crate::measure::next_length;
 use crate::pace::Pace;
 use crate::reports::Reports;
+use mc_links::Link;
 use mc_protocol::Steps;
 use mc_time::Moment;
 use std::alloc::Global;
 use std::marker::Model;
 
-/// The bytes that an idle guest reserves. They aren't counted: idle guests make no others wait.
+/// The bytes that an idle guest reserves.
 const IDLE: usize = 6144;
 
 /// The bytes that a guest without input and output may keep while it isn't quiet.
@@ -47,8 +52,8 @@ const PARTS: usize = 16;
 const LONG: u64 = 8;
 
 /// A guest, and the memory that it holds. Contracts see the guest, whether it waits for room, the
-/// bytes for which it is counted, its place in the queue, what it wanted when it began to wait, and
-/// its link's pace.
+/// bytes for which it is counted, its place in the queue, what it wanted when it began to wait, the
+/// bytes of its output that were lent when it was counted, and its link's pace.
 #[derive(Drop)]
 pub struct Weighed<L: Link + Drop> {
     guest: Guest<L>,
@@ -61,11 +66,13 @@ pub struct Weighed<L: Link + Drop> {
     /// Whether it waits for room.
     waits: bool,
     line: Line,
-    /// Whether its client didn't take all output that was sent before it began to wait.
-    is_unread: bool,
     /// The bytes that it wanted when it began to wait.
     wanted: usize,
-    /// The pace of its link since it holds more than a little, or waits.
+    /// The bytes of its output that were lent when it was counted.
+    lent: usize,
+    /// The bytes for which it is counted of what has left the store.
+    left: usize,
+    /// The pace of its link since it is counted for some bytes, output is lent to it, or it waits.
     pace: Pace,
     /// Whether it keeps memory that isn't counted: it has neither input nor output.
     keeps: bool,
@@ -89,7 +96,7 @@ enum Weight {
     Same,
     /// None: it keeps at most `KEPT` for its next request.
     Kept,
-    /// What it reserves, or the block for which it was admitted if that is longer.
+    /// What it reserves beyond its own, or the block for which it was admitted if that is longer.
     Reserved,
 }
 
@@ -108,7 +115,7 @@ impl<L: Link + Drop> Model for Weighed<L> {
     ghost Value = { RowGuest };
 
     ghost view = { λ w.
-        row_guest w.guest w.waits w.counted w.line w.wanted w.is_unread w.pace };
+        row_guest w.guest w.waits w.counted w.line w.wanted w.lent w.pace };
 }
 
 impl<L: Link + Drop> Weighed<L> {
@@ -123,8 +130,9 @@ impl<L: Link + Drop> Weighed<L> {
             has_leave: false,
             waits: false,
             line: Line::Out,
-            is_unread: false,
             wanted: 0,
+            lent: 0,
+            left: 0,
             pace: Pace::new(0),
             keeps: false,
         }
@@ -186,8 +194,7 @@ impl<L: Link + Drop> Weighed<L> {
         self.waits && self.line.is_left_out()
     }
 
-    /// Returns its rate if it is slow, holds more than a little, and doesn't wait or waits with
-    /// output that its client doesn't read.
+    /// Returns its rate if it is counted for some bytes, and slow for as much as it holds.
     #[tactic(auto, unfolding(crate::specs::Judging::slowness))]
     pub fn slowness(&self, ticks: u64) -> Option<u64>
         ensures { result ≡ slowness ticks self.now }
@@ -199,18 +206,31 @@ impl<L: Link + Drop> Weighed<L> {
         }
     }
 
-    /// Returns whether it is slow, holds more than a little, and isn't held up by others.
+    /// Returns whether it is counted for some bytes, and slow for as much as it holds.
     fn is_hoarding(&self, ticks: u64) -> bool
         ensures { result ≡ is_hoarding ticks self.now }
     {
-        !self.is_held_up() && self.counted > LITTLE && self.pace.is_slow(ticks)
+        let held = self.counted.saturating_add(OWN);
+        self.counted > 0 && self.pace.is_slow(held, ticks)
     }
 
-    /// Returns whether it waits for room, and its client reads all of its output.
-    fn is_held_up(&self) -> bool
-        ensures { result ≡ is_held_up self.now }
+    /// Returns the rate of its link if it is counted for what has left the store.
+    pub fn reading_rate(&self, ticks: u64) -> Option<u64>
+        ensures { IfSome result (λ rate. rate ≡ rate_of ticks self.now.pace) }
     {
-        self.waits && !self.is_unread
+        if self.left > 0 {
+            Some(self.pace.rate(ticks))
+        } else {
+            None
+        }
+    }
+
+    /// Counts it no more for what has left the store, because its link is closed.
+    pub fn uncount_left(&mut self, budget: &mut Budget)
+        ensures same { self.new ≡ self.old }
+        ensures counts { budget.new ≡ with_left budget.new.left budget.old }
+    {
+        self.left = budget.recount_left(self.left, 0);
     }
 
     /// Judges a slow guest, whose link has this number.
@@ -237,10 +257,12 @@ impl<L: Link + Drop> Weighed<L> {
     /// Frees what it holds, and uncounts it.
     pub fn leave(&mut self, budget: &mut Budget)
         ensures { budget.new ≡ record (uncounted self.old.counted self.old.waits budget.old) {
+          left = budget.new.left;
           is_eased = true;
         } }
     {
         self.guest.give_up();
+        self.left = budget.recount_left(self.left, 0);
         budget.take_out(self.counted, self.waits);
         budget.is_eased = true;
     }
@@ -324,7 +346,6 @@ impl<L: Link + Drop> Weighed<L> {
         ensures counts { Recounts self.old self.new budget.old budget.new }
     {
         self.guest.pause();
-        self.is_unread = self.guest.unsent_bytes() > 0;
         let wanted = self.with_unsent(asked, budget);
         self.finds_room(wanted, budget)
     }
@@ -406,7 +427,7 @@ impl<L: Link + Drop> Weighed<L> {
         if self.guest.has_ended() {
             return false;
         }
-        if wanted <= LITTLE || (self.has_leave && wanted <= self.counted) {
+        if wanted <= LITTLE || (self.has_leave && wanted <= self.counted.saturating_add(OWN)) {
             return true;
         }
         self.finds_left(wanted, budget)
@@ -433,7 +454,7 @@ impl<L: Link + Drop> Weighed<L> {
     {
         if !self.waits {
             self.pace = Pace::new(budget.ticks);
-            budget.is_eased |= self.counted > LITTLE;
+            budget.is_eased |= self.counted > 0;
         }
         if !self.is_queued() {
             self.line = Line::Out;
@@ -456,44 +477,66 @@ impl<L: Link + Drop> Weighed<L> {
 
     /// Returns the bytes that it is to be counted for after a visit with this answer, and notes
     /// what the visit moved.
-    fn bytes_after(&mut self, answer: Visit, budget: &Budget) -> usize
-        ensures same { self.new ≡ record self.old { pace = self.new.pace } }
-        ensures covers { answer ≢ Visit.Wrote → Covers result self.old.guest.session }
+    fn bytes_after(&mut self, answer: Visit, budget: &mut Budget) -> usize
+        ensures same { self.new ≡ record self.old { pace = self.new.pace; lent = self.new.lent } }
+        ensures counts { budget.new ≡ with_left budget.new.left budget.old }
+        ensures covers { answer ≢ Visit.Wrote →
+            Covers result self.new.lent self.old.guest.session }
     {
         match self.notes(answer, budget) {
             Weight::Same => self.counted,
-            Weight::Kept => 0,
-            Weight::Reserved => self.reserved_bytes(),
+            Weight::Kept => {
+                self.note_lent(0, 0, budget);
+                0
+            }
+            Weight::Reserved => self.reserved_bytes(budget),
         }
     }
 
-    /// Returns the bytes that it reserves beyond an idle guest's, and at least the length of a block
-    /// that it was admitted for.
+    /// Returns the bytes beyond its own that it reserves, or that a block which it was admitted for
+    /// takes. Notes what is lent to it.
     #[inline]
-    fn reserved_bytes(&self) -> usize
-        ensures { Covers result self.now.guest.session }
+    fn reserved_bytes(&mut self, budget: &mut Budget) -> usize
+        ensures same { self.new ≡ record self.old { pace = self.new.pace; lent = self.new.lent } }
+        ensures counts { budget.new ≡ with_left budget.new.left budget.old }
+        ensures covers { Covers result self.new.lent self.old.guest.session }
     {
-        let reserved = self.guest.capacity().saturating_sub(IDLE);
-        if self.has_leave {
-            reserved.max(self.unit)
+        let holding = self.guest.holding();
+        self.note_lent(holding.lent, holding.left, budget);
+        let reserved = if self.has_leave {
+            holding.own.max(self.unit)
         } else {
-            reserved
+            holding.own
+        };
+        reserved.saturating_sub(OWN)
+    }
+
+    /// Notes how many bytes of its output are lent, and counts it for what of that has left the
+    /// store.
+    fn note_lent(&mut self, lent: usize, left: usize, budget: &mut Budget)
+        ensures same { self.new ≡ record self.old { pace = self.new.pace; lent = lent } }
+        ensures counts { budget.new ≡ with_left budget.new.left budget.old }
+    {
+        if self.lent == 0 && lent > 0 {
+            self.pace = Pace::new(budget.ticks);
         }
+        self.lent = lent;
+        self.left = budget.recount_left(self.left, left);
     }
 
     /// Notes what a visit with this answer moved, and returns for how many bytes it is counted then.
     fn notes(&mut self, answer: Visit, budget: &Budget) -> Weight
         ensures same { self.new ≡ record self.old { pace = self.new.pace } }
         ensures wrote { result ≡ Weight.Same → answer ≡ Visit.Wrote }
-        ensures kept { result ≡ Weight.Kept → Covers 0 self.old.guest.session }
+        ensures kept { result ≡ Weight.Kept → Covers 0 0 self.old.guest.session }
     {
         let ticks = budget.ticks;
         self.keeps = false;
         match answer {
             Visit::Wrote => {
                 self.pace.moves(self.guest.moved_bytes(), ticks);
-                // a guest that holds little is counted for less only after a later visit
-                if self.counted > LITTLE {
+                // one that holds its own bytes alone is counted as before
+                if self.counted > 0 || self.lent > 0 {
                     Weight::Reserved
                 } else {
                     Weight::Same
@@ -521,7 +564,7 @@ impl<L: Link + Drop> Weighed<L> {
     fn keep_or_rest(&mut self, budget: &Budget) -> Weight
         ensures same { self.new ≡ self.old }
         ensures anew { result ≢ Weight.Same }
-        ensures kept { result ≡ Weight.Kept → Covers 0 self.old.guest.session }
+        ensures kept { result ≡ Weight.Kept → Covers 0 0 self.old.guest.session }
     {
         let reserved = self.guest.capacity();
         if reserved <= IDLE {
@@ -535,10 +578,16 @@ impl<L: Link + Drop> Weighed<L> {
         Weight::Reserved
     }
 
-    /// Frees the memory that it keeps, if it moved nothing for 1 s or memory is tight.
-    pub fn rest_if_quiet(&mut self, budget: &Budget)
-        ensures { self.new ≡ self.old }
+    /// Frees the memory that it keeps, if it moved nothing for 1 s or memory is tight. Counts it anew
+    /// for what it reads that has left the store.
+    pub fn rest_if_quiet(&mut self, budget: &mut Budget)
+        ensures same { self.new ≡ self.old }
+        ensures counts { budget.new ≡ with_left budget.new.left budget.old }
     {
+        if self.lent > 0 {
+            let left = self.guest.holding().left;
+            self.left = budget.recount_left(self.left, left);
+        }
         if self.keeps && (self.pace.was_quiet(budget.ticks, QUIET) || budget.is_tight()) {
             self.keeps = false;
             let _ = self.guest.rest();
@@ -548,6 +597,7 @@ impl<L: Link + Drop> Weighed<L> {
     /// Counts it for this many bytes from now on.
     fn recount(&mut self, bytes: usize, budget: &mut Budget)
         ensures same { self.new.guest ≡ self.old.guest }
+        ensures lent { self.new.lent ≡ self.old.lent }
         ensures waits { self.new.waits ≡ self.old.waits }
         ensures counts { Recounts self.old self.new budget.old budget.new }
         ensures whole { budget.new.held < most → self.new.counted ≡ bytes }
@@ -558,7 +608,7 @@ impl<L: Link + Drop> Weighed<L> {
         }
         budget.take_out(was, self.waits);
         self.counted = budget.put_in(bytes, self.waits);
-        if was <= LITTLE && self.counted > LITTLE {
+        if was == 0 && self.counted > 0 {
             self.pace = Pace::new(budget.ticks);
         }
         budget.is_eased |= self.counted < was;

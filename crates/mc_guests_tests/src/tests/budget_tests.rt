@@ -5,7 +5,8 @@
 use crate::counting::Counting;
 use crate::halls::{Arrivals, HallOf, store_with};
 use crate::lines::{
-    BEGUN, OF_16384, OF_16385, OF_400000, OF_400001, OF_600000, OF_1000000, OF_1200000, OF_9000000,
+    BEGUN, OF_16384, OF_16385, OF_131073, OF_400000, OF_400001, OF_600000, OF_1000000, OF_1200000,
+    OF_9000000,
 };
 use mc_guests::{Got, Link, LinkFault, Outcome, Tally, Took};
 use mc_protocol::KeyStep;
@@ -302,8 +303,8 @@ static ROOMS: [Row; 12] = [
     (0, 1_000_000, Case::Comes(&[], OF_1000000), (0, 0)),
     (0, 1_000_000, Case::Comes(&[], OF_9000000), (0, 0)),
     (0, 1_000_000, Case::Comes(&[OF_600000], OF_16384), (0, 0)),
-    (0, 1_000_000, Case::Comes(&[OF_600000], OF_400000), (0, 0)),
-    (0, 1_000_000, Case::Comes(&[OF_600000], OF_400001), (0, 1)),
+    (0, 926_272, Case::Comes(&[OF_600000], OF_400000), (0, 0)),
+    (0, 926_272, Case::Comes(&[OF_600000], OF_400001), (0, 1)),
     (
         0,
         1_000_000,
@@ -312,8 +313,8 @@ static ROOMS: [Row; 12] = [
     ),
     (
         0,
-        1_000_000,
-        Case::Comes(&[OF_600000, OF_400000], OF_16385),
+        926_272,
+        Case::Comes(&[OF_600000, OF_400000], OF_131073),
         (0, 1),
     ),
     (0, 1_000_000, Case::Comes(&[OF_1200000], OF_16384), (0, 0)),
@@ -350,9 +351,9 @@ fn who_wants_a_little_goes_on(rt: HostRuntime) -> Result<(), Fail> {
 
 /// It is counted for none, also when it has left.
 static IDLE: [(usize, bool, usize); 3] = [
-    (1_000_000, false, 0),
-    (999_999, false, 1),
-    (1_000_000, true, 0),
+    (926_272, false, 0),
+    (926_271, false, 1),
+    (926_272, true, 0),
 ];
 
 #[test]
@@ -427,10 +428,10 @@ fn come_and_are_reported<'a>(
 ) -> Result<bool, AllocError> {
     let is_silent = holdings.of(hall) == ((0, 0), 0);
     hall.let_in(alloc, 0, Quick::new(OF_600000, is_over))?;
-    let is_told = holdings.of(hall) == ((600_000, 0), 1);
+    let is_told = holdings.of(hall) == ((526_272, 0), 1);
     hall.let_in(alloc, 1, Quick::new(OF_400001, is_over))?;
     let ((held, waiting), reports) = holdings.of(hall);
-    Ok(is_silent && is_told && held >= 600_000 && waiting == 1 && reports == 2)
+    Ok(is_silent && is_told && held >= 526_272 && waiting == 1 && reports == 2)
 }
 
 /// Ends both, and returns whether that is reported.
@@ -445,10 +446,11 @@ fn leave_and_are_reported(
     holdings.of(hall) == ((0, 0), 3)
 }
 
-/// A guest holds 600000 bytes of 1000000, one waits that wants 400001, and then both have left.
+/// A guest holds 526272 bytes of 926272 beyond its own, one waits that wants 400001, and then both
+/// have left.
 #[test]
 fn what_guests_hold_is_reported_once(rt: HostRuntime) -> Result<(), Fail> {
-    counts(&rt, rt.alloc(), (0, 1_000_000, Case::Reports, (3, 0)))
+    counts(&rt, rt.alloc(), (0, 926_272, Case::Reports, (3, 0)))
 }
 
 /// Returns a line that appends 60000 bytes to `a`, and these.

@@ -10,8 +10,8 @@ use std::alloc::{AllocError, Global};
 use std::cell::Cell;
 use std::test::*;
 
-/// The bytes that the guests of a hall may hold.
-const SHARE: usize = 1_000_000;
+/// The bytes that the guests of a hall may hold beyond 72 KiB each.
+const SHARE: usize = 926_272;
 
 /// The ticks for which a waiting guest is watched, and the rounds in each.
 const TICKS: u64 = 20;

@@ -1,11 +1,11 @@
 -- What is gathered for a link.
 use Rattle.std.specs.Prelude.{◌≡◌, ◌≤◌, ℕ, Bool, true, false, List, [], ◌++◌, length, take, Result, Ok, Err}
-use Rattle.mc_guests.specs.Links.{LinkState, asked, grown, took, failed}
-use Rattle.mc_guests.specs.declared.link.Got.{Got}
-use Rattle.mc_guests.specs.declared.link.Got.TheVariants.{Bytes as GaveBytes, Later as GaveNone, End}
-use Rattle.mc_guests.specs.declared.link.Took.{Took}
-use Rattle.mc_guests.specs.declared.link.Took.TheVariants.{Bytes as TookBytes, Later as TookNone}
-use Rattle.mc_guests.specs.declared.link.LinkFault.{LinkFault}
+use Rattle.mc_links.specs.Links.{LinkState, asked, grown, took, failed}
+use Rattle.mc_links.specs.declared.link.Got.{Got}
+use Rattle.mc_links.specs.declared.link.Got.TheVariants.{Bytes as GaveBytes, Later as GaveNone, End}
+use Rattle.mc_links.specs.declared.link.Took.{Took}
+use Rattle.mc_links.specs.declared.link.Took.TheVariants.{Bytes as TookBytes, Later as TookNone}
+use Rattle.mc_links.specs.declared.link.LinkFault.{LinkFault}
 
 -- A link, the bytes that are gathered for it, whether it was last asked to give and not to take, and
 -- how many bytes.
@@ -15,7 +15,7 @@ pub record GatheringState : Type 0 where
   pub was_read : Bool
   pub requested : ℕ
 
--- a link, for which nothing is gathered
+-- a link with nothing gathered
 abbrev pub over : LinkState → GatheringState
 over link = record { link = link; gathered = []; was_read = false; requested = 0 }
 
