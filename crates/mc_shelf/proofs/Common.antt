@@ -37,7 +37,7 @@ pub use Rattle.mc_shelf.specs.Unions.{lefts, plain_of}
 pub use Rattle.mc_shelf.specs.declared.counts.ShelfCounts.{ShelfCounts}
 pub use Rattle.mc_shelf.specs.declared.plan.Action.{Action}
 pub use Rattle.mc_shelf.specs.declared.plan.Action.TheVariants.{Answer, Discard, Expire, Left, Write}
-pub use Rattle.mc_shelf.specs.declared.settings.Settings.{Settings}
+pub use Rattle.mc_sizes.specs.declared.settings.Settings.{Settings}
 pub use Rattle.mc_shelf.specs.declared.soonest.Soonest.{Soonest}
 pub use Rattle.mc_slab.proofs.ClassLemmas.{chunks_a_page-least, length-chunk_sizes, size_of-last}
 pub use Rattle.mc_slab.specs.Chunks.{AreChunks, AreChunksOf, ChunksState, need_in}

@@ -10,7 +10,6 @@ pub mod TakesLemmas
 pub mod ExchangeLemmas
 pub mod RefusalLemmas
 pub mod SweepLemmas
-pub mod RangeLemmas
 pub mod PartLemmas
 pub mod FlushLemmas
 pub mod StoreLemmas

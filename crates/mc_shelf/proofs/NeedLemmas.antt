@@ -3,7 +3,7 @@ use Rattle.mc_shelf.proofs.Common.{◌&&◌, ◌*◌, ◌+◌, ◌-◌, ◌/◌,
 use Rattle.mc_shelf.proofs.Common.{gives_way, has_need, inl, inr, is_gone, IsClass, item_need, le-leb, leb, leb-false, leb-true, length, length-chunk_sizes, List, ltb, need_for, NeedState}
 use Rattle.mc_shelf.proofs.Common.{None, not, of_class, Option, position_or_len, refl, same_need, size_in, size_of, size_of-last, Some, subst, sym, true, true≢false, ℕ}
 use Rattle.std.proofs.lemmas.List.Sums.{fails_before_first, passes_at_first}
-use Rattle.mc_slab.specs.Classes.{chunk_sizes}
+use Rattle.mc_sizes.specs.Classes.{chunk_sizes}
 
 pub by_charge : (P : NeedState → Type 0) (charge : ℕ) → (charge ≤ 1048576 → P (record { class = class_holding charge; count = 1 }))
     → (1048576 < charge → P (record { class = 40; count = (charge + 1048575) / 1048576 })) → P (need_for charge)

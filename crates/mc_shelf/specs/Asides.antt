@@ -27,7 +27,7 @@ none_out slab = seen slab (replicate 40 0)
 abbrev pub all_out : SlabState → ℕ
 all_out slab = sum_by (λ n. n) slab.out
 
--- Of each class, class 1 first, so many chunks are seen to be out, and all others that are out of the slab lie on shelves aside.
+-- For each class, class 1 first: the number of chunks seen to be out. All others that are out of the slab lie on detached shelves.
 pub record LieAside (slab : SlabState) (out : List ℕ) (shelves : List ShelfState) : Type 0 where
   pub is_slab : IsSlab slab
   pub classes : length out ≡ 40
@@ -51,7 +51,7 @@ pub record AreCollected (old new : SlabState) (before after : List ShelfState) :
   pub limit : new.limit ≡ old.limit
   pub pages : new.pages ≡ old.pages
 
--- the slab has unused chunks enough for a need once so many came back, or none of its class lies aside
+-- the slab has enough unused chunks for a need once `back` chunks came back, or none of its class lies aside
 abbrev pub Suffices : SlabState → (need : NeedState) → (back out : ℕ) → Type 0
 Suffices slab need back out =
     (need.count ≤ unused slab need.class + back) ⊎ (out_of slab need.class ≡ out)

@@ -32,7 +32,7 @@ pub record FitTogether (counts : ShelfCounts) : Type 0 where
   pub within : counts.left + counts.strays ≤ counts.items
   pub rests : counts.growing ≡ false → counts.left ≡ 0
 
--- The table is the one that it was, and of the entries that are left in an old one at most so many have gone.
+-- The table is the same, and at most `most` entries left the old one.
 pub record KeepsTable (most : ℕ) (old new : ShelfCounts) : Type 0 where
   pub homes : new.homes ≡ old.homes
   pub growing : new.growing ≡ old.growing
@@ -54,7 +54,7 @@ AreReclaimed old new =
     (new.reclaimed + len new.content.items ≡ old.reclaimed + len old.content.items)
     ⊎ (new.reclaimed ≡ 2 ^ 64 - 1)
 
--- No growth has begun, and of the entries that are left in an old table at most so many have gone.
+-- No growth has begun, and at most `most` entries left the old table.
 pub record GoesOn (most : ℕ) (old new : ShelfCounts) : Type 0 where
   pub homes : new.homes ≡ old.homes
   pub none_begins : new.growing ≡ true → old.growing ≡ true
@@ -72,8 +72,8 @@ GrowthIsDue counts =
     IsLoaded counts
     ⊎ ((counts.growing ≡ false) × (0 < counts.strays) × (counts.homes ≤ 4 * (counts.items + 1)))
 
--- A growth that is due has begun: the homes have doubled, and at most all items are left to move. One that ran before is over,
--- for which the last 8 were moved at most.
+-- A due growth has begun: the homes have doubled, and at most all items are left to move. A growth that ran before is over;
+-- at most its last 8 entries were moved.
 pub record Begins (old new : ShelfCounts) : Type 0 where
   pub due : GrowthIsDue old
   pub last : old.left ≤ 8
@@ -81,7 +81,7 @@ pub record Begins (old new : ShelfCounts) : Type 0 where
   pub growing : new.growing ≡ true
   pub left : new.left ≤ old.items
 
--- A growth has begun. All items but the strays were to move, and of these at most so many have gone.
+-- A growth has begun. All items but the strays were to move, and at most `most` of them have moved.
 pub record BeginsToMove (most : ℕ) (old new : ShelfCounts) : Type 0 where
   pub begins : Begins old new
   pub few : old.items ≤ new.left + old.strays + most

@@ -6,7 +6,6 @@ pub mod Plans
 pub mod Sweeps
 pub mod Deaths
 pub mod Parts
-pub mod Ranges
 pub mod Unions
 pub mod Stores
 pub mod Numbers

@@ -26,7 +26,7 @@ pub record HasPlaces (shelf : ShelfContent) (counts : List ℕ) : Type 0 where
   pub zero : (key : List ℕ) (item : Entry) (hash : ℕ) → get shelf.items key ≡ Some item
       → get shelf.hashes key ≡ Some hash → slice_index counts (hash % numbers) ≡ 0
 
--- the keys of a shelf were counted: the place of each number has so many more as keys have it
+-- the keys of a shelf were counted: each number's place has grown by the number of keys that have it
 pub record KeysAreCounted (shelf : ShelfContent) (old new : List ℕ) : Type 0 where
   pub many : length new ≡ numbers
   pub counted : (hash_of : List ℕ → ℕ) → AreHashes shelf hash_of

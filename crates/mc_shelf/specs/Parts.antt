@@ -31,8 +31,7 @@ pub record IsDeskOf (state : Plain) (desk : DeskState) : Type 0 where
   pub pages : desk.slab.pages ≡ state.pages
   pub out : (class : ℕ) → IsClass class → out_of desk.slab class ≡ count_of state.items class
 
--- So many shelves in their order, of which there is one at least, and the desk that they share keep
--- the state together.
+-- One shelf or more, in their order, and the desk that they share keep the state together.
 pub record ArePartsOf (hash_of : List ℕ → ℕ) (state : Plain) (shelves : List ShelfState)
     (count : ℕ) (desk : DeskState) : Type 0 where
   pub number : length shelves ≡ count

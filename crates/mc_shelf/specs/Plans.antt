@@ -252,12 +252,12 @@ goes_over (Counted number) gone need slab = true
 goes_over Prepended gone need slab = gone
 goes_over body gone need slab = gone || nat_le need.count (slabs.unused slab need.class)
 
--- a write goes into the chunks of the key's item, which are those that it needs
+-- a write goes into the chunks of the key's item, which it needs
 pub record GoesInto (plan : Plan) (body : Body) (step : KeyStep) (shelf : ShelfContent) (need : NeedState) (slab : SlabState) : Type 0 where
   pub has : has_need (key_of step) (get shelf.items (key_of step)) need ≡ true
   pub over : goes_over body (is_gone shelf.cut plan.moment (get shelf.items (key_of step))) need slab ≡ true
 
--- it goes into others, before which a dead item gives back so many of their class
+-- it goes into others; before, a dead item gives back `back` chunks of their class
 pub record GoesApart (plan : Plan) (body : Body) (step : KeyStep) (shelf : ShelfContent) (need : NeedState) (slab : SlabState) (back : ℕ) : Type 0 where
   pub other : has_need (key_of step) (get shelf.items (key_of step)) need
       && goes_over body (is_gone shelf.cut plan.moment (get shelf.items (key_of step))) need slab ≡ false
@@ -312,7 +312,7 @@ told_next (Discard reply) = reply
 told_next (Write size flags expiry body) = write_reply body
 told_next (Left unique chunks flags expiry body) = write_reply body
 
--- chunks are those that a key and a block need
+-- chunks are the ones that a key and a block need
 pub record Suits (chunks : ChunksState) (key block : List ℕ) : Type 0 where
   pub need : need_in chunks ≡ need_for (charge key block)
   pub fits : charge key block ≤ length chunks.bytes
@@ -323,14 +323,14 @@ pub record AreChunksFor (chunks : ChunksState) (key block : List ℕ) (shelf : S
   pub room : get shelf.content.items key ≡ None → 1 ≤ shelf.room
   pub suits : Suits chunks key block
 
--- the key has an item, whose chunks are those that the key and this block need
+-- the key has an item in the chunks that the key and this block need
 pub record LiesInNeed (key block : List ℕ) (shelf : ShelfState) : Type 0 where
   pub item : Entry
   pub there : get shelf.content.items key ≡ Some item
   pub need : item_need key item ≡ need_for (charge key block)
 
--- chunks are ready for the block that a body makes beside a key's item: those that wait, or else the
--- item's own, and then the body's block may go there
+-- chunks are ready for the block that a body makes beside a key's item: the waiting ones, or else the
+-- item's own, if the body's block may go there
 abbrev pub ChunksAreReady : Option ChunksState → Body → (key block : List ℕ) → ShelfState → Type 0
 ChunksAreReady None body key block shelf = GoesOver body × LiesInNeed key block shelf
 ChunksAreReady (Some chunks) body key block shelf = AreChunksFor chunks key block shelf
@@ -390,8 +390,7 @@ left_behind Appended own need = if same_need own need then None else pages_in ow
 left_behind Prepended own need = pages_in own
 left_behind body own need = None
 
--- the chunks for which others may be brought in exchange: pages of the key's item, out of which a
--- join copies
+-- the chunks that brought ones may be exchanged for: pages of the key's item, which a join copies from
 abbrev pub exchange_for : Action → (key : List ℕ) → Option Entry → Option NeedState
 exchange_for (Write size flags expiry body) key (Some item) =
     left_behind body (item_need key item) (need_for size)

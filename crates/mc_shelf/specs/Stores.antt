@@ -10,8 +10,8 @@ use Rattle.mc_shelf.specs.States.{ShelfState, DeskState}
 use Rattle.mc_shelf.specs.Parts.{ArePartsOf, shelf_of}
 use Rattle.mc_shelf.specs.Unions.{plain_of}
 use Rattle.mc_shelf.specs.Numbers.{numbers}
-use Rattle.mc_shelf.specs.declared.settings.Settings.{Settings}
-use Rattle.mc_shelf.specs.contracts.settings.Settings as settings
+use Rattle.mc_sizes.specs.declared.settings.Settings.{Settings}
+use Rattle.mc_sizes.specs.contracts.settings.Settings as settings
 
 -- A store: how it was set up, what hashes its keys, and the plain machine's state; and beside
 -- these, of each shelf how many entries of an old table are left to move.

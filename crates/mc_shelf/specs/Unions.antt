@@ -4,7 +4,7 @@ use Rattle.std.specs.FinMap.{entries, from_entries, get}
 use Rattle.mc_time.specs.Death.{moment_named}
 use Rattle.mc_protocol.specs.Plain.{Items, Entry, Plain, alive}
 use Rattle.mc_shelf.specs.States.{ShelfContent, ShelfState, DeskState}
-use Rattle.mc_shelf.specs.declared.settings.Settings.{Settings}
+use Rattle.mc_sizes.specs.declared.settings.Settings.{Settings}
 
 -- the items of all shelves under their keys, one shelf's after another's
 abbrev pub all_entries : List ShelfState → List (List ℕ × Entry)

@@ -16,10 +16,10 @@ ghost use Rattle.mc_shelf.specs.Unions.{lefts};
 
 use crate::desk::Desk;
 use crate::parts;
-use crate::settings::Settings;
 use crate::shelf::Shelf;
 use mc_hop::KeyHash;
 use mc_protocol::{KeyStep, Reply, StepFault, Steps};
+use mc_sizes::Settings;
 use mc_time::Moment;
 use std::alloc::{AllocError, Global};
 use std::marker::Model;

@@ -7,7 +7,7 @@ use Rattle.mc_shelf.specs.Asides.{none_out}
 use Rattle.mc_shelf.specs.Parts.{shelf_of, IsShelfOf, IsDeskOf, ArePartsOf, GoesTo}
 use Rattle.mc_shelf.specs.Plans.{StepTaken}
 use Rattle.mc_shelf.specs.Stores.{IsSetUp}
-use Rattle.mc_shelf.specs.declared.settings.Settings.{Settings}
+use Rattle.mc_sizes.specs.declared.settings.Settings.{Settings}
 
 -- they are parts of some state that the settings fit
 abbrev pub ArePartsOfSome : (hash_of : List ℕ → ℕ) → Settings → List ShelfState → DeskState → Type 0

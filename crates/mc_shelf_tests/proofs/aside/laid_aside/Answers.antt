@@ -1,5 +1,5 @@
 use Rattle.std.proofs.Common.{ap, ◌∙◌}
-use Rattle.mc_shelf.specs.declared.settings.Settings.{Settings}
+use Rattle.mc_sizes.specs.declared.settings.Settings.{Settings}
 use Rattle.mc_shelf_tests.proofs.PartLemmas.{laid}
 use Rattle.mc_shelf_tests.proofs.aside.laid_aside.Goals as goal
 

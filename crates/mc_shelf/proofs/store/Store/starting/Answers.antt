@@ -1,6 +1,6 @@
 use Rattle.mc_shelf.proofs.Common.{refl}
 use Rattle.mc_shelf.proofs.PartLemmas.{are_kept, plain_is}
-use Rattle.mc_shelf.proofs.RangeLemmas.{some_shelf, divides_numbers}
+use Rattle.mc_sizes.proofs.RangeLemmas.{some_shelf, divides_numbers}
 use Rattle.mc_shelf.proofs.StoreLemmas.{new_parts}
 use Rattle.mc_shelf.proofs.store.Store.starting.Goals as goal
 
