@@ -23,12 +23,12 @@ pub use Rattle.mc_session.proofs.StreamLemmas.{settled_once, units_settled}
 pub use Rattle.mc_session.specs.Exchanges.{longest_piece, most_waiting, Writes, WritesOnce, Progress, ExchangeStep, Exchange, Wrote, Exchanges, HasEnded, Refusal, no_turn, no_piece, FallsShort}
 pub use Rattle.mc_session.specs.Turns.{SessionState, to_read, HasUnits, turn_count, turns_from, turns, closed, fed, TakesTurn, NoTurnDue, Answers, AnswersStep, DecidesStep, opened, sent, TurnIsDue}
 pub use Rattle.mc_session.specs.Turns.{FindsNoTurn, FindsClosed}
-pub use Rattle.mc_session.specs.declared.serving.ServeFault.{ServeFault}
+pub use Rattle.mc_protocol.specs.declared.serving.ServeFault.{ServeFault}
 pub use Rattle.mc_session.specs.declared.session.Turn.{Turn as SessionTurn}
 pub use Rattle.mc_session.specs.declared.session.Turn.TheVariants.{Did, Idle, Closed}
 pub use Rattle.mc_session.specs.declared.session.TurnFault.{TurnFault}
 pub use Rattle.mc_shelf.specs.Stores.{StoreState, HoldSame, StepMoves, TookStep}
-pub use Rattle.mc_shelf.specs.declared.settings.Settings.{Settings}
+pub use Rattle.mc_sizes.specs.declared.settings.Settings.{Settings}
 pub use Rattle.mc_shelf.specs.declared.store.Store.{Store}
 pub use Rattle.mc_world.specs.Connections.{Connection, IsNextTurn, HasNoNext, Follows, IsAmong, at_start, inside, IsRest, shut, Stands, with_piece, after_turn, ended, fresh}
 pub use Rattle.mc_world.specs.Laws.{Grammar, step_of, NextHasNoStep, DecidesNoStep, IsApart, Answer, Replied, NumbersSpent, answer_in, answers_in, AnswersNext, AnswersOf, RunsAnswering, HasAnswers}

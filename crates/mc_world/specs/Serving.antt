@@ -55,7 +55,7 @@ shelf_of turns shelves = turns % max shelves 1
 abbrev pub turn_events : (n shelf now : ℕ) → List Event
 turn_events n shelf now = Clock now ∷ Turn n ∷ Grow shelf ∷ []
 
--- how a session was served: the events, the bytes that they bring, those that were written
+-- how a session was served: the events, the bytes that they bring, the bytes that were written
 -- meanwhile, and the number of turns
 pub record Service : Type 0 where
   pub events : List Event

@@ -12,7 +12,7 @@ use Rattle.mc_parse.specs.Units.{ProtocolUnit, Request}
 use Rattle.mc_parse.specs.Feeds.{Unread}
 use Rattle.mc_session.specs.Turns.{SessionState, Answers, NoTurnDue}
 use Rattle.mc_shelf.specs.Stores.{coded_settings, FallsAt, FewMoveSomewhere, NoneRises}
-use Rattle.mc_shelf.specs.declared.settings.Settings.{Settings}
+use Rattle.mc_sizes.specs.declared.settings.Settings.{Settings}
 use Rattle.mc_protocol.specs.Purge.{purged}
 use Rattle.mc_time.specs.Chains.{Chain}
 use Rattle.mc_world.specs.Connections.{Connection, IsNextTurn, HasNoNext, Stands, fresh, with_piece, after_turn, ended}
