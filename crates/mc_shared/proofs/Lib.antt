@@ -18,6 +18,7 @@ pub mod Opening
 pub mod Stacked
 pub mod Surveyed
 pub mod EmptyLemmas
+pub mod LaterLemmas
 pub mod NumberSweeps
 pub mod CountLemmas
 pub mod Sent

@@ -57,7 +57,7 @@ pub use Rattle.atomic_table.specs.Seated.{TableId}
 pub use Rattle.std.specs.Prelude.{not, IfSome, option_to_list}
 pub use Rattle.mc_shared.specs.Close.{IsAfter, Gathered}
 pub use Rattle.mc_shelf.proofs.PartLemmas.{goes_without_desk, goes_by_step, put_cases}
-pub use Rattle.mc_shelf.specs.declared.settings.Settings.{Settings}
+pub use Rattle.mc_sizes.specs.declared.settings.Settings.{Settings}
 pub use Rattle.std.proofs.Common.{Bool, Equal, Err, Greater, IfErr, IfOk, Less, List, None, Ok, OnErr, Option, Result, Some, [], ap, append_assoc, arith, cond, div-add-mod', drop}
 pub use Rattle.std.proofs.Common.{eq-eqb, eqb, false, get_or, get_or-set_other, get_or-set_same, if◌then◌else◌, inl, inr, is_none, is_some, length, length-set, map, mod-lt, ne_eqb, refl}
 pub use Rattle.std.proofs.Common.{replicate, rules, set, slice_get, slice_index, slice_set, subst, suc, sym, take, true, true≢false, vec_capacity, vec_len, zero, ℕ, ⊎_elim, ◌%◌, ◌*◌, ◌++◌}

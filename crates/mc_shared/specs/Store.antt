@@ -46,7 +46,7 @@ pub record CanCome (began : Beginning) (p : Past) (step : KeyStep) (now : ℕ)
 abbrev pub IsSpentAfter : Beginning → Past → KeyStep → (now : ℕ) → Type 0
 IsSpentAfter began p step now = CanCome began p step now (λ outcome. outcome ≡ Spent)
 
--- after some such history the reply is a hit or a write, for which memory may be refused
+-- after some such history the reply is a hit or a write: memory may be refused for these
 abbrev pub MayFailAfter : Beginning → Past → KeyStep → (now : ℕ) → Type 0
 MayFailAfter began p step now = CanCome began p step now MayFail
 

@@ -1,6 +1,6 @@
 -- What is counted of a shelf, and of a class, in the state after a legal history.
 use Rattle.std.specs.Prelude.{◌≡◌, ℕ, List}
-use Rattle.mc_slab.specs.declared.stock.Account.{Account}
+use Rattle.mc_sizes.specs.declared.account.Account.{Account}
 use Rattle.mc_protocol.specs.Plain.{pages_of, count_of}
 use Rattle.mc_shelf.specs.States.{ShelfState}
 use Rattle.mc_shelf.specs.Parts.{IsShelfOf}

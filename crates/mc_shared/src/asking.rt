@@ -1,16 +1,19 @@
 //! A caller that takes steps as a session needs them.
-ghost use Rattle.std.specs.Prelude.{◌≡◌, ◌<◌, ◌≤◌};
+ghost use Rattle.std.specs.Prelude.{◌≡◌, ◌<◌, ◌≤◌, IfOk};
+ghost use Rattle.mc_protocol.specs.declared.step.KeyStep.{KeyStep as Step};
 ghost use Rattle.mc_shared.specs.Asking.{AsksOnce, AsksStep, AsksInVain};
+ghost use Rattle.mc_shared.specs.Emptied.{IsRoomFor};
 ghost use Rattle.mc_shared.specs.History.{start_of, shelf_in, Purged};
 ghost use Rattle.mc_shared.specs.Steps.{Agrees};
 
+use crate::flush::FlushRoom;
 use crate::patience::{Gate, Waiting};
 use crate::steps::reload;
 use crate::store::{Caller, Shared};
 use mc_hop::KeyHash;
 use mc_protocol::{Answer, KeyStep, Reply, StepFault, Steps, Unanswered};
 use mc_time::Moment;
-use std::alloc::Global;
+use std::alloc::{AllocError, Global};
 use std::marker::Model;
 use std::sync::Wait;
 
@@ -125,6 +128,22 @@ impl<'a, R: Wait, K: KeyHash + Drop, G: Gate> Asking<'a, R, K, G> {
         ensures moved { result ≤ n }
     {
         self.shared.grow_after(self.rt, &mut self.caller, n)
+    }
+
+    /// Makes room for a flush with this delay. The only error is a refused allocation.
+    pub fn flush_room(&self, alloc: Global, delay: u64) -> Result<FlushRoom, AllocError>
+        ensures { IfOk result (IsRoomFor self.now.began.settings.shelves delay) }
+    {
+        self.shared.flush_room(alloc, delay)
+    }
+
+    /// Flushes as a step does, in room that was made before. It takes no memory.
+    pub fn flush(&mut self, room: FlushRoom, delay: u64, now: Moment) -> Reply
+        requires { IsRoomFor self.old.began.settings.shelves delay room }
+        ensures { AsksStep K.hash_of self.old (Step.Flush delay) now result self.new }
+    {
+        self.shared
+            .flush_in(self.rt, &mut self.caller, room, delay, now)
     }
 
     /// Drops the items of a shelf that are dead at a moment.

@@ -1,5 +1,6 @@
 //! Counts of keys by number, and changes of many presence words at once.
-ghost use Rattle.std.specs.Prelude.{◌≡◌, ◌*◌, ◌/◌, ◌-◌, ◌%◌, ◌<◌, ℕ, List, [], length, slice_index};
+ghost use Rattle.std.specs.Prelude.{◌≡◌, ◌*◌, ◌/◌, ◌-◌, ◌%◌, ◌<◌, ℕ, List, []};
+ghost use Rattle.std.specs.Prelude.{length, slice_index, true, false};
 ghost use Rattle.mc_protocol.specs.Plain.{Plain, flushed};
 ghost use Rattle.mc_shelf.specs.Numbers.{numbers};
 ghost use Rattle.mc_shared.specs.Counted.{AreNone, AreCountsOf, AreAllOf, AreCountsOfAll};
@@ -57,12 +58,22 @@ pub(crate) fn count_boxes(shelves: &[Boxed<Shelf>]) -> [u64; NUMBERS]
 
 /// Counts the keys of each number after a flush with this delay.
 ///
-/// Without a delay there are none, and no item is read; otherwise it costs one pass over all items.
-pub(crate) fn count_left(shelves: &[Boxed<Shelf>], delay: u64) -> [u64; NUMBERS]
+/// If all items stayed, there are as many as before. Without a delay there are none. Neither reads
+/// an item; otherwise it costs one pass over all items.
+pub(crate) fn count_left(
+    shelves: &[Boxed<Shelf>],
+    delay: u64,
+    stay: bool,
+    before: &[u64; NUMBERS],
+) -> [u64; NUMBERS]
     requires { (hash_of : List ℕ → ℕ) × (state : Plain) × (now : ℕ)
         × AreAllOf hash_of (flushed delay state now) shelves.now }
-    ensures { AreCountsLeft delay shelves.now result }
+    ensures same { stay ≡ true → result ≡ before.now }
+    ensures left { stay ≡ false → AreCountsLeft delay shelves.now result }
 {
+    if stay {
+        return *before;
+    }
     if delay == 0 {
         return no_counts();
     }

@@ -1,15 +1,20 @@
 //! Flushes, which hold all shelves at once.
 //!
 //! An immediate flush has its new shelves made before it takes a bay, so memory is refused before
-//! it has begun. A delayed flush walks the items.
-ghost use Rattle.std.specs.Prelude.{ℕ, ◌≡◌, ◌<◌, ◌≤◌, []};
+//! it has begun. A delayed flush sets the moment of each shelf, and reads no item of a shelf where
+//! none may be dead. So whoever drops the dead of each shelf first, one held at a time, makes it
+//! cost as much as there are shelves.
+ghost use Rattle.std.specs.Prelude.{ℕ, ◌≡◌, ◌<◌, ◌≤◌, [], true};
 ghost use Rattle.std.specs.Prelude.{length, vec_len, vec_capacity, IfOk, IfSome, OnErr};
 ghost use Rattle.std.specs.List.{All};
 ghost use Rattle.mc_slab.specs.Needs.{largest_charge};
 ghost use Rattle.mc_protocol.specs.declared.step.KeyStep.{KeyStep as Step};
 ghost use Rattle.mc_protocol.specs.declared.reply.Reply.{Reply as Told};
 ghost use Rattle.mc_shelf.specs.Bare.{IsBare};
-ghost use Rattle.mc_shared.specs.Emptied.{AreEmptied, AreFlushedParts, AreParts, IsFresh};
+ghost use Rattle.mc_shelf.specs.Sweeps.{AreOut, GivesFor};
+ghost use Rattle.mc_shelf.specs.Unions.{IsFlushed};
+ghost use Rattle.mc_shared.specs.Emptied.{AreCutLater, AreEmptied, AreFlushedParts, AreParts};
+ghost use Rattle.mc_shared.specs.Emptied.{IsFresh, IsRoomFor, cut_later};
 ghost use Rattle.mc_shared.specs.History.{start_of};
 ghost use Rattle.mc_shared.specs.Steps.{Agrees};
 ghost use Rattle.mc_shared.specs.Store.{resting, with_call, HasCalled};
@@ -27,18 +32,49 @@ use crate::store::{Caller, Shared};
 use mc_hop::KeyHash;
 use mc_protocol::Reply;
 use mc_shelf::{Desk, Shelf};
-use mc_time::Moment;
+use mc_time::{Moment, cut_after};
 use std::alloc::{AllocError, Global};
 use std::sync::Wait;
 
-/// Flushes a state by its parts, as `flush_parts` does, with each shelf in a box.
-fn flush_boxes(shelves: &mut [Boxed<Shelf>], desk: &mut Desk, delay: u64, now: Moment)
-    requires { AreParts shelves.old desk.old }
-    ensures { AreFlushedParts delay now shelves.old desk.old shelves.new desk.new }
+/// Flushes a shelf, whose items' chunks are out of this desk. Returns whether its items stay.
+///
+/// If none may be dead, a delayed flush sets the shelf's moment and nothing else.
+fn flush_box(shelf: &mut Shelf, desk: &mut Desk, delay: u64, now: Moment) -> bool
+    requires { AreOut shelf.old.content desk.old }
+    ensures shelf { IsFlushed delay now shelf.old.content shelf.new.content }
+    ensures desk { GivesFor shelf.old.content.items shelf.new.content.items desk.old desk.new }
+    ensures stays { result ≡ true → (shelf.new ≡ cut_later delay now shelf.old)
+        × (desk.new ≡ desk.old) }
 {
-    for shelf in shelves.iter_mut() {
-        shelf.inner.flush(delay, now, desk);
+    if delay != 0 && !shelf.may_have_dead(now) {
+        shelf.set_cut(cut_after(delay, now));
+        return true;
     }
+    shelf.flush(delay, now, desk);
+    false
+}
+
+/// Flushes a state by its parts, as `flush_parts` does, with each shelf in a box.
+///
+/// Returns whether the items of all shelves stay.
+fn flush_boxes(shelves: &mut [Boxed<Shelf>], desk: &mut Desk, delay: u64, now: Moment) -> bool
+    requires { AreParts shelves.old desk.old }
+    ensures parts { AreFlushedParts delay now shelves.old desk.old shelves.new desk.new }
+    ensures stay { result ≡ true → AreCutLater delay now shelves.old shelves.new }
+{
+    let mut all_stay = true;
+    for shelf in shelves.iter_mut() {
+        let stays = flush_box(&mut *shelf.inner, desk, delay, now);
+        all_stay = both(all_stay, stays);
+    }
+    all_stay
+}
+
+/// Returns whether both hold.
+fn both(one: bool, other: bool) -> bool
+    ensures { result ≡ true → (one ≡ true) × (other ≡ true) }
+{
+    one && other
 }
 
 /// Empty shelves, and room for the shelves that they replace.
@@ -93,28 +129,33 @@ fn flush_at_once(held: &mut Vec<Boxed<Shelf>>, desk: &mut Desk, fresh: Fresh)
     desk.lay_aside(aside);
 }
 
-/// Flushes the shelves of a state with the desk.
+/// Flushes the shelves of a state with the desk. Returns whether the items of all shelves stay.
 fn flush_held(
     held: &mut Vec<Boxed<Shelf>>,
     desk: &mut Desk,
     fresh: Option<Fresh>,
     delay: u64,
     now: Moment,
-)
+) -> bool
     requires parts { AreParts held.old.items desk.old }
     requires fresh { IfSome fresh (IsFresh (vec_len held.old)) }
     requires at_once { IfSome fresh (λ _. delay ≡ 0) }
     ensures count { vec_len held.new ≡ vec_len held.old }
     ensures parts { AreFlushedParts delay now held.old.items desk.old held.new.items desk.new }
+    ensures stay { result ≡ true → AreCutLater delay now held.old.items held.new.items }
 {
     match fresh {
-        Some(fresh) => flush_at_once(held, desk, fresh),
+        Some(fresh) => {
+            flush_at_once(held, desk, fresh);
+            false
+        }
         None => flush_boxes(held.as_mut_slice(), desk, delay, now),
     }
 }
 
 /// Room for the shelves that a flush holds, and for an immediate flush the empty shelves.
-struct Room {
+#[derive(Drop)]
+pub struct FlushRoom {
     held: Vec<Boxed<Shelf>>,
     count: usize,
     fresh: Option<Fresh>,
@@ -127,22 +168,19 @@ fn flush_by<K: KeyHash + Drop, R: Wait>(
     rt: &R,
     board: &Board<K>,
     seat: &mut Seat,
-    room: Room,
+    room: FlushRoom,
     delay: u64,
     now: Moment,
 )
     requires seat { RestsAt board.now seat.old }
-    requires count { room.count ≡ shelves_at board.now }
     requires some { 0 < room.count }
-    requires room { (room.held.items ≡ []) × (room.count ≤ vec_capacity room.held) }
-    requires fresh { IfSome room.fresh (IsFresh room.count) }
-    requires at_once { IfSome room.fresh (λ _. delay ≡ 0) }
+    requires room { IsRoomFor (shelves_at board.now) delay room }
     ensures seat { SameSeat seat.old seat.new }
     ensures done { (seat.new.me ≡ resting
         (with_call seat.old.me.0.past (Step.Flush delay) now Told.Flushed))
         × Agrees (start_at K.hash_of board.now) seat.new.me.0.past }
 {
-    let Room { held, count, fresh } = room;
+    let FlushRoom { held, count, fresh } = room;
     let patience = Waiting { rt, gate: &NoGate };
     let mut held = match take_all(&patience, board, seat, held, count) {
         Ok(held) => held,
@@ -153,7 +191,7 @@ fn flush_by<K: KeyHash + Drop, R: Wait>(
         Ok(desk) => desk,
         Err(never) => match never {},
     };
-    flush_held(&mut held, &mut *desk, fresh, delay, now);
+    let stay = flush_held(&mut held, &mut *desk, fresh, delay, now);
     let decision = Decision::Flushed {
         delay,
         moment: now,
@@ -162,7 +200,7 @@ fn flush_by<K: KeyHash + Drop, R: Wait>(
     };
     let value = Bay::Desk(Boxed::of(desk));
     decide(board, seat, count, value, &decision);
-    let after = count_left(held.as_slice(), delay);
+    let after = count_left(held.as_slice(), delay, stay, &before);
     lower_words(board, seat, count, &before, &after);
     give_all(board, seat, held);
 }
@@ -176,11 +214,10 @@ impl<K: KeyHash + Drop> Shared<K> {
     /// and the caller's past is then unchanged.
     ///
     /// The cost without a delay doesn't grow with the items: they are laid aside whole, and their
-    /// chunks are collected later, one item's with each write. A delayed flush passes once over all
-    /// items, and once more if some may be dead. The presence words are read and lowered in at most
-    /// two atomic steps for each of 4096 numbers, however many keys are removed.
-    // Not inlined: its arrays of counts would enlarge the stack frame of every caller.
-    #[inline(never)]
+    /// chunks are collected later, one item's with each write. Nor does that of a delayed flush, if
+    /// no item of any shelf may be dead; otherwise it passes over the items of such shelves, and
+    /// once over all items. The presence words are read and lowered in at most two atomic steps for
+    /// each of 4096 numbers, however many keys are removed.
     pub fn flush<R: Wait>(
         &self,
         rt: &R,
@@ -196,11 +233,8 @@ impl<K: KeyHash + Drop> Shared<K> {
         ensures err { OnErr result (caller.new.past ≡ caller.old.past) }
         ensures agrees { Agrees (start_of K.hash_of self.now.began) caller.new.past }
     {
-        match self.room(alloc, delay) {
-            Ok(room) => {
-                flush_by(rt, &self.board, &mut caller.seat, room, delay, now);
-                Ok(Reply::Flushed)
-            }
+        match self.flush_room(alloc, delay) {
+            Ok(room) => Ok(self.flush_in(rt, caller, room, delay, now)),
             Err(refused) => {
                 reload(&self.board, &mut caller.seat);
                 Err(refused)
@@ -208,24 +242,42 @@ impl<K: KeyHash + Drop> Shared<K> {
         }
     }
 
+    /// Flushes as `flush` does, in room that was made before. It takes no memory.
+    // Not inlined: its arrays of counts would enlarge the stack frame of every caller.
+    #[inline(never)]
+    pub(crate) fn flush_in<R: Wait>(
+        &self,
+        rt: &R,
+        caller: &mut Caller,
+        room: FlushRoom,
+        delay: u64,
+        now: Moment,
+    ) -> Reply
+        requires own { caller.old.table ≡ self.now.table }
+        requires room { IsRoomFor self.now.began.settings.shelves delay room }
+        ensures same { caller.new.table ≡ caller.old.table }
+        ensures called { HasCalled (start_of K.hash_of self.now.began) caller.old.past
+            (Step.Flush delay) now result caller.new.past }
+    {
+        flush_by(rt, &self.board, &mut caller.seat, room, delay, now);
+        Reply::Flushed
+    }
+
     /// Makes room for all boxed shelves, and the empty shelves of an immediate flush.
     ///
     /// The only error is a refused allocation.
-    fn room(&self, alloc: Global, delay: u64) -> Result<Room, AllocError>
-        ensures room { IfOk result (λ room. (room.count ≡ self.now.began.settings.shelves)
-            × (room.held.items ≡ []) × (room.count ≤ vec_capacity room.held)) }
-        ensures fresh { IfOk result (λ room. IfSome room.fresh (IsFresh room.count)) }
-        ensures at_once { IfOk result (λ room. IfSome room.fresh (λ _. delay ≡ 0)) }
+    pub(crate) fn flush_room(&self, alloc: Global, delay: u64) -> Result<FlushRoom, AllocError>
+        ensures { IfOk result (IsRoomFor self.now.began.settings.shelves delay) }
     {
         let count = self.settings.shelves as usize;
         let held = Vec::with_capacity(alloc, count)?;
         if delay != 0 {
             let fresh = None;
-            return Ok(Room { held, count, fresh });
+            return Ok(FlushRoom { held, count, fresh });
         }
         let shelves = bare_shelves(alloc, count, self.settings.greatest)?;
         let aside = Vec::with_capacity(alloc, TIMES * count)?;
         let fresh = Some(Fresh { shelves, aside });
-        Ok(Room { held, count, fresh })
+        Ok(FlushRoom { held, count, fresh })
     }
 }

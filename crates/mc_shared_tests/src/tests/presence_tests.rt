@@ -51,6 +51,20 @@ static LATER: [Row; 13] = [
     (1015, b"a00", Act::Absent(true)),
 ];
 
+/// A flush after a delay drops what is dead by the one before, and nothing where all items live.
+static LATER_AGAIN: [Row; 10] = [
+    (1000, b"a00", SET),
+    (1005, b"", Act::Told(Ask::Flush(10), "flushed")),
+    (1015, b"", Act::Told(Ask::Flush(100), "flushed")),
+    (1015, b"k", Act::Absent(true)),
+    (1015, b"a", Act::Absent(true)),
+    (1015, b"a", SET),
+    (1016, b"", Act::Told(Ask::Flush(100), "flushed")),
+    (1016, b"a", Act::Absent(false)),
+    (1116, b"a", Act::Tidy),
+    (1116, b"a", Act::Absent(true)),
+];
+
 /// A flush without a delay drops all items.
 static AT_ONCE: [Row; 11] = [
     (1000, b"a00", SET),
@@ -81,6 +95,12 @@ fn a_purged_key_is_absent(rt: HostRuntime) -> Result<(), Fail> {
 #[test]
 fn a_key_flushed_later_is_absent(rt: HostRuntime) -> Result<(), Fail> {
     assert_eq!(rt; first_untold(&rt, rt.alloc(), &LATER)?, None);
+    Ok(())
+}
+
+#[test]
+fn a_key_flushed_later_again_is_absent(rt: HostRuntime) -> Result<(), Fail> {
+    assert_eq!(rt; first_untold(&rt, rt.alloc(), &LATER_AGAIN)?, None);
     Ok(())
 }
 

@@ -16,4 +16,4 @@ flush_boxes-requires c =
 pub returns-in-None-clause-parts : goal.returns-in-None-clause-parts
 returns-in-None-clause-parts c hash_of state count parts =
     written_back c.args.held.now.items (c.args.held.now.ok.0 ∙ parts.number)
-    (c.flush_boxes.ensures hash_of state count (subst (λ (l : List ShelfState). ArePartsOf hash_of state l count c.args.desk.now) (sym c.as_mut_slice.ensures.value) parts))
+    (c.flush_boxes.ensures.parts hash_of state count (subst (λ (l : List ShelfState). ArePartsOf hash_of state l count c.args.desk.now) (sym c.as_mut_slice.ensures.value) parts))

@@ -1,5 +1,5 @@
 use Rattle.mc_shared.proofs.Words.{ap, sym, ◌∙◌, subst, IsClass, pages_of, out_of, IsAccountAfter, DeskState, Past, start_of}
-use Rattle.mc_slab.specs.declared.stock.Account.{Account}
+use Rattle.mc_sizes.specs.declared.account.Account.{Account}
 use Rattle.mc_shared.proofs.Surveyed.{account_after}
 use Rattle.mc_shared.proofs.store.Shared.account.Goals as goal
 
