@@ -1,6 +1,6 @@
 -- A caller that is alone: the history is its calls.
 use Rattle.std.proofs.Common.{◌≡◌, ℕ, ◌+◌, ◌≤◌, Bool, true, false, cond, List, [], ◌∷◌, ◌++◌, sym, refl, ap, ◌∙◌, subst, arith}
-use Rattle.mc_shared.proofs.Words.{Plain, total, Beginning, Stepped, HistoryEntry, left_by, after, IsLegal, Past, spent, start, call, made, both, held, callers, makes}
+use Rattle.mc_shared.proofs.Words.{append-nil, Plain, total, Beginning, Stepped, HistoryEntry, left_by, after, IsLegal, Past, spent, start, call, made, both, held, callers, makes}
 use Rattle.mc_shared.proofs.Words.{same, Ordered, Whole, KeptBy, entry_of, Agrees, with_call}
 use Rattle.mc_laws.specs.Laws.{Call, with_calls, PlainAnswers}
 use Rattle.mc_shared.specs.Past.{times}
@@ -17,12 +17,13 @@ none_left [] le = refl
 none_left (e ∷ es) le = absurd (omega (arith, le))
 
 -- ---- the entries that a test picks
--- a caller's own calls are all so, and it took in no other
+-- a caller's own calls are all so, and it took in none but callers without calls
 abbrev pub AllAre : (HistoryEntry → Type 0) → Past → Type 0
 AllAre P spent = ⊥
 AllAre P (start c seen) = Unit {0}
 AllAre P (call p e) = AllAre P p × P e
 AllAre P (made p d) = AllAre P p
+AllAre P (both p (start c seen)) = AllAre P p
 AllAre P (both p q) = ⊥
 
 module _ (u : HistoryEntry → Bool) where
@@ -37,7 +38,7 @@ module _ (u : HistoryEntry → Bool) where
   put_in true e xs ys = refl
   put_in false e xs ys = refl
 
-  picked_parts : (xs ys : List HistoryEntry) → picked (xs ++ ys) ≡ picked xs ++ picked ys
+  pub picked_parts : (xs ys : List HistoryEntry) → picked (xs ++ ys) ≡ picked xs ++ picked ys
   picked_parts [] ys = refl
   picked_parts (e ∷ es) ys = ap (λ r. cond (u e) (e ∷ r) r) (picked_parts es ys) ∙ put_in (u e) e (picked es) (picked ys)
 
@@ -45,7 +46,7 @@ module _ (u : HistoryEntry → Bool) where
   one_counted true e es n is = omega (arith, is)
   one_counted false e es n is = omega (arith, is)
 
-  picked_count : (es : List HistoryEntry) → count (picked es) ≡ total weight es
+  pub picked_count : (es : List HistoryEntry) → count (picked es) ≡ total weight es
   picked_count [] = refl
   picked_count (e ∷ es) = one_counted (u e) e (picked es) (total weight es) (picked_count es)
 
@@ -58,7 +59,7 @@ module _ (u : HistoryEntry → Bool) where
   weighs_most (e ∷ es) = let rest = weighs_most es in let one = at_most_one (u e) in omega (arith, rest, one)
 
   -- it picks as many as the caller's calls at least, and just those if it picks no more
-  just_those : (p : Past) (log : List HistoryEntry) → AllAre (λ e. u e ≡ true) p → Ordered log p
+  pub just_those : (p : Past) (log : List HistoryEntry) → AllAre (λ e. u e ≡ true) p → Ordered log p
       → (count (held p) ≤ count (picked log)) × (count (picked log) ≤ count (held p) → picked log ≡ held p)
   just_those (start c seen) log all o = (omega arith, none_left (picked log))
   just_those (call p e) log all o =
@@ -76,6 +77,10 @@ module _ (u : HistoryEntry → Bool) where
             parts ∙ ap (λ es. es ++ e ∷ picked o.1) front ∙ ap (λ es. held p ++ e ∷ es) last,
       )
   just_those (made p d) log all o = just_those p log all o
+  just_those (both p (start c seen)) log all o =
+      let rest = just_those p log all o.0 in
+      let is = total-append (λ (x : HistoryEntry). 1) (held p) [] in
+      (let few = rest.0 in omega (arith, few, is), λ le. rest.1 (omega (arith, le, is)) ∙ sym (append-nil (held p)))
   just_those p log all o = absurd all
 
   pub picked_held : (p : Past) (log : List HistoryEntry) → AllAre (λ e. u e ≡ true) p → Ordered log p → total weight log ≤ total weight (held p) → picked log ≡ held p

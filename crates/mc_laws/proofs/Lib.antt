@@ -9,3 +9,5 @@ pub mod BackLawLemmas
 pub mod TogetherLawLemmas
 pub mod MixLawLemmas
 pub mod AbsentLawLemmas
+pub mod NoteLawLemmas
+pub mod NumberLawLemmas

@@ -51,6 +51,10 @@ module _ (p : Past) where
   fronts (made q d) log o w = ⊎_elim (whole_front (made q d) log o) (fronts q log o) w
   fronts (both q r) log o w = ⊎_elim (whole_front (both q r) log o) (λ v. ⊎_elim (fronts q log o.0) (fronts r log o.1) v) w
 
+  pub within_front : (q : Past) (log : List HistoryEntry) → Ordered log q → PastIsWithin p q → (front : List HistoryEntry) × (rest : List HistoryEntry) × (log ≡ front ++ rest) × Ordered front p
+  unfolding Fronts
+  within_front = fronts
+
 pub stands_before : (log : List HistoryEntry) (p : Past) (e first : HistoryEntry) → Ordered log (call p e) → Has p first → StandsBefore log first e
 stands_before log p e first o has = let s = stands_in p o.0 first o.3 has in record {
   before = s.0;

@@ -76,20 +76,19 @@ module _ (log : List HistoryEntry) (p : Past) (kept : KeptBy log p) (whole : Who
   whole_permuted = permuted (held p) log held_apart (λ e s. keeps_all log p e kept (held_has p e s)) (kept.whole whole (λ (x : HistoryEntry). 1))
 
 -- ---- the law's clauses
+pub log_order : (began : Beginning) (p : Past) (agrees : Agrees began p) → AreAnswered began p agrees.log (after began began.plain agrees.log)
+log_order began p agrees = record {
+  all = λ e. keeps_all agrees.log p e agrees.keeps;
+  once = λ first second. once_only agrees.log p first second agrees.keeps;
+  order = λ later known. knew_before agrees.log p later known agrees.keeps;
+  own = λ e. own_held agrees.log p e agrees.keeps;
+  exactly = whole_permuted agrees.log p agrees.keeps;
+  answers = answers_each began began.plain agrees.log agrees.legal;
+}
+
 pub closed_order : (began : Beginning) (p : Past) (closed : Plain) → IsAfter began p closed → (calls : List HistoryEntry) × AreAnswered began p calls closed
-closed_order began p closed is = (
-  is.log,
-  subst (AreAnswered began p is.log) (sym is.state) record {
-    all = λ e. keeps_all is.log p e is.keeps;
-    once = λ first second. once_only is.log p first second is.keeps;
-    order = λ later known. knew_before is.log p later known is.keeps;
-    own = λ e. own_held is.log p e is.keeps;
-    exactly = whole_permuted is.log p is.keeps;
-    answers = answers_each began began.plain is.log is.legal;
-  },
-)
+closed_order began p closed is =
+    (is.log, subst (AreAnswered began p is.log) (sym is.state) (log_order began p (record { log = is.log; legal = is.legal; keeps = is.keeps })))
 
 pub one_order : (began : Beginning) (p : Past) → Agrees began p → (calls : List HistoryEntry) × (left : Plain) × AreAnswered began p calls left
-one_order began p agrees =
-    let closed = closed_order began p (after began began.plain agrees.log) (record { log = agrees.log; legal = agrees.legal; keeps = agrees.keeps; state = refl }) in
-    (closed.0, after began began.plain agrees.log, closed.1)
+one_order began p agrees = (agrees.log, after began began.plain agrees.log, log_order began p agrees)

@@ -10,7 +10,7 @@ use Rattle.mc_protocol.specs.declared.reply.Reply.TheVariants.{Stored, Hit, Numb
 use Rattle.mc_protocol.specs.Commands.{key_of}
 use Rattle.mc_protocol.specs.Plain.{Plain, plain, alive, hit_of, number_of, Answered}
 use Rattle.mc_protocol.specs.Plain.{Entry as Item}
-use Rattle.mc_shared.specs.History.{Beginning, Operation, Stepped, Purged, HistoryEntry, shelf_in, after, IsLegal}
+use Rattle.mc_shared.specs.History.{Beginning, Name, Operation, Stepped, Purged, HistoryEntry, shelf_in, after, IsLegal}
 use Rattle.mc_shared.specs.Past.{Past, spent, start, call, made, both, same, KeptBy}
 use Rattle.mc_shared.specs.Store.{with_call}
 
@@ -77,6 +77,11 @@ pub record Call : Type 0 where
 abbrev pub with_calls : Past → List Call → Past
 with_calls p [] = p
 with_calls p (c ∷ cs) = with_calls (with_call p c.step c.now c.reply) cs
+
+-- the past of a caller that heeded a note: it joined a caller without calls, of this name, that the
+-- giver had made
+abbrev pub heeded : (taker : Past) → Name → (giver : Past) → Past
+heeded taker note giver = both taker (start note giver)
 
 -- the plain machine takes these steps in order, and gives these replies
 abbrev pub PlainAnswers : Plain → List Call → Type 0

@@ -1,11 +1,12 @@
 -- One order of all callers' calls, with the replies of one plain machine.
-use Rattle.std.specs.Prelude.{◌≡◌, ◌≤◌, ◌⊎◌, ◌==◌, List, [], ◌∷◌}
+use Rattle.std.specs.Prelude.{◌≡◌, ◌≤◌, ◌⊎◌, ◌==◌, List, [], ◌∷◌, ◌++◌}
 use Rattle.std.specs.List.Sorted.{IsPermutation}
 use Rattle.mc_protocol.specs.Plain.{Plain, Answered, plain}
 use Rattle.mc_protocol.specs.Purge.{purged}
 use Rattle.mc_shared.specs.History.{Beginning, Operation, Stepped, Purged, HistoryEntry, shelf_in}
 use Rattle.mc_shared.specs.Past.{Past, spent, start, made, both, held, callers, times, Whole}
-use Rattle.mc_laws.specs.Laws.{StandsInLog, StandsBefore, Has, CallerKnew, Call, with_calls}
+use Rattle.mc_shared.specs.Steps.{next_name}
+use Rattle.mc_laws.specs.Laws.{StandsInLog, StandsBefore, Has, CallerKnew, Call, with_calls, heeded}
 
 -- the plain machine takes a step with this reply, and leaves this state; a purge, which has no
 -- reply, drops the dead items of its shelf
@@ -47,3 +48,31 @@ IsMixOf first second [] = (first ≡ []) × (second ≡ [])
 IsMixOf first second (c ∷ mix) =
     ((rest : List Call) × (first ≡ c ∷ rest) × IsMixOf rest second mix)
     ⊎ ((rest : List Call) × (second ≡ c ∷ rest) × IsMixOf first rest mix)
+
+-- the past of the first caller after it made another, and these calls
+abbrev first_calls : List Call → Past
+first_calls firsts = with_calls (made (start [] spent) (0 ∷ [])) firsts
+
+-- the past of that other after these calls
+abbrev other_calls : List Call → Past
+other_calls earlier = with_calls (start (0 ∷ []) (start [] spent)) earlier
+
+-- The first caller made another and these calls, gave a note, and made more calls. The other made
+-- its earlier calls, heeded the note, and made its later calls. Then it was joined.
+abbrev pub one_note : (firsts more earlier lates : List Call) → Past
+one_note firsts more earlier lates =
+    both (with_calls (made (first_calls firsts) (next_name (first_calls firsts))) more)
+    (with_calls (heeded (other_calls earlier) (next_name (first_calls firsts)) (first_calls firsts))
+    lates)
+
+-- A mix of the calls of both in two parts. The front has all that the first made before it gave the
+-- note, and all that the other made before it heeded it. The back has all that the other made then.
+pub record IsMixWithNote (firsts more earlier lates mix : List Call) : Type 0 where
+  pub front : List Call
+  pub back : List Call
+  pub soon : List Call
+  pub rest : List Call
+  pub is : mix ≡ front ++ back
+  pub went_on : more ≡ soon ++ rest
+  pub before : IsMixOf (firsts ++ soon) earlier front
+  pub behind : IsMixOf rest lates back

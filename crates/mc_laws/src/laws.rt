@@ -12,7 +12,7 @@ ghost use Rattle.mc_protocol.specs.Laws.{IsOnKey};
 ghost use Rattle.mc_protocol.specs.Plain.{Plain, opening};
 ghost use Rattle.mc_protocol.specs.Plain.{Entry as Item};
 ghost use Rattle.mc_shared.specs.Sums.{total};
-ghost use Rattle.mc_shared.specs.History.{Beginning, Operation, Stepped, HistoryEntry};
+ghost use Rattle.mc_shared.specs.History.{Beginning, Name, Operation, Stepped, HistoryEntry};
 ghost use Rattle.mc_shared.specs.History.{after, IsLegal};
 ghost use Rattle.mc_shared.specs.Past.{Past, spent, call, held, callers, times, Whole, KeptBy};
 ghost use Rattle.mc_shared.specs.Past as past;
@@ -20,12 +20,13 @@ ghost use Rattle.mc_shared.specs.Steps.{entry_of, Agrees};
 ghost use Rattle.mc_shared.specs.Store.{with_call, IsShown};
 ghost use Rattle.mc_shared.specs.Close.{IsAfter};
 ghost use Rattle.mc_laws.specs.Laws.{StandsInLog, StandsBefore, Has, PastIsWithin, CallerKnew, WentOn};
-ghost use Rattle.mc_laws.specs.Laws.{IsAlone, Call, with_calls, PlainAnswers};
+ghost use Rattle.mc_laws.specs.Laws.{IsAlone, Call, with_calls, heeded, PlainAnswers};
 ghost use Rattle.mc_laws.specs.Laws.{MayChange, ReadsLatest, ReadsWrite, item_after, item_given};
 ghost use Rattle.mc_laws.specs.Laws.{Found, IsHit, IsNoOlder, HasItem, Wrote, HasDrawnNumbers};
 ghost use Rattle.mc_laws.specs.Laws.{StoresAsGiven, IsTakenAway};
 ghost use Rattle.mc_laws.specs.Laws.{IsWrittenIn, IsNumber, IsCount, counts_up};
 ghost use Rattle.mc_laws.specs.Together.{AreAnswered, two_callers, IsMixOf};
+ghost use Rattle.mc_laws.specs.Together.{one_note, IsMixWithNote};
 
 use mc_protocol::other_keys_stay;
 
@@ -158,8 +159,9 @@ pub fn a_caller_reads_what_it_knows()
 /// maker before it was made, or one of a caller that was joined into it), then its unique number
 /// isn't smaller; and if the number is the same, so are the flags and the block. The same holds for
 /// any two hits of a key in the history, of any callers; and the same number twice means that no
-/// entry between them wrote the key. The law requires that the number of each item was drawn, which
-/// is so in a new store and stays so.
+/// entry between them wrote the key. So clients see an order: of two hits of a key, the one with
+/// the smaller number stands first, whichever callers made them. The law requires that the number
+/// of each item was drawn, which is so in a new store and stays so.
 pub fn no_read_goes_back()
     ensures known { (began : Beginning) (p : Past) (first second : HistoryEntry) (key : List ℕ)
         (was is : Found) →
@@ -176,6 +178,12 @@ pub fn no_read_goes_back()
         (places : StandsBefore log first second) →
         IsHit key was first.what → IsHit key is second.what →
         StandsInLog places.between other → Wrote key other.what → was.unique < is.unique }
+    ensures numbers { (began : Beginning) (log : List HistoryEntry) (first second : HistoryEntry)
+        (key : List ℕ) (was is : Found) →
+        HasDrawnNumbers began.plain → IsLegal began began.plain log →
+        StandsInLog log first → StandsInLog log second →
+        IsHit key was first.what → IsHit key is second.what → was.unique < is.unique →
+        StandsBefore log first second }
 {
     other_keys_stay();
 }
@@ -252,3 +260,32 @@ pub fn no_count_is_lost()
 {
     other_keys_stay();
 }
+
+/// States that a caller that heeds a note makes its later calls after all that the note knows.
+///
+/// A note is a caller without calls. `Shared::caller` makes it when the giver's calls have
+/// returned, and `Shared::join` joins it into the taker. In every history that keeps a past in
+/// which that happened, each call that the giver had made or knew stands before each later call of
+/// the taker. A giver may give several notes, and a note may be joined into a note.
+///
+/// So if the first caller made another, gave it a note, and the other was joined, then the plain
+/// machine answers one list of their calls in two parts: all calls that the giver made before the
+/// note are in the first part, and all calls that the taker made after it are in the second.
+///
+/// A history is linearizable, in Herlihy and Wing's words, if its order has each call before every
+/// call that is invoked after it returned. All calls promise sequential consistency, which has that
+/// for the calls of one caller. This law adds each pair of calls between which a note is passed.
+/// That the other callers' calls are answered as without the note is argument: to give and to heed
+/// a note loads one word five times, and stores none.
+pub fn who_heeds_a_note_comes_after()
+    ensures knows { (giver taker q r : Past) (note : Name) (known later : HistoryEntry) →
+        WentOn (heeded taker note giver) q → PastIsWithin (call q later) r → Has giver known →
+        CallerKnew r later known }
+    ensures order { (log : List HistoryEntry) (giver taker q r : Past) (note : Name)
+        (known later : HistoryEntry) → KeptBy log r → WentOn (heeded taker note giver) q →
+        PastIsWithin (call q later) r → Has giver known → StandsBefore log known later }
+    ensures two { (began : Beginning) (firsts more earlier lates : List Call) →
+        Agrees began (one_note firsts more earlier lates) →
+        (mix : List Call) × IsMixWithNote firsts more earlier lates mix
+        × PlainAnswers began.plain mix }
+{}
