@@ -1,6 +1,6 @@
 -- What a worker does for room, judgement by judgement.
 use Rattle.std.proofs.Common.{◌≡◌, ◌<◌, ℕ, ◌+◌, length, Some, None, inl, inr, sym, ap, ◌∙◌, subst}
-use Rattle.mc_guests.specs.Books.{RowState, BooksState, at_ticks, took_judging}
+use Rattle.mc_guests.specs.Books.{RowState, BooksState, at_ticks, reading, took_judging}
 use Rattle.mc_guests.specs.Budgets.{to_judge}
 use Rattle.mc_guests.specs.Judging.{Judges, NoneIsSlow}
 use Rattle.mc_time.specs.Chains.{one_more}
@@ -26,11 +26,13 @@ judged_none most count old mid new below front judges is =
 pub judged_all : (most count : ℕ) (old mid : BooksState) → count ≡ most → JudgesSlow count old mid → JudgesUpTo most old mid
 judged_all most count old mid all front = record { count = count; judges = front; over = inl all }
 
--- the time was set, and then they were judged
-pub makes_room : (ticks most : ℕ) (old timed noted new : BooksState) → timed ≡ at_ticks ticks old → most ≡ to_judge timed.budget → noted ≡ took_judging timed
-    → JudgesUpTo most noted new → MakesRoom old new
-makes_room ticks most old timed noted new sets counts notes judges = record {
-  ticks = ticks;
-  judges = subst (λ (n : ℕ). JudgesUpTo n (took_judging (at_ticks ticks old)) new) (counts ∙ ap (λ (b : BooksState). to_judge b.budget) sets)
-      (subst (λ (b : BooksState). JudgesUpTo most b new) (notes ∙ ap took_judging sets) judges);
-}
+-- the time was set, what is read that has left was counted, and then they were judged
+pub makes_room : (ticks most : ℕ) (old timed ended noted new : BooksState) → timed ≡ at_ticks ticks timed.budget.left old → ended ≡ reading ended.budget.left timed
+    → most ≡ to_judge ended.budget → noted ≡ took_judging ended → JudgesUpTo most noted new → MakesRoom old new
+makes_room ticks most old timed ended noted new sets ends counts notes judges =
+    let all : ended ≡ at_ticks ticks ended.budget.left old = ends ∙ ap (reading ended.budget.left) sets in record {
+      ticks = ticks;
+      left = ended.budget.left;
+      judges = subst (λ (n : ℕ). JudgesUpTo n (took_judging (at_ticks ticks ended.budget.left old)) new) (counts ∙ ap (λ (b : BooksState). to_judge b.budget) all)
+          (subst (λ (b : BooksState). JudgesUpTo most b new) (notes ∙ ap took_judging all) judges);
+    }

@@ -1,6 +1,6 @@
 -- What a round does to the store that it is lent, and to a caller's past.
 use Rattle.std.specs.Prelude.{MatchOption, slice_get}
-use Rattle.std.proofs.Common.{◌≡◌, inl, inr, ℕ, ◌+◌, ◌<◌, ◌%◌, arith, List, Option, Some, None, refl, sym, ap, ◌∙◌, subst}
+use Rattle.std.proofs.Common.{◌≡◌, inl, inr, ℕ, ◌+◌, Bool, List, Option, Some, None, refl, sym, ap, ◌∙◌, subst}
 use Rattle.mc_protocol.specs.Commands.{steps}
 use Rattle.mc_protocol.specs.Commands.{Command}
 use Rattle.mc_protocol.specs.declared.step.KeyStep.{KeyStep}
@@ -12,7 +12,7 @@ use Rattle.mc_session.specs.Turns.{Answers, AnswersStep}
 use Rattle.mc_shared.specs.History.{Beginning, Operation, Purged}
 use Rattle.mc_shared.specs.Past.{Past}
 use Rattle.mc_shared.specs.Asking.{AskingState, AsksOnce}
-use Rattle.mc_workers.specs.Tending.{Tidied, TidiesNext, moment_of, CallsOnce, Further, GoesFurther}
+use Rattle.mc_workers.specs.Tending.{TidiesInTurn, TidiesNext, moment_of, CallsOnce, Further, GoesFurther}
 use Rattle.mc_time.specs.Chains.{Repeats, none_yet, one_more}
 use Rattle.mc_guests.specs.Guests.{GuestState}
 use Rattle.mc_guests.specs.Visits.{Does, Visited}
@@ -119,6 +119,11 @@ module _ (may_give : ℕ → Type 0) where
   goes_tidied hash_of now gives total old new (one_more {count = count} {mid = mid} tidied one) =
       goes_both old.1 mid.1 new.1 (goes_tidied hash_of now gives count old mid tidied) (goes_once _ (Purged mid.0 now) mid.1 new.1 gives one.0)
 
+  -- so are the purges before a round
+  pub goes_in_turn : {K : Type 0} (hash_of : K → List ℕ → ℕ) (risen : Bool) (now : ℕ) → may_give now → (turn next : ℕ) (old new : AskingState K)
+      → TidiesInTurn hash_of risen now turn next old new → GoesFurther may_give old new
+  goes_in_turn hash_of risen now gives turn next old new tidies = goes_tidied hash_of now gives _ (_, old) (next, new) tidies.tidied
+
 -- at that moment
 abbrev pub at : ℕ → ℕ → Type 0
 at now moment = moment ≡ now
@@ -126,14 +131,6 @@ at now moment = moment ≡ now
 -- what holds of two states holds of those that are the same
 pub of_same : {S : Type 0} (Holds : S → S → Type 0) {old before new after : S} → old ≡ before → after ≡ new → Holds old new → Holds before after
 of_same {S} Holds {old} {before} {new} {after} first last held = subst (λ (s : S). Holds s after) first (subst (Holds old) (sym last) held)
-
--- no shelf had its turn yet
-pub tidies_none : {K : Type 0} (hash_of : K → List ℕ → ℕ) (now turn shelves : ℕ) (s : AskingState K) → shelves ≡ s.began.settings.shelves → 0 < shelves
-    → Tidied hash_of now 0 (turn % s.began.settings.shelves) (turn % shelves) s s × (turn % shelves < s.began.settings.shelves)
-tidies_none {K} hash_of now turn shelves s is some = (
-  subst (λ (n : ℕ). Tidied hash_of now 0 (turn % n) (turn % shelves) s s) is none_yet,
-  subst (λ (n : ℕ). turn % shelves < n) is (omega arith),
-)
 
 -- calls at one moment are calls at moments that may be given, where this one is
 module _ (may_give : ℕ → Type 0) (now : ℕ) (gives : may_give now) where

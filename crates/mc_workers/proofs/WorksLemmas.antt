@@ -1,4 +1,5 @@
 -- A worker's rounds, one after another.
+use Rattle.std.specs.Prelude.{nat_lt}
 use Rattle.std.proofs.Common.{◌≡◌, ℕ, ◌+◌, List, Bool, true, false, refl, sym, ap, ◌∙◌, subst}
 use Rattle.mc_shelf.specs.Stores.{StoreState}
 use Rattle.mc_shared.specs.Shown.{CallerState}
@@ -7,8 +8,8 @@ use Rattle.mc_guests.specs.Books.{BooksState, no_books}
 use Rattle.mc_guests.specs.Budgets.{unused}
 use Rattle.mc_guests.specs.Doors.{OpensForAll, shut}
 use Rattle.mc_workers.specs.Room.{MakesRoom}
-use Rattle.mc_workers.specs.Tending.{asked_by}
-use Rattle.mc_workers.specs.Rounds.{TidiesWhereRisen, MakesRounds}
+use Rattle.mc_workers.specs.Tending.{TidiesInTurn, asked_by}
+use Rattle.mc_workers.specs.Rounds.{MakesRounds}
 use Rattle.mc_workers.specs.Rounds.{WorkState, WorksOnce, WorksOn, begins, WorksSince, WorksToEnd}
 use Rattle.mc_time.specs.Chains.{Repeats, none_yet, one_more}
 use Rattle.mc_guests.specs.declared.door.Door.{Door}
@@ -17,7 +18,7 @@ use Rattle.mc_guests.specs.declared.guests.WorkEnd.{WorkEnd}
 module _ {K : Type 0} {hash_of : K → List ℕ → ℕ} {may_give : ℕ → Type 0} where
   -- what it does from one opening to the next, by its calls
   pub once_so : {old new : WorkState K} {tidied : AskingState K} {settled roomy : BooksState} {counted : WorkEnd} {opened goes_on : Bool} → may_give new.moment
-      → TidiesWhereRisen hash_of old.moment new.moment old.turn new.turn old.asking tidied
+      → TidiesInTurn hash_of (nat_lt old.moment new.moment) new.moment old.turn new.turn old.asking tidied
       → MakesRounds hash_of new.moment (tidied, old.books, old.end) (new.asking, settled, counted)
       → MakesRoom settled roomy → OpensForAll old.door new.door roomy new.books counted new.end opened → opened ≡ goes_on
       → WorksOnce hash_of may_give old new goes_on

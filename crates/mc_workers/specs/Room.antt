@@ -22,7 +22,9 @@ pub record JudgesUpTo (most : ℕ) (old new : BooksState) : Type 0 where
   pub judges : JudgesSlow count old new
   pub over : (count ≡ most) ⊎ ((count < most) × NoneIsSlow new.budget.ticks (length new.row.guests) new.row.guests)
 
--- the time is set, in ticks, and once a tick the slowest guests are judged: as many as wait, at most 16
+-- The time is set, in ticks, and what has left the store and guests read is counted anew. Once a tick the slowest guests
+-- are judged: as many as wait, at most 16.
 pub record MakesRoom (old new : BooksState) : Type 0 where
   pub ticks : ℕ
-  pub judges : JudgesUpTo (to_judge (at_ticks ticks old).budget) (took_judging (at_ticks ticks old)) new
+  pub left : ℕ
+  pub judges : JudgesUpTo (to_judge (at_ticks ticks left old).budget) (took_judging (at_ticks ticks left old)) new

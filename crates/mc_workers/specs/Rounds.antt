@@ -1,5 +1,5 @@
 -- What a worker does, round by round.
-use Rattle.std.specs.Prelude.{◌≡◌, ◌<◌, ◌≤◌, ◌%◌, ◌-◌, ℕ, List, Bool, true, false}
+use Rattle.std.specs.Prelude.{◌≡◌, ◌<◌, ◌-◌, ℕ, List, Bool, nat_lt, true, false}
 use Rattle.mc_protocol.specs.declared.step.Steps.{Ghosts as Relations}
 use Rattle.mc_time.specs.Chains.{Repeats}
 use Rattle.mc_shelf.specs.Stores.{StoreState}
@@ -10,7 +10,7 @@ use Rattle.mc_guests.specs.Budgets.{unused}
 use Rattle.mc_guests.specs.Doors.{OpensForAll, shut}
 use Rattle.mc_guests.specs.Turns.{VisitsAll}
 use Rattle.mc_workers.specs.Room.{MakesRoom}
-use Rattle.mc_workers.specs.Tending.{Tidied, asked_by, tidied_at_once}
+use Rattle.mc_workers.specs.Tending.{TidiesInTurn, asked_by}
 use Rattle.mc_guests.specs.declared.door.Door.{Door}
 use Rattle.mc_guests.specs.declared.guests.WorkEnd.{WorkEnd}
 
@@ -44,14 +44,7 @@ begins first share began caller moment = record {
 }
 
 module _ {K : Type 0} (hash_of : K → List ℕ → ℕ) where
-  -- the dead items of the next shelves in turn are dropped when the clock has risen, and else none
-  -- are
-  pub record TidiesWhereRisen (before now turn next : ℕ) (old new : AskingState K) : Type 0 where
-    pub risen : before < now
-        → Tidied hash_of now (tidied_at_once old.began.settings.shelves) (turn % old.began.settings.shelves) next old new
-    pub stands : now ≤ before → (new ≡ old) × (next ≡ turn)
-
-  -- one round: all that are awake are visited at a moment, and then those that ended go and those with nothing to do sleep
+  -- one round: all awake guests are visited at a moment; then ended ones are removed, and idle ones sleep
   pub record VisitsAndSettles (now : ℕ) (old new : RoundState K) : Type 0 where
     pub visited : BooksState
     pub visits : VisitsAll (as_caller hash_of) now old.1 visited old.0 new.0
@@ -74,14 +67,14 @@ module _ {K : Type 0} (hash_of : K → List ℕ → ℕ) where
     pub further : Repeats (MakesFurtherRound now) count (64 - old.1.awake, first) (left, new)
 
   -- From one opening of the door to the next, at a moment that the clock may give: dead items are dropped when the clock had
-  -- risen, rounds are made, the slowest are judged, and the door is opened for those that wait.
+  -- risen or writes lack chunks, rounds are made, the slowest are judged, and the door is opened for those that wait.
   pub record WorksOnce (may_give : ℕ → Type 0) (old new : WorkState K) (goes_on : Bool) : Type 0 where
     pub given : may_give new.moment
     pub tidied : AskingState K
     pub settled : BooksState
     pub roomy : BooksState
     pub counted : WorkEnd
-    pub tidies : TidiesWhereRisen old.moment new.moment old.turn new.turn old.asking tidied
+    pub tidies : TidiesInTurn hash_of (nat_lt old.moment new.moment) new.moment old.turn new.turn old.asking tidied
     pub rounds : MakesRounds new.moment (tidied, old.books, old.end) (new.asking, settled, counted)
     pub judges : MakesRoom settled roomy
     pub opens : OpensForAll old.door new.door roomy new.books counted new.end goes_on

@@ -1,5 +1,5 @@
 -- A caller that a worker lends to its guests.
-use Rattle.std.specs.Prelude.{◌≡◌, ℕ, ◌+◌, List, nat_lt, if◌then◌else◌}
+use Rattle.std.specs.Prelude.{◌≡◌, ℕ, ◌+◌, ◌%◌, Bool, List, nat_lt, if◌then◌else◌}
 use Rattle.std.specs.Int.{div_ceil}
 use Rattle.mc_shelf.specs.Stores.{StoreState}
 use Rattle.mc_shared.specs.Shown.{CallerState}
@@ -54,6 +54,16 @@ abbrev pub Tidied : {K : Type 0} → (K → List ℕ → ℕ) → (now count tur
 Tidied hash_of now count turn next old new =
     Repeats (TidiesNext hash_of now) count (turn, old) (next, new)
 
--- how many shelves are tidied at once, so that all have had their turn after 64 times: one for each 64
-abbrev pub tidied_at_once : (shelves : ℕ) → ℕ
-tidied_at_once shelves = div_ceil shelves 64
+-- How many shelves a worker tidies before a round. When the clock has risen it is one for each 64, so
+-- that all have their turn in 64 risings. While writes lack chunks it is also one for each 16, so that
+-- all have their turn in 16 rounds.
+abbrev pub tidied_by : (risen lacks : Bool) → (shelves : ℕ) → ℕ
+tidied_by risen lacks shelves =
+    (if risen then div_ceil shelves 64 else 0) + (if lacks then div_ceil shelves 16 else 0)
+
+-- Before a round so many shelves were purged in turn, and either writes lacked chunks or not.
+pub record TidiesInTurn {K : Type 0} (hash_of : K → List ℕ → ℕ) (risen : Bool) (now turn next : ℕ)
+    (old new : AskingState K) : Type 0 where
+  pub lacks : Bool
+  pub tidied : Tidied hash_of now (tidied_by risen lacks old.began.settings.shelves)
+      (turn % old.began.settings.shelves) next old new

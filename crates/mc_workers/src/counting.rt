@@ -3,10 +3,10 @@
 //! `Counting` is a store around another. Contracts see the inner one, so a worker's promises don't
 //! change. A tally gets each step and its outcome, not its block.
 
-ghost use Rattle.std.specs.Prelude.{◌≡◌, ◌%◌};
-ghost use Rattle.mc_workers.specs.Tending.{tidied_at_once, Tidied};
+ghost use Rattle.std.specs.Prelude.{◌≡◌};
+ghost use Rattle.mc_workers.specs.Tending.{TidiesInTurn};
 
-use crate::tending::Tending;
+use crate::tending::{SWEEPS, Tending};
 use mc_guests::{Outcome, Reports, Tally, length_at};
 use mc_hop::KeyHash;
 use mc_protocol::{Answer, Bytes, KeyStep, Reply, StepFault, Steps, Unanswered};
@@ -18,10 +18,16 @@ use std::marker::Model;
 use std::sync::Wait;
 
 /// A store that reports each step that was taken to a tally. Contracts see the inner store.
+///
+/// It notes when a write finds no chunk: then each shelf has a turn to be tidied soon.
 #[derive(Drop)]
 pub struct Counting<'a, S: Steps + Drop, T: Tally> {
     steps: S,
     tally: &'a T,
+    /// Whether a write found no chunk since shelves were tidied last.
+    lacks: bool,
+    /// The number of tidyings until each shelf had its turn since a write found no chunk.
+    owed: u32,
 }
 
 impl<'a, S: Steps + Drop, T: Tally> Model for Counting<'a, S, T> {
@@ -37,7 +43,12 @@ impl<'a, S: Steps + Drop, T: Tally> Counting<'a, S, T> {
     pub fn new(steps: S, tally: &'a T) -> Counting<'a, S, T>
         ensures { result ≡ steps }
     {
-        Counting { steps, tally }
+        Counting {
+            steps,
+            tally,
+            lacks: false,
+            owed: 0,
+        }
     }
 
     /// Returns the inner store.
@@ -48,22 +59,35 @@ impl<'a, S: Steps + Drop, T: Tally> Counting<'a, S, T> {
         steps
     }
 
-    /// Reports a step to the tally, if it was taken.
-    fn count(&self, step: &KeyStep<'_>, answer: &Result<Reply, StepFault>) {
-        if let Ok(reply) = answer {
-            self.tally.took(step, Outcome::of(reply));
+    /// Reports a step to the tally, if it was taken, and notes whether it found no chunk.
+    fn count(&mut self, step: &KeyStep<'_>, answer: &Result<Reply, StepFault>)
+        ensures { self.new ≡ self.old }
+    {
+        match answer {
+            Ok(reply) => self.took(step, Outcome::of(reply)),
+            Err(_) => {}
         }
+    }
+
+    /// Reports a step that was taken to the tally, and notes whether it found no chunk.
+    fn took(&mut self, step: &KeyStep<'_>, outcome: Outcome)
+        ensures { self.new ≡ self.old }
+    {
+        self.lacks = self.lacks || finds_no_chunk(outcome);
+        self.tally.took(step, outcome);
     }
 
     /// Reports a step whose reply goes to an `Answer` to the tally, if it was taken.
     fn count_told(
-        &self,
+        &mut self,
         step: &KeyStep<'_>,
         told: &Result<(), Unanswered>,
         noted: Option<Outcome>,
-    ) {
+    )
+        ensures { self.new ≡ self.old }
+    {
         match (told, noted) {
-            (Ok(()) | Err(Unanswered::Untold), Some(outcome)) => self.tally.took(step, outcome),
+            (Ok(()) | Err(Unanswered::Untold), Some(outcome)) => self.took(step, outcome),
             _ => {}
         }
     }
@@ -72,11 +96,34 @@ impl<'a, S: Steps + Drop, T: Tally> Counting<'a, S, T> {
 impl<'a, 'b, R: Wait, K: KeyHash + Drop, G: Gate, T: Tally> Counting<'a, Tending<'b, R, K, G>, T> {
     /// Drops the dead items of the next shelves in turn, as `Tending::tidy` does. It isn't
     /// reported.
-    pub fn tidy(&mut self, turn: u32, now: Moment) -> u32
-        ensures { Tidied K.hash_of now (tidied_at_once self.old.began.settings.shelves)
-            (turn % self.old.began.settings.shelves) result self.old self.new }
+    ///
+    /// Since a write found no chunk, it takes more shelves in each of the next 16 calls.
+    pub fn tidy(&mut self, turn: u32, risen: bool, now: Moment) -> u32
+        ensures { TidiesInTurn K.hash_of risen now turn result self.old self.new }
     {
-        self.steps.tidy(turn, now)
+        let lacks = self.takes_more();
+        self.steps.tidy(turn, risen, lacks, now)
+    }
+
+    /// Returns whether more shelves are tidied, and counts this tidying.
+    fn takes_more(&mut self) -> bool
+        ensures { self.new ≡ self.old }
+    {
+        if self.lacks {
+            self.lacks = false;
+            self.owed = SWEEPS;
+        }
+        let lacks = self.owed > 0;
+        self.owed = self.owed.saturating_sub(1);
+        lacks
+    }
+}
+
+/// Returns whether a write found no chunk.
+fn finds_no_chunk(outcome: Outcome) -> bool {
+    match outcome {
+        Outcome::NoChunk => true,
+        _ => false,
     }
 }
 

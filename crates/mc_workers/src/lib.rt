@@ -25,4 +25,5 @@ mod worker;
 pub use counting::Counting;
 pub use mc_guests::{Got, Guest, Link, LinkFault, Links, Next, Took, Visit, WorkEnd, round};
 pub use mc_shared::{Gate, NoGate};
+pub use tending::Tending;
 pub use worker::{Worker, work};

@@ -1,9 +1,10 @@
 //! Steps, each followed by some growth.
-ghost use Rattle.std.specs.Prelude.{◌≡◌, ◌<◌, ◌%◌};
+ghost use Rattle.std.specs.Prelude.{◌≡◌, ◌<◌, ◌%◌, ◌^◌, if◌then◌else◌};
+ghost use Rattle.std.specs.Int.{div_ceil};
 ghost use Rattle.mc_shared.specs.Asking.{AsksOnce, AsksStep, AsksInVain};
 ghost use Rattle.mc_shared.specs.History.{start_of, Purged};
 ghost use Rattle.mc_shared.specs.Steps.{Agrees};
-ghost use Rattle.mc_workers.specs.Tending.{asked_by, in_turn, tidied_at_once, Tidied};
+ghost use Rattle.mc_workers.specs.Tending.{asked_by, in_turn, tidied_by, Tidied};
 
 use mc_hop::KeyHash;
 use mc_protocol::{Answer, KeyStep, Reply, StepFault, Steps, Unanswered};
@@ -16,8 +17,11 @@ use std::sync::Wait;
 /// The number of index entries of a shelf that move after a step on it.
 const MOVED: usize = 8;
 
-/// The most tidyings until each shelf had its turn.
+/// The most risings of the clock until each shelf had its turn.
 const TIDYINGS: u32 = 64;
+
+/// The most rounds until each shelf had its turn while writes lack chunks.
+pub(crate) const SWEEPS: u32 = 16;
 
 /// A caller whose steps are each followed by some growth of the key's shelf.
 ///
@@ -69,25 +73,36 @@ impl<'a, R: Wait, K: KeyHash + Drop, G: Gate> Tending<'a, R, K, G> {
         asking.into_caller()
     }
 
-    /// Drops the dead items of shelf `turn`, modulo their number, and returns the next turn.
+    /// Drops the dead items of shelf `turn`, modulo their number, and of those behind it, and returns
+    /// the next turn.
     ///
-    /// With more than 64 shelves it takes several in turn, so that 64 calls reach all shelves.
-    pub fn tidy(&mut self, turn: u32, now: Moment) -> u32
-        ensures { Tidied K.hash_of now (tidied_at_once self.old.began.settings.shelves)
+    /// If the clock has risen it takes one shelf for each 64, so that 64 calls reach all shelves.
+    /// While writes lack chunks it takes also one for each 16.
+    pub fn tidy(&mut self, turn: u32, risen: bool, lacks: bool, now: Moment) -> u32
+        ensures { Tidied K.hash_of now (tidied_by risen lacks self.old.began.settings.shelves)
             (turn % self.old.began.settings.shelves) result self.old self.new }
     {
-        let mut shelf = turn % self.shelves;
-        for _ in 0..self.at_once() {
-            shelf = self.tidy_one(shelf, now);
-        }
-        shelf
+        self.tidy_from(turn % self.shelves, self.due(risen, lacks), now)
     }
 
     /// Returns how many shelves one call of `tidy` takes.
-    fn at_once(&self) -> u32
-        ensures { result ≡ tidied_at_once self.now.began.settings.shelves }
+    fn due(&self, risen: bool, lacks: bool) -> u64
+        ensures { result ≡ tidied_by risen lacks self.now.began.settings.shelves }
     {
-        self.asking.shelves().div_ceil(TIDYINGS)
+        let shelves = self.asking.shelves();
+        part_if(risen, shelves, TIDYINGS) + part_if(lacks, shelves, SWEEPS)
+    }
+
+    /// Drops the dead items of `count` shelves in turn, from `shelf` on, and returns the next turn.
+    fn tidy_from(&mut self, shelf: u32, count: u64, now: Moment) -> u32
+        requires { shelf < self.old.began.settings.shelves }
+        ensures { Tidied K.hash_of now count shelf result self.old self.new }
+    {
+        let mut next = shelf;
+        for _ in 0..count {
+            next = self.tidy_one(next, now);
+        }
+        next
     }
 
     /// Drops the dead items of a shelf, and returns the next in turn.
@@ -109,6 +124,19 @@ impl<'a, R: Wait, K: KeyHash + Drop, G: Gate> Tending<'a, R, K, G> {
         ensures { self.new ≡ self.old }
     {
         self.asking.grow_after(MOVED);
+    }
+}
+
+/// Returns the shelves of one round if they are due, so that `rounds` reach all; otherwise 0.
+fn part_if(due: bool, shelves: u32, rounds: u32) -> u64
+    requires { 0 < rounds }
+    ensures value { result ≡ (if due then div_ceil shelves rounds else 0) }
+    ensures most { result < 2 ^ 32 }
+{
+    if due {
+        u64::from(shelves.div_ceil(rounds))
+    } else {
+        0
     }
 }
 

@@ -2,13 +2,15 @@
 //!
 //! Each shelf is tidied once in 64 clock ticks, at any number of shelves, and before the visits of
 //! a round: all workers' clocks rise together, so tidying after visits made three workers wait for
-//! each other.
-ghost use Rattle.std.specs.Prelude.{◌≡◌, ◌-◌, ◌^◌};
+//! each other. If a write finds no chunk, all shelves are tidied in the worker's next 16 series of
+//! rounds, since dead items may have what it lacks.
+ghost use Rattle.std.specs.Prelude.{◌≡◌, ◌-◌, ◌^◌, nat_lt};
+ghost use Rattle.mc_guests.specs.Books.{reading};
 ghost use Rattle.mc_shared.specs.History.{start_of};
 ghost use Rattle.mc_shared.specs.Steps.{Agrees};
 ghost use Rattle.mc_workers.specs.Room.{MakesRoom, JudgesUpTo};
-ghost use Rattle.mc_workers.specs.Rounds.{MakesRounds, TidiesWhereRisen, VisitsAndSettles, WorksToEnd};
-ghost use Rattle.mc_workers.specs.Tending.{GoesFurther, Further};
+ghost use Rattle.mc_workers.specs.Rounds.{MakesRounds, VisitsAndSettles, WorksToEnd};
+ghost use Rattle.mc_workers.specs.Tending.{GoesFurther, Further, TidiesInTurn};
 
 use crate::counting::Counting;
 use crate::tending::Tending;
@@ -46,8 +48,9 @@ impl<'a, G: Gate, T: Tally, C: Clock> Worker<'a, G, T, C> {
     /// It makes rounds of the guests that are awake until none is, or 64 visits were made, and then
     /// admits up to 32 new links. The clock is read before these rounds, and all of their visits
     /// have its moment. When it has risen, the dead items of the next shelf in turn are dropped
-    /// first; with more than 64 shelves it takes several, so that 64 risings reach all shelves. Each
-    /// step is followed by the growth of its key's shelf by 8 entries.
+    /// first; with more than 64 shelves it takes several, so that 64 risings reach all shelves. Since
+    /// a write found no chunk, one more for each 16 shelves is taken before each of the next 16
+    /// series of rounds. Each step is followed by the growth of its key's shelf by 8 entries.
     ///
     /// The caller is returned with further calls in its past and nothing else, each at a moment
     /// that the clock may give; there is a legal history that keeps this past. A fault of one link,
@@ -80,7 +83,7 @@ impl<'a, G: Gate, T: Tally, C: Clock> Worker<'a, G, T, C> {
         let mut turn = self.first;
         for _ in rt.forever() {
             let now = self.clock.now();
-            turn = tidy_if_risen(&mut counting, turn, before, now);
+            turn = tidy_in_turn(&mut counting, turn, before, now);
             make_rounds(alloc, &mut guests, &mut counting, links, &mut end, now);
             look_if_busy(&guests, links);
             guests.report(self.tally);
@@ -173,33 +176,46 @@ fn make_round<R: Wait, K: KeyHash + Drop, L: Link + Drop, G: Gate, T: Tally>(
     guests.settle(end);
 }
 
-/// Drops the dead items of the next shelves if the clock has risen.
+/// Drops the dead items of the next shelves if the clock has risen, or writes lack chunks.
 ///
 /// Returns the next shelf to tidy. The clocks of all workers rise at once. A worker that
 /// tidies its own shelves first doesn't want a shelf that another tidies.
-fn tidy_if_risen<R: Wait, K: KeyHash + Drop, G: Gate, T: Tally>(
+fn tidy_in_turn<R: Wait, K: KeyHash + Drop, G: Gate, T: Tally>(
     counting: &mut Counting<'_, Tending<'_, R, K, G>, T>,
     turn: u32,
     before: Moment,
     now: Moment,
 ) -> u32
     ensures further { GoesFurther (λ moment. moment ≡ now) counting.old counting.new }
-    ensures tidies { TidiesWhereRisen K.hash_of before now turn result counting.old counting.new }
+    ensures tidies { TidiesInTurn K.hash_of (nat_lt before now) now turn result counting.old
+        counting.new }
 {
-    if before.seconds() < now.seconds() {
-        counting.tidy(turn, now)
-    } else {
-        turn
-    }
+    counting.tidy(turn, before.seconds() < now.seconds(), now)
 }
 
-/// Judges the slowest guests that hold much, once a tick: as many as wait, at most 16.
+/// Once a tick ends readers of what has left the store, if that is more than the share, and judges
+/// the slowest guests that hold much: as many as wait, at most 16.
 fn make_room<L: Link + Drop, Q: Links<L>>(guests: &mut Guests<L>, links: &mut Q)
     ensures { MakesRoom guests.old guests.new }
 {
     guests.tick(links.ticks());
+    end_readers(guests, links);
     let most = guests.takes_turn_to_judge();
     judge_slow(guests, links, most);
+}
+
+/// Closes the links of the slowest readers of what has left the store, until that is within the
+/// share: at most 16 once a tick.
+fn end_readers<L: Link + Drop, Q: Links<L>>(guests: &mut Guests<L>, links: &mut Q)
+    ensures { guests.new ≡ reading guests.new.budget.left guests.old }
+{
+    let readers = guests.takes_turn_to_end();
+    for _ in 0..readers {
+        match guests.end_slowest_reader() {
+            Some(number) => links.end(number),
+            None => return,
+        }
+    }
 }
 
 /// Judges the slowest guests that hold much, at most `most`.

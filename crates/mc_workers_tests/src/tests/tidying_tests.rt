@@ -1,4 +1,4 @@
-//! Shelves are tidied in turn, as the clock rises.
+//! Shelves are tidied in turn, as the clock rises, and while writes find no chunk.
 
 ghost use Rattle.std.specs.Prelude.{◌≡◌, ◌≤◌, length};
 ghost use Rattle.mc_protocol.specs.Commands.{key_of};
@@ -7,12 +7,12 @@ use crate::held::{HeldLink, Seen};
 use crate::tests::serving::HeldLinks;
 use mc_guests::NoTally;
 use mc_hop::Fnv;
-use mc_protocol::{KeyStep, Verb};
+use mc_protocol::{KeyStep, Steps, Verb};
 use mc_shared::{Caller, NoGate, Shared};
 use mc_shelf::Settings;
 use mc_testing::{Ask, filled_block, step_of, told_of};
 use mc_time::{Clock, Moment};
-use mc_workers::Worker;
+use mc_workers::{Counting, Tending, Worker};
 use std::alloc::{AllocError, Global};
 use std::cell::Cell;
 use std::sync::Wait;
@@ -178,6 +178,118 @@ fn each_shelf_has_its_turn(rt: HostRuntime) -> Result<(), Fail> {
         assert_eq!(rt;
             told_around(&rt, rt.alloc(), *shelves, *turn)?,
             ("no chunk", "stored")
+        );
+    }
+    Ok(())
+}
+
+/// Whether a set of `c` is refused first, the number of tidyings then, and the reply to the next.
+///
+/// The clock stands. `b` is dead, and its shelf 37 of 64 is the 38th in turn.
+static SWEPT: [(bool, u32, &str); 4] = [
+    (true, 9, "no chunk"),
+    (true, 10, "stored"),
+    (true, 40, "stored"),
+    (false, 40, "no chunk"),
+];
+
+/// Sets `c` to a block behind some tidyings, in a store whose one page `b` has, which is dead.
+///
+/// Before them it is tried once, if it is to be refused. Returns the name of the last reply.
+fn told_of_sweeps<R: Wait>(
+    rt: &R,
+    alloc: Global,
+    shared: &Shared<Fnv>,
+    caller: Caller,
+    block: &[u8],
+    row: (bool, u32),
+) -> &'static str
+    requires { caller.table ≡ shared.now.table }
+{
+    let (refused, tidyings) = row;
+    let mut caller = caller;
+    let set_b = step_of(b"b", Ask::Store(Verb::Set, 10, block));
+    let _ = told_at(rt, alloc, shared, &mut caller, &set_b, 1000);
+    let set_c = step_of(b"c", Ask::Store(Verb::Set, 0, block));
+    let now = Moment::from_seconds_at_most(1010);
+    let mut counting = Counting::new(Tending::new(rt, shared, caller, &NoGate), &NoTally);
+    if refused {
+        let _ = counting.step(alloc, &set_c, now);
+    }
+    let mut turn = 0;
+    for _ in 0..tidyings {
+        turn = counting.tidy(turn, false, now);
+    }
+    told_of(&counting.step(alloc, &set_c, now))
+}
+
+/// Returns that reply for a new store.
+fn told_after_sweeps<R: Wait>(
+    rt: &R,
+    alloc: Global,
+    row: (bool, u32),
+) -> Result<&'static str, AllocError> {
+    let Some(settings) = Settings::new(1, Settings::GREATEST, 64) else {
+        return Ok("no such store");
+    };
+    let large = filled_block(alloc, 600000)?;
+    let (shared, caller) = Shared::new(alloc, settings, Fnv)?;
+    Ok(told_of_sweeps(rt, alloc, &shared, caller, large.as_slice(), row))
+}
+
+#[test]
+fn all_shelves_are_tidied_once_a_write_finds_no_chunk(rt: HostRuntime) -> Result<(), Fail> {
+    for (refused, tidyings, told) in &SWEPT {
+        assert_eq!(rt;
+            told_after_sweeps(&rt, rt.alloc(), (*refused, *tidyings))?,
+            *told
+        );
+    }
+    Ok(())
+}
+
+/// Sets `b`, flushes at 1005 after 10 seconds, and gets `b` at second `then`.
+///
+/// Returns the names of the last two replies.
+fn told_of_later_flush<R: Wait>(
+    rt: &R,
+    alloc: Global,
+    shared: &Shared<Fnv>,
+    caller: Caller,
+    then: u64,
+) -> (&'static str, &'static str)
+    requires { caller.table ≡ shared.now.table }
+{
+    let mut caller = caller;
+    let set_b = step_of(b"b", Ask::Store(Verb::Set, 0, b"x"));
+    let _ = told_at(rt, alloc, shared, &mut caller, &set_b, 1000);
+    let mut tending = Tending::new(rt, shared, caller, &NoGate);
+    let flush = step_of(b"", Ask::Flush(10));
+    let flushed = told_of(&tending.step(alloc, &flush, Moment::from_seconds_at_most(1005)));
+    let get = step_of(b"b", Ask::Get);
+    let got = told_of(&tending.step(alloc, &get, Moment::from_seconds_at_most(then)));
+    (flushed, got)
+}
+
+/// Returns these for a new store.
+fn told_in_flushed_store<R: Wait>(
+    rt: &R,
+    alloc: Global,
+    then: u64,
+) -> Result<(&'static str, &'static str), AllocError> {
+    let Some(settings) = Settings::new(1, Settings::GREATEST, 64) else {
+        return Ok(("no such store", ""));
+    };
+    let (shared, caller) = Shared::new(alloc, settings, Fnv)?;
+    Ok(told_of_later_flush(rt, alloc, &shared, caller, then))
+}
+
+#[test]
+fn a_later_flush_comes_at_its_second(rt: HostRuntime) -> Result<(), Fail> {
+    for (then, told) in [(1014, "hit"), (1015, "miss")] {
+        assert_eq!(rt;
+            told_in_flushed_store(&rt, rt.alloc(), then)?,
+            ("flushed", told)
         );
     }
     Ok(())

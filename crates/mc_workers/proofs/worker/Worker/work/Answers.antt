@@ -19,9 +19,9 @@ loop-init g c = (
 
 pub loop-preserved : goal.loop-preserved
 loop-preserved g c = (
-  goes_both _ _ _ _ (goes_both _ _ _ _ c.loop.invariant.0 (goes_at _ _ c.now-now.ensures _ _ c.tidy_if_risen-turn.ensures.further))
+  goes_both _ _ _ _ (goes_both _ _ _ _ c.loop.invariant.0 (goes_at _ _ c.now-now.ensures _ _ c.tidy_in_turn-turn.ensures.further))
       (goes_at _ _ c.now-now.ensures _ _ c.make_rounds.ensures.further),
-  works_on c.loop.invariant.1 (once_so c.now-now.ensures c.tidy_if_risen-turn.ensures.tidies c.make_rounds.ensures.rounds
+  works_on c.loop.invariant.1 (once_so c.now-now.ensures c.tidy_in_turn-turn.ensures.tidies c.make_rounds.ensures.rounds
       (subst (λ (b : BooksState). MakesRoom b c.make_room.new.guests) c.report.ensures c.make_room.ensures) c.open_for_all.ensures (cc)),
 )
 
@@ -29,7 +29,7 @@ pub returns-then-not-open_for_all-clause-calls : goal.returns-then-not-open_for_
 returns-then-not-open_for_all-clause-calls g c =
     subst (λ (p : Past). Further (g.C.Clock.may_give c.args.self.now.clock.now) c.args.caller.past p)
     (sym (c.into_caller.ensures.same.1 ∙ ap (λ (s : AskingState g.row.K.Denot). s.past) c.into_steps.ensures))
-    (goes_both _ _ _ _ (goes_both _ _ _ _ c.loop.invariant.0 (goes_at _ _ c.now-now.ensures _ _ c.tidy_if_risen-turn.ensures.further))
+    (goes_both _ _ _ _ (goes_both _ _ _ _ c.loop.invariant.0 (goes_at _ _ c.now-now.ensures _ _ c.tidy_in_turn-turn.ensures.further))
     (goes_at _ _ c.now-now.ensures _ _ c.make_rounds.ensures.further)).calls
 
 pub returns-then-not-open_for_all-clause-works : goal.returns-then-not-open_for_all-clause-works
@@ -39,8 +39,8 @@ returns-then-not-open_for_all-clause-works g c =
       books = c.open_for_all.new.guests;
       door = c.open_for_all.new.self;
       end = c.open_for_all.new.end;
-      turn = c.tidy_if_risen-turn.result;
+      turn = c.tidy_in_turn-turn.result;
       moment = c.now-now.result;
-    }} c.loop.invariant.1 (once_so c.now-now.ensures c.tidy_if_risen-turn.ensures.tidies c.make_rounds.ensures.rounds
+    }} c.loop.invariant.1 (once_so c.now-now.ensures c.tidy_in_turn-turn.ensures.tidies c.make_rounds.ensures.rounds
     (subst (λ (b : BooksState). MakesRoom b c.make_room.new.guests) c.report.ensures c.make_room.ensures) c.open_for_all.ensures (cc))
     (c.into_caller.ensures.same.1 ∙ ap (λ (s : AskingState g.row.K.Denot). s.past) c.into_steps.ensures)

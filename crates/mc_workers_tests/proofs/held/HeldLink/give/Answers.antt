@@ -1,6 +1,6 @@
 use Rattle.std.proofs.Common.{◌≡◌, ◌<◌, ◌+◌, ◌++◌, ℕ, List, length, take, get_or, refl, sym, subst, ap, ◌∙◌, arith, Option, Some, true}
 use Rattle.std.proofs.Math.ListN.{set}
-use Rattle.mc_guests.proofs.LinkLemmas.{given_one, some_set}
+use Rattle.mc_links.proofs.LinkLemmas.{given_one, some_set}
 use Rattle.mc_guests.specs.Links.{LinkState, asked, grown, gave}
 use Rattle.mc_workers_tests.proofs.held.HeldLink.give.Goals as goal
 

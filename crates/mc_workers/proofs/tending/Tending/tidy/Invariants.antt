@@ -1,8 +1,0 @@
-use Rattle.std.proofs.Common.{◌<◌, ◌%◌}
-use Rattle.mc_workers.specs.Tending.{Tidied}
-use Rattle.mc_workers.proofs.tending.Tending.tidy.Given as goal
-
-abbrev pub invariant-loop : goal.invariant-loop
-invariant-loop g l =
-    Tidied g.K.KeyHash.hash_of l.now l.counter (l.turn % l.fn.self.began.settings.shelves) l.shelf l.fn.self l.self
-    × (l.shelf < l.self.began.settings.shelves)
