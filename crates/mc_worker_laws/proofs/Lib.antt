@@ -1,0 +1,11 @@
+pub mod Lives
+pub mod LifeLemmas
+pub mod RowLemmas
+pub mod TraceLemmas
+pub mod CarryLemmas
+pub mod TracedLemmas
+pub mod DoorLemmas
+pub mod WorkedLemmas
+pub mod GreatestLemmas
+pub mod CallLemmas
+pub mod AllLemmas

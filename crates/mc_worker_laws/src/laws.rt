@@ -1,0 +1,63 @@
+//! Laws of workers, each the contract of a function that does nothing.
+
+ghost use Rattle.std.specs.Prelude.{ℕ, List};
+ghost use Rattle.mc_protocol.specs.Plain.{Plain};
+ghost use Rattle.mc_shelf.specs.Stores.{StoreState};
+ghost use Rattle.mc_shared.specs.History.{HistoryEntry, start_of};
+ghost use Rattle.mc_shared.specs.Past.{Past};
+ghost use Rattle.mc_shared.specs.Shown.{CallerState};
+ghost use Rattle.mc_shared.specs.Steps.{Agrees};
+ghost use Rattle.mc_laws.specs.Laws.{PastIsWithin};
+ghost use Rattle.mc_laws.specs.Together as Together;
+ghost use Rattle.mc_workers.specs.Rounds.{WorksToEnd};
+ghost use Rattle.mc_workers.specs.Tending.{asked_by};
+ghost use Rattle.mc_worker_laws.specs.Traces.{AreAnswered, all_links};
+ghost use Rattle.mc_worker_laws.specs.Calls.{AreAnsweredAmong};
+
+use mc_guests::WorkEnd;
+use mc_hop::KeyHash;
+use mc_parse::no_spelling_begins_another;
+use mc_time::Clock;
+
+/// States that each link that a worker lets in is answered.
+///
+/// All that the worker did is one trace. Each call of its caller is a purge, or belongs to one
+/// guest: it is the step of a turn, a read that measures its next key's block, or a step whose text
+/// was refused for want of memory. At the end each guest has ended: it was served, or its link or
+/// memory failed. What its link took, and then the output that was left, is the texts of the first
+/// turns of the units of the bytes that the link gave, and of all turns if it was served. These
+/// turns are the guest's own in the trace, and their calls are the caller's, in order.
+///
+/// A link that was refused at the door has no guest, and isn't among these. The law doesn't state
+/// which links come, nor that a link that is closed to make room fails.
+pub fn a_worker_answers_its_links<K: KeyHash, C: Clock>()
+    ensures { (hash_of : K → List ℕ → ℕ) (clock : C) (first share : ℕ) (began : StoreState K)
+        (caller : CallerState) (back : CallerState × WorkEnd)
+        (works : WorksToEnd hash_of (C.may_give clock) first share began caller back) →
+        AreAnswered hash_of (C.may_give clock) (all_links hash_of (C.may_give clock) works)
+        (asked_by began caller) works.final.asking }
+{
+    no_spelling_begins_another();
+}
+
+/// States that one list of calls answers the links of all workers.
+///
+/// Let a legal history keep a past, into which the callers of workers were joined. Then there is
+/// one list of all calls in that past, each once, and the plain machine, given these calls in order
+/// and the state in which the store began, replies to each as its caller was answered. Once all
+/// callers are joined it has exactly their calls. The links of each of these workers are answered
+/// within this list: each call of the worker's caller is a purge, a read that measures the block of
+/// a guest's next key, a turn's step, or a step whose text was refused for want of memory. All are
+/// in the list in their order, and those of a link's turns are in the order of its requests.
+pub fn all_workers_answer_their_links<K: KeyHash, C: Clock>()
+    ensures { (hash_of : K → List ℕ → ℕ) (clock : C) (began : StoreState K) (past : Past) →
+        Agrees (start_of hash_of began) past → (calls : List HistoryEntry) × (left : Plain)
+        × Together.AreAnswered (start_of hash_of began) past calls left
+        × ((first share : ℕ) (caller : CallerState) (back : CallerState × WorkEnd)
+        (works : WorksToEnd hash_of (C.may_give clock) first share began caller back) →
+        PastIsWithin back.0.past past →
+        AreAnsweredAmong hash_of (C.may_give clock) calls
+        (all_links hash_of (C.may_give clock) works) (asked_by began caller) works.final.asking) }
+{
+    no_spelling_begins_another();
+}
