@@ -1,6 +1,6 @@
 -- The exit status of the program, and what it writes to standard error at its end.
 use Rattle.std.specs.Prelude.{◌≡◌, ◌⊎◌, ℕ, Bool, true, List, slice_get, Option, Some, None, Ok, Err, codes}
-use Rattle.mc_session.specs.declared.serving.ServeFault.TheVariants as fault
+use Rattle.mc_protocol.specs.declared.serving.ServeFault.TheVariants as fault
 use Rattle.mc_host.specs.declared.end.Obstacle.{Obstacle}
 use Rattle.mc_host.specs.declared.end.Obstacle.TheVariants.{Taken, NotAllowed, NotHere, NoDescriptor, Other}
 use Rattle.mc_host.specs.declared.end.ListenFault.{ListenFault}
@@ -64,7 +64,7 @@ denial_of denied.Unoffered = codes "the server has no --allow-quit"
 denial_of denied.Forbidden = codes "the server ends only for its own machine"
 denial_of denied.Refused = codes "the server doesn't accept it"
 
--- an obstacle for which std has no kind of error
+-- an obstacle that has no kind of error in std
 abbrev pub IsUnnamed : Obstacle → Type 0
 IsUnnamed NoDescriptor = Unit {0}
 IsUnnamed Other = Unit {0}

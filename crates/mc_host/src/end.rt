@@ -7,7 +7,7 @@ ghost use Rattle.mc_host.specs.Ends.{IsUnnamed, status_of, text_of};
 
 use clap::error::ErrorKind;
 use mc_options::ListenAddress;
-use mc_session::ServeFault;
+use mc_protocol::ServeFault;
 use std::alloc::AllocError;
 use std::io;
 

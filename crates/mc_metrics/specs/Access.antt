@@ -1,5 +1,5 @@
 -- Who may end the server, by a request for the path /quit.
-use Rattle.std.specs.Prelude.{ℕ, ◌/◌, ◌==◌, Bool, not, ◌&&◌, ◌||◌, List, [], ◌∷◌, take, slice_index, codes}
+use Rattle.std.specs.Prelude.{ℕ, ◌/◌, ◌==◌, Bool, true, not, ◌&&◌, ◌||◌, List, [], ◌∷◌, take, drop, slice_index, codes}
 use Rattle.std.specs.List.{list_all, list_any, prefix_len}
 use Rattle.std.specs.Char.{is_ascii_digit}
 use Rattle.std.specs.Str.{bytes_eq, str_eq_ignore_ascii_case, byte}
@@ -10,6 +10,10 @@ use Rattle.std.specs.declared.net.ip_addr.IpAddr.TheVariants.{V4, V6}
 -- the text up to the first of these bytes, or all of it
 abbrev pub up_to : (end : ℕ) → (text : List ℕ) → List ℕ
 up_to end text = take (prefix_len (λ b. not (b == end)) text) text
+
+-- the text from the first of these bytes on, or nothing
+abbrev pub from : (start : ℕ) → (text : List ℕ) → List ℕ
+from start text = drop (prefix_len (λ b. not (b == start)) text) text
 
 -- whether the segments are ::1
 abbrev pub is_one : (segments : List ℕ) → Bool
@@ -37,13 +41,20 @@ is_loopback_address host = bytes_eq (take 4 host) (codes "127.") && list_all is_
 abbrev pub is_loopback_name : (host : List ℕ) → Bool
 is_loopback_name host = str_eq_ignore_ascii_case host (codes "localhost") || is_loopback_address host
 
+-- whether what stands behind a host is nothing, or a colon and digits
+abbrev pub is_port : (text : List ℕ) → Bool
+is_port [] = true
+is_port (first ∷ digits) = (first == byte ":") && list_all is_ascii_digit digits
+
 -- whether the value of a Host field is ::1 in brackets, with or without a port
 abbrev pub is_loopback_literal : (value : List ℕ) → Bool
-is_loopback_literal value = bytes_eq value (codes "[::1]") || bytes_eq (take 6 value) (codes "[::1]:")
+is_loopback_literal value = bytes_eq (take 5 value) (codes "[::1]") && is_port (drop 5 value)
 
 -- whether the value of a Host field names the loopback, with or without a port
 abbrev pub is_loopback_host : (value : List ℕ) → Bool
-is_loopback_host value = is_loopback_literal value || is_loopback_name (up_to (byte ":") value)
+is_loopback_host value =
+    is_loopback_literal value
+    || (is_loopback_name (up_to (byte ":") value) && is_port (from (byte ":") value))
 
 -- whether a field shows that a page of another site may have made the request: it has an Origin, or names
 -- another host

@@ -40,7 +40,7 @@ both counts one other = (number_at counts (place_of one) + number_at counts (pla
 abbrev pub bytes_of : List SlabReading → ℕ
 bytes_of slabs = min (sum_by (λ class. class.used * class.size) slabs) (2 ^ 64 - 1)
 
--- a number that is told
+-- a number shown on the page
 abbrev pub figure_of : PageValues → Figure → ℕ
 figure_of reading figure.One = 1
 figure_of reading figure.Zero = 0
@@ -49,6 +49,7 @@ figure_of reading (figure.Count counted) = number_at reading.counts (place_of co
 figure_of reading figure.Sets = both reading.counts SetStored SetNotStored
 figure_of reading figure.Stored = both reading.counts SetStored CasHit
 figure_of reading figure.Connections = reading.connections
+figure_of reading figure.Lingering = reading.lingering
 figure_of reading figure.Accepted = reading.accepted
 figure_of reading figure.Most = reading.most
 figure_of reading (figure.Closed place) = number_at reading.closed.items place
@@ -90,7 +91,7 @@ with_worker buffers held waiting = record {
   limit = buffers.limit;
 }
 
--- a number that is told of a class of chunks
+-- a number shown for a class of chunks
 abbrev pub slab_figure_of : SlabReading → SlabFigure → ℕ
 slab_figure_of reading slab.Size = reading.size
 slab_figure_of reading slab.ChunksAPage = reading.chunks_a_page

@@ -7,8 +7,9 @@ ghost use Rattle.std.specs.Prelude.{◌≡◌, ◌≤◌, ◌==◌, ◌||◌, no
 ghost use Rattle.std.specs.List.{list_any, list_all, prefix_len};
 ghost use Rattle.std.specs.Str.{str_eq_ignore_ascii_case};
 ghost use Rattle.httparse.specs.Spans.{IsHeaderWithin, header_bytes};
-ghost use Rattle.mc_metrics.specs.Access.{up_to, is_one, is_mapped_loopback, is_loopback};
-ghost use Rattle.mc_metrics.specs.Access.{is_address_byte, is_loopback_address};
+ghost use Rattle.std.specs.Char.{is_ascii_digit};
+ghost use Rattle.mc_metrics.specs.Access.{up_to, from, is_one, is_mapped_loopback, is_loopback};
+ghost use Rattle.mc_metrics.specs.Access.{is_address_byte, is_loopback_address, is_port};
 ghost use Rattle.mc_metrics.specs.Access.{is_loopback_name, is_loopback_literal};
 ghost use Rattle.mc_metrics.specs.Access.{is_loopback_host, is_foreign, is_trusted};
 
@@ -74,14 +75,35 @@ fn is_named(name: &[u8], other: &[u8]) -> bool
 fn is_loopback_host(value: &[u8]) -> bool
     ensures { result ≡ is_loopback_host value.now }
 {
-    is_loopback_literal(value) || is_loopback_name(up_to(b':', value))
+    is_loopback_literal(value)
+        || (is_loopback_name(up_to(b':', value)) && is_port(from(b':', value)))
 }
 
 /// Returns whether the value of a `Host` field is `::1` in brackets, with or without a port.
 fn is_loopback_literal(value: &[u8]) -> bool
     ensures { result ≡ is_loopback_literal value.now }
 {
-    value == b"[::1]".as_slice() || value.starts_with(b"[::1]:")
+    match value.strip_prefix(b"[::1]".as_slice()) {
+        Some(port) => is_port(port),
+        None => false,
+    }
+}
+
+/// Returns whether a text behind a host is empty, or a colon and digits.
+fn is_port(text: &[u8]) -> bool
+    ensures { result ≡ is_port text.now }
+{
+    match text.split_first() {
+        Some((first, digits)) => *first == b':' && are_digits(digits),
+        None => true,
+    }
+}
+
+/// Returns whether all bytes are digits.
+fn are_digits(text: &[u8]) -> bool
+    ensures { result ≡ list_all is_ascii_digit text.now }
+{
+    text.iter().all(|byte| byte.is_ascii_digit())
 }
 
 /// Returns whether a host without its port is the loopback's, by name or by address.
@@ -112,6 +134,14 @@ pub(crate) fn up_to(end: u8, text: &[u8]) -> &[u8]
 {
     let (front, _) = text.split_at(len_up_to(end, text));
     front
+}
+
+/// Returns the text from the first of these bytes on, or nothing.
+fn from(start: u8, text: &[u8]) -> &[u8]
+    ensures { result.now ≡ from start text.now }
+{
+    let (_, rest) = text.split_at(len_up_to(start, text));
+    rest
 }
 
 /// Returns how many bytes stand before the first of these, or how many there are.

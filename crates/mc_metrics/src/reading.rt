@@ -3,7 +3,7 @@ ghost use Rattle.std.specs.Prelude.{◌≡◌};
 ghost use Rattle.mc_metrics.specs.Pages.{figure_of, slab_figure_of, number_at, bytes_of, together};
 
 use crate::counts::{COUNTED, Counted};
-use mc_slab::{Account, Class};
+use mc_sizes::{Account, Class};
 
 /// The values for a page.
 #[derive(Drop)]
@@ -14,11 +14,13 @@ pub struct PageValues {
     pub closed: Vec<u64>,
     /// The seconds since the start.
     pub uptime: u64,
-    /// The open connections.
+    /// The open connections that count in `-c`.
     pub connections: u64,
+    /// The open connections that linger behind their last answer.
+    pub lingering: u64,
     /// The accepted connections.
     pub accepted: u64,
-    /// The limit of open connections.
+    /// The limit of connections that count in `-c`.
     pub most: u64,
     /// The size of the tables of all shelves.
     pub tables: TablesReading,
@@ -116,7 +118,10 @@ pub enum Figure {
     Sets,
     /// The items that were stored.
     Stored,
+    /// The open connections that count in `-c`.
     Connections,
+    /// The open connections that linger behind their last answer.
+    Lingering,
     Accepted,
     Most,
     /// The connections that were closed for the reason at this index.
@@ -181,6 +186,7 @@ impl PageValues {
             Figure::Sets => self.both(Counted::SetStored, Counted::SetNotStored),
             Figure::Stored => self.both(Counted::SetStored, Counted::CasHit),
             Figure::Connections => self.connections,
+            Figure::Lingering => self.lingering,
             Figure::Accepted => self.accepted,
             Figure::Most => self.most,
             Figure::Closed(place) => number_at(self.closed.as_slice(), place),
@@ -304,7 +310,7 @@ impl ProcessReading {
 
 impl SlabReading {
     ghost use Rattle.std.specs.Prelude.{◌≡◌, ◌*◌, ◌-◌, ◌^◌, min};
-    ghost use Rattle.mc_slab.specs.Classes.{chunks_a_page};
+    ghost use Rattle.mc_sizes.specs.Classes.{chunks_a_page};
     ghost use Rattle.mc_metrics.specs.Pages.{slab_figure_of};
 
     /// Returns the size of a class, given its account.

@@ -1,7 +1,7 @@
 -- What a number is that was asked for and brought into range.
 use Rattle.std.proofs.Common.{◌≡◌, ◌∙◌, sym, refl, subst, arith, ℕ, ◌≤◌, min, max, Option, Some, None}
-use Rattle.mc_shelf.specs.Ranges.{IsShelfCount}
-use Rattle.mc_shelf.proofs.RangeLemmas.{few_shelves}
+use Rattle.mc_sizes.specs.Ranges.{IsShelfCount}
+use Rattle.mc_sizes.proofs.RangeLemmas.{few_shelves}
 use Rattle.mc_options.specs.Asked.{IsAskedFor, IsTimeoutFor, usual_greatest, IsGreatestFor, AsksNoShelfCount}
 
 pub clamped : (asked : Option ℕ) (usual most n taken : ℕ)

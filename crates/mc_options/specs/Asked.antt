@@ -2,7 +2,7 @@
 use Rattle.std.specs.Prelude.{◌≡◌, ◌≤◌, ℕ, max, List, [], ◌∷◌, map, Option, Some, None}
 use Rattle.std.specs.Net.Addr.{ipv4_octets, IsV4And}
 use Rattle.std.specs.declared.net.ip_addr.IpAddr.{IpAddr}
-use Rattle.mc_shelf.specs.Ranges.{IsGreatestCharge, IsShelfCount}
+use Rattle.mc_sizes.specs.Ranges.{IsGreatestCharge, IsShelfCount}
 use Rattle.mc_options.specs.declared.options.AskedPlace.{AskedPlace}
 use Rattle.mc_options.specs.declared.endpoints.AskedAddress.{AskedAddress}
 use Rattle.mc_options.specs.declared.endpoints.ListenAddress.{ListenAddress}

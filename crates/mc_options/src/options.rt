@@ -11,7 +11,7 @@ use crate::unserved::{UNSERVED, with_unserved};
 use crate::value::{self, place_of};
 use clap::error::ErrorKind;
 use clap::{ArgMatches, Command, Error};
-use mc_shelf::Settings;
+use mc_sizes::Settings;
 use mc_time::Moment;
 use std::alloc::{AllocError, Global};
 use std::net::IpAddr;

@@ -3,7 +3,7 @@
 use crate::options::{LONGEST_TIMEOUT, MOST_BUFFERS, MOST_CONNECTIONS, MOST_WORKERS};
 use crate::value::ValueKind;
 use clap::{Arg, ArgAction, Command};
-use mc_shelf::Settings;
+use mc_sizes::Settings;
 use mc_time::Moment;
 use std::alloc::{AllocError, Global};
 

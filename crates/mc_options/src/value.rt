@@ -2,7 +2,7 @@
 
 use crate::endpoints::AskedAddress;
 use crate::options::AskedPlace;
-use mc_shelf::Settings;
+use mc_sizes::Settings;
 
 /// Which texts are fit as the value of an option.
 #[derive(Clone, Copy)]

@@ -1,6 +1,6 @@
 use Rattle.std.proofs.Common.{◌≡◌, sym, ap, ◌∙◌, Result, Err}
-use Rattle.mc_session.specs.declared.serving.ServeFault.{ServeFault}
-use Rattle.mc_session.specs.declared.serving.ServeFault.TheVariants.{NoMemory}
+use Rattle.mc_protocol.specs.declared.serving.ServeFault.{ServeFault}
+use Rattle.mc_protocol.specs.declared.serving.ServeFault.TheVariants.{NoMemory}
 use Rattle.mc_host.specs.declared.end.End.TheVariants.{Served}
 use Rattle.mc_host.specs.Ends.{text_of}
 use Rattle.mc_host.proofs.end.ending.Goals as goal

@@ -1,5 +1,5 @@
 use Rattle.std.proofs.Common.{IsSome, None, true≢false, sym, subst}
-use Rattle.mc_shelf.specs.declared.settings.Settings.{Settings}
+use Rattle.mc_sizes.specs.declared.settings.Settings.{Settings}
 use Rattle.mc_options.proofs.AskedLemmas.{no_shelf_count}
 use Rattle.mc_options.proofs.options.RawOptions.settings.Goals as goal
 
