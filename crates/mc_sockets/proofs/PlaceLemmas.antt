@@ -1,6 +1,6 @@
 -- What a look at a place finds, and what is done then.
 use Rattle.std.proofs.Common.{◌≡◌, ◌∙◌, ◌||◌, ℕ, Bool, true, false, List, MatchBool, Option}
-use Rattle.mc_sockets.specs.Places.{AsksIfUnheard, AsksOrCloses, EndsIfIdle, Finds, HappensTo, WasDropped, lingers, seen_waiting}
+use Rattle.mc_sockets.specs.Places.{AsksIfUnheard, AsksOrCloses, EndsIfIdle, Finds, HappensTo, WasDropped, lingers, seen_waiting, waits_for_client}
 use Rattle.mc_sockets.specs.Readiness.{AskedAgain, Ended}
 use Rattle.mc_sockets.specs.declared.connection.Parting.{Parting}
 use Rattle.mc_sockets.specs.declared.place.LinkRecord.{LinkRecord}
@@ -14,7 +14,7 @@ module _ {F : Type 0} (known : F → Option Readiness) (look : Look) (IsFull : T
   IsNoted = (new ≡ seen) × (new_names ≡ old_names)
 
   -- a connection ends if its link has waited
-  pub ends_if_idle : (parting : Parting) → Finds (known old.readiness) look (λ stood. stood.waits) (λ stood. seen_waiting stood old.waits_since) is_so seen.waits_since
+  pub ends_if_idle : (parting : Parting) → Finds (known old.readiness) look (λ stood. waits_for_client stood) (λ stood. seen_waiting stood old.waits_since) is_so seen.waits_since
       → MatchBool is_so (HappensTo known (Ended parting) IsFull seen new old_names new_names) IsNoted
       → MatchBool is_so (WasDropped (known seen.readiness) answer) (answer ≡ false)
       → EndsIfIdle known look parting IsFull answer old new old_names new_names

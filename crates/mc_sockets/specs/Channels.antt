@@ -1,11 +1,11 @@
 -- What calls of a channel do.
 use Rattle.std.specs.Prelude.{◌≡◌, ℕ, List, length, take, is_some, MatchBool, Option, Some, None, IfSome, Result, Ok, Err, IsErr, unwrap_or}
-use Rattle.mc_guests.specs.declared.link.Got.{Got}
-use Rattle.mc_guests.specs.declared.link.Got.TheVariants.{Bytes as GaveBytes, Later as GaveNone, End as GaveEnd}
-use Rattle.mc_guests.specs.declared.link.Took.{Took}
-use Rattle.mc_guests.specs.declared.link.Took.TheVariants.{Bytes as TookBytes, Later as TookNone}
-use Rattle.mc_guests.specs.declared.link.LinkFault.{LinkFault}
-use Rattle.mc_guests.specs.Links.{LinkState}
+use Rattle.mc_links.specs.declared.link.Got.{Got}
+use Rattle.mc_links.specs.declared.link.Got.TheVariants.{Bytes as GaveBytes, Later as GaveNone, End as GaveEnd}
+use Rattle.mc_links.specs.declared.link.Took.{Took}
+use Rattle.mc_links.specs.declared.link.Took.TheVariants.{Bytes as TookBytes, Later as TookNone}
+use Rattle.mc_links.specs.declared.link.LinkFault.{LinkFault}
+use Rattle.mc_links.specs.Links.{LinkState}
 use Rattle.mc_metrics.specs.declared.counts.Counted.{Counted}
 use Rattle.mc_metrics.specs.declared.counts.Counted.TheVariants as counted
 use Rattle.mc_sockets.specs.declared.channel.Calls.{Calls}
@@ -83,7 +83,7 @@ IsTook known (sent.Hindered WouldBlock) result = MatchBool (is_some known.ends) 
 IsTook known (sent.Hindered Interrupted) result = IsErr result
 IsTook known (sent.Hindered Fault) result = IsErr result
 
--- the reason for which the connection is closed, if it is closed after a read that was answered so
+-- the reason of a close, if the connection is closed after a read with this answer
 abbrev pub parting_after_read : Readiness → Received → Parting → Parting
 parting_after_read known (received.Bytes n) before = before
 parting_after_read known received.End before = unwrap_or known.ends parting.Ended
@@ -98,7 +98,7 @@ parting_after_write known (sent.Hindered WouldBlock) = known.ends
 parting_after_write known (sent.Hindered Interrupted) = Some parting.WriteFault
 parting_after_write known (sent.Hindered Fault) = Some parting.WriteFault
 
--- A channel's stream, what is known of its readiness, and the reason for which it would be closed.
+-- A channel's stream, what is known of its readiness, and the reason of a close.
 pub record ChannelState (S : Type 0) : Type 0 where
   pub stream : S
   pub known : Option Readiness

@@ -1,11 +1,14 @@
 pub mod Channels
 pub mod Crowds
 pub mod Dropping
+pub mod Headers
+pub mod Openings
 pub mod Partings
 pub mod Phases
 pub mod Places
 pub mod Readiness
 pub mod Remedies
+pub mod Screens
 pub mod Seats
 pub mod Streams
 pub mod Wakeups

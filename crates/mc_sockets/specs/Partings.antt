@@ -3,7 +3,7 @@ use Rattle.std.specs.Prelude.{ℕ}
 use Rattle.mc_sockets.specs.declared.connection.Parting.{Parting}
 use Rattle.mc_sockets.specs.declared.connection.Parting.TheVariants as parting
 
--- the place of a reason for which a connection is closed, among all
+-- the place of a reason of a close, among all
 abbrev pub parting_place : Parting → ℕ
 parting_place parting.OneTooMany = 0
 parting_place parting.NoDescriptor = 1
@@ -18,3 +18,4 @@ parting_place parting.Hoarding = 9
 parting_place parting.LineTooLong = 10
 parting_place parting.Stopped = 11
 parting_place parting.OutOfMemory = 12
+parting_place parting.OtherProtocol = 13

@@ -37,6 +37,11 @@ HasLasted look is_so seen result sees =
 abbrev pub seen_waiting : Readiness → Option Instant → Option Instant
 seen_waiting known seen = if known.is_fresh then None else seen
 
+-- A link waits for its client: for input, or for room in the socket. One that waits though there may be both
+-- waits for memory, and its client isn't idle.
+abbrev pub waits_for_client : Readiness → Bool
+waits_for_client known = known.waits && not (known.reads && known.writes)
+
 -- its write side is shut down, and it hasn't lingered for long yet
 abbrev pub lingers : Readiness → Bool
 lingers known = is_some known.dropped && not known.has_lingered
@@ -61,7 +66,7 @@ pub record Answers {F : Type 0} (known : F → Option Readiness) (happening : Ha
   pub happens : HappensTo known happening IsFull old new old_names new_names
   pub left : WasDropped (known old.readiness) answer
 
--- what a report tells happens to the link of a record; the answer is whether the link was dropped
+-- the link of a record takes a report; the answer is whether the link was dropped
 abbrev pub Notes : {F : Type 0} → (known : F → Option Readiness) → Report → (IsFull : Type 0) → (answer : Bool) → (old new : LinkRecord F) → (old_names new_names : List ℕ) → Type 0
 Notes known report = Answers known (Reported report)
 
@@ -70,14 +75,14 @@ pub record HappensIf {F : Type 0} (known : F → Option Readiness) (happening : 
   pub own : old.number ≡ number → Happens happening number IsFull (known old.readiness) (known new.readiness) old_names new_names
   pub others : (old.number ≡ number → ⊥) → (new ≡ old) × (new_names ≡ old_names)
 
--- A connection ends if its link has waited for the limit, and else only the look is noted. The answer is whether it ended
--- and its link was dropped.
+-- A connection ends if its link has waited for its client for the limit, and else only the look is noted. The answer
+-- is whether it ended and its link was dropped.
 pub record EndsIfIdle {F : Type 0} (known : F → Option Readiness) (look : Look) (parting : Parting) (IsFull : Type 0)
     (answer : Bool) (old new : LinkRecord F) (old_names new_names : List ℕ) : Type 0 where
   pub has_waited : Bool
   pub seen : LinkRecord F
   pub number : new.number ≡ old.number
-  pub finds : Finds (known old.readiness) look (λ stood. stood.waits) (λ stood. seen_waiting stood old.waits_since) has_waited seen.waits_since
+  pub finds : Finds (known old.readiness) look (λ stood. waits_for_client stood) (λ stood. seen_waiting stood old.waits_since) has_waited seen.waits_since
   pub ends : MatchBool has_waited (HappensTo known (Ended parting) IsFull seen new old_names new_names) ((new ≡ seen) × (new_names ≡ old_names))
   pub left : MatchBool has_waited (WasDropped (known seen.readiness) answer) (answer ≡ false)
 

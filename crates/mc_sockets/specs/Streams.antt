@@ -3,7 +3,7 @@ use Rattle.std.specs.Prelude.{◌≡◌, ◌≢◌, ◌<◌, ◌≤◌, ℕ, Lis
 use Rattle.std.specs.IoError.{error_kind}
 use Rattle.std.specs.declared.io.Error.{Error}
 use Rattle.std.specs.declared.io.ErrorKind.TheVariants as io_kind
-use Rattle.mc_guests.specs.Links.{grown}
+use Rattle.mc_links.specs.Links.{grown}
 use Rattle.mc_time.specs.Chains.{Repeats}
 use Rattle.mc_sockets.specs.declared.stream.Hindrance.{Hindrance}
 use Rattle.mc_sockets.specs.declared.stream.Hindrance.TheVariants.{WouldBlock, Interrupted, Fault}
@@ -12,8 +12,8 @@ use Rattle.mc_sockets.specs.declared.stream.Received.TheVariants as received
 use Rattle.mc_sockets.specs.declared.stream.Sent.{Sent}
 use Rattle.mc_sockets.specs.declared.stream.Sent.TheVariants as sent
 
--- The bytes that a stream will still give, and those that it gave and took until now; `None` where
--- they are unspecified.
+-- The bytes that a stream will still give, the bytes that it gave, and the bytes that it took;
+-- `None` where they are unspecified.
 pub record Flow : Type 0 where
   pub left : Option (List ℕ)
   pub given : Option (List ℕ)
@@ -29,8 +29,8 @@ pub record GivesFront (bytes : List ℕ) (old new : Flow) : Type 0 where
   pub given : new.given ≡ grown old.given bytes
   pub taken : new.taken ≡ old.taken
 
--- what a read does to the bytes, by its answer: those that came are at the front of the piece, and no
--- other answer moves a byte
+-- what a read does to the bytes, by its answer: the bytes that came are at the front of the piece, and
+-- no other answer moves a byte
 abbrev pub MovesIn : Flow → List ℕ → Received → Flow → Type 0
 MovesIn old piece (received.Bytes n) new = (n ≤ length piece) × GivesFront (take n piece) old new
 MovesIn old piece received.End new = new ≡ old

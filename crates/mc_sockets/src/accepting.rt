@@ -209,7 +209,7 @@ impl ListenerWithSpare {
         drop(spare);
         let began = Instant::now(rt).ok();
         for _look in 0..LOOKS {
-            if crowd.open() == 0 || is_past(rt, began) {
+            if crowd.open().saturating_add(crowd.lingering()) == 0 || is_past(rt, began) {
                 return;
             }
             pause(rt);

@@ -128,6 +128,11 @@ impl Arrivals {
         }
     }
 
+    /// Returns the number of workers.
+    pub fn workers(&self) -> usize {
+        self.inboxes.len()
+    }
+
     /// Deals a connection to worker `turn`, wakes a worker, and returns the next worker.
     ///
     /// It wakes that worker if it rests, and otherwise another one that rests.

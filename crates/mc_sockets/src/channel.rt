@@ -12,8 +12,9 @@ use crate::connection::{Parting, Registration};
 use crate::dropping::drop_input;
 use crate::meter::{Meter, SharedMeter};
 use crate::readiness::{Readiness, ReadinessCell, SharedReadiness};
+use crate::screen::{Peer, Screen};
 use crate::stream::{Hindrance, Received, Sent, Stream, receive_again, send_again};
-use mc_guests::{Got, Link, LinkFault, Took};
+use mc_links::{Got, Link, LinkFault, Took};
 use mc_metrics::Counted;
 use mio::net::TcpStream;
 use std::net::Shutdown;
@@ -45,6 +46,9 @@ struct Calls {
     /// The length of its piece or bytes.
     requested: usize,
 }
+
+/// The channel of a socket behind its screen.
+pub type ScreenedChannel = Screen<SocketChannel>;
 
 /// The channel of a socket, whose readiness and meter its worker shares.
 pub type SocketChannel = Channel<TcpStream, SharedReadiness, SharedMeter>;
@@ -120,7 +124,7 @@ fn send_by<S: Stream>(stream: &mut S, known: Readiness, first: &[u8], second: &[
 
 impl<S: Stream + Drop, F: ReadinessCell + Drop, M: Meter + Drop> Link for Channel<S, F, M> {
     ghost use Rattle.std.specs.Prelude.{◌<◌, ◌-◌, ◌^◌, [], Ok};
-    ghost use Rattle.mc_guests.specs.Links.{Gives, IsWrite, OffersFront};
+    ghost use Rattle.mc_links.specs.Links.{Gives, IsWrite, OffersFront};
     ghost use Rattle.mc_sockets.specs.Channels.{link_of, at, AnswersRead, AnswersWrite, GivesLeft};
     ghost use Rattle.mc_sockets.specs.Channels.{CountsRead, CountsWrite};
 
@@ -238,6 +242,12 @@ impl<S: Stream + Drop, F: ReadinessCell + Drop, M: Meter + Drop> Link for Channe
     }
 }
 
+impl<S: Stream + Drop, F: ReadinessCell + Drop, M: Meter + Drop> Peer for Channel<S, F, M> {
+    fn note_other(&mut self) {
+        self.entry.note(Parting::OtherProtocol);
+    }
+}
+
 impl Channel<TcpStream, SharedReadiness, SharedMeter> {
     /// Shuts down the write side, drops what the client sent, and returns whether that was all.
     ///
@@ -251,8 +261,9 @@ impl Channel<TcpStream, SharedReadiness, SharedMeter> {
         self.drop_input()
     }
 
-    /// Notes that the link was dropped.
+    /// Notes that the link was dropped: the connection lingers.
     pub fn leave(&self) {
+        self.entry.linger();
         self.readiness.set(Readiness {
             leaves: true,
             ..self.readiness.get()

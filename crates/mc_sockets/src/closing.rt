@@ -6,7 +6,7 @@
 use crate::arrivals::Arrivals;
 use crate::link::SocketLink;
 use crate::links::SocketLinks;
-use mc_guests::{Links, Next};
+use mc_links::{Links, Next};
 use std::sync::Wait;
 use std::time::Clock;
 

@@ -1,8 +1,12 @@
 //! Connections, which are counted while they are open, and logged if `verbose` is set.
 //!
 //! A connection is counted from its accept until it is dropped, after the system closed it, so
-//! never more than `-c` are open. One more is accepted, answered with an error and closed. The
-//! reason for its close is kept in its [`Registration`].
+//! never more than `-c` are served. One more is accepted, answered with an error and closed. One
+//! that lingers behind its last answer is counted apart (`yard.rt`). The reason for a close is kept
+//! in its [`Registration`].
+
+ghost use Rattle.std.specs.Prelude.{◌≡◌};
+ghost use Rattle.mc_sockets.specs.Crowds.{most_lingering};
 
 use crate::lines::LogLine;
 use crate::log::Log;
@@ -11,11 +15,18 @@ use mc_metrics::count_at;
 use mio::net::TcpStream;
 use std::alloc::{AllocError, Global};
 use std::array;
+use std::cell::Cell;
 use std::io::Write;
 use std::net::SocketAddr;
 use std::sync::Arc;
 use std::sync::atomic::{AtomicU32, AtomicU64, Ordering};
 use std::time::Clock;
+
+/// The descriptors that are left for anything but connections.
+const OTHERS: u64 = 64;
+
+/// How many connections of a worker may linger at least.
+const LEAST_LINGERING: usize = 16;
 
 /// The error for a connection above the limit.
 const TOO_MANY: &[u8] = b"ERROR Too many open connections\r\n";
@@ -47,10 +58,12 @@ pub enum Parting {
     Stopped,
     /// Its session was refused memory.
     OutOfMemory,
+    /// The client speaks HTTP or memcached's binary protocol.
+    OtherProtocol,
 }
 
 /// The number of reasons.
-pub const PARTINGS: usize = 13;
+pub const PARTINGS: usize = 14;
 
 /// The reply to a line that is too long. Nothing is sent behind it.
 const TOO_LONG: &[u8] = b"CLIENT_ERROR line too long\r\n";
@@ -82,6 +95,7 @@ impl Parting {
             Parting::LineTooLong => "a line was too long",
             Parting::Stopped => "the program was asked to end",
             Parting::OutOfMemory => "out of memory",
+            Parting::OtherProtocol => "the client speaks another protocol",
         }
     }
 }
@@ -91,7 +105,11 @@ impl Parting {
 pub struct Crowd {
     /// The limit of open connections.
     most: u32,
+    /// The limit of those that linger beside them.
+    most_lingering: u32,
+    /// The open connections, without those that linger.
     open: AtomicU32,
+    lingering: AtomicU32,
     /// The number of accepted connections.
     accepted: AtomicU64,
     /// The number of closed connections by reason.
@@ -103,15 +121,25 @@ pub struct Crowd {
 impl Crowd {
     ghost use Rattle.std.specs.Prelude.{◌≡◌, ◌≤◌, ◌↔◌, IfOk, IsTrue};
     ghost use Rattle.std.specs.Arc.{arc_value};
-    ghost use Rattle.mc_sockets.specs.Crowds.{most_of};
+    ghost use Rattle.mc_sockets.specs.Crowds.{most_lingering, most_lingering_of, most_of, share};
 
-    /// Creates the connection counter. The only error is a refused allocation.
-    pub fn new(alloc: Global, most: u32, log: Option<Arc<Log>>) -> Result<Arc<Crowd>, AllocError>
-        ensures { IfOk result (λ crowd. most_of (arc_value crowd) ≡ most) }
+    /// Creates the connection counter, where the process may have this many descriptors. The only
+    /// error is a refused allocation.
+    pub fn new(
+        alloc: Global,
+        most: u32,
+        descriptors: Option<u64>,
+        log: Option<Arc<Log>>,
+    ) -> Result<Arc<Crowd>, AllocError>
+        ensures most { IfOk result (λ crowd. most_of (arc_value crowd) ≡ most) }
+        ensures lingering { IfOk result (λ crowd.
+            most_lingering_of (arc_value crowd) ≡ most_lingering most descriptors) }
     {
         let crowd = Crowd {
             most,
+            most_lingering: most_lingering(most, descriptors),
             open: AtomicU32::new(0),
+            lingering: AtomicU32::new(0),
             accepted: AtomicU64::new(0),
             closed: array::from_fn(|_at| AtomicU64::new(0)),
             log,
@@ -126,9 +154,21 @@ impl Crowd {
         self.most
     }
 
-    /// Returns the number of open connections.
+    /// Returns how many of the connections of one of `workers` may linger.
+    pub fn lingering_share(&self, workers: usize) -> usize
+        ensures { result ≡ share (most_lingering_of self.now) workers }
+    {
+        (self.most_lingering as usize / workers.max(1)).max(LEAST_LINGERING)
+    }
+
+    /// Returns the number of open connections, without those that linger.
     pub fn open(&self) -> u32 {
         self.open.load(Ordering::SeqCst)
+    }
+
+    /// Returns the number of connections that linger behind their last answer.
+    pub fn lingering(&self) -> u32 {
+        self.lingering.load(Ordering::SeqCst)
     }
 
     /// Returns the number of accepted connections.
@@ -169,9 +209,20 @@ impl Crowd {
         count >= self.most
     }
 
-    /// Uncounts a connection that was closed for this reason.
-    fn leave(&self, number: u64, parting: Parting) {
+    /// Counts an open connection as one that lingers.
+    fn linger(&self) {
+        self.lingering.fetch_add(1, Ordering::SeqCst);
         self.open.fetch_sub(1, Ordering::SeqCst);
+    }
+
+    /// Uncounts a connection that was closed for this reason, and that lingered or didn't.
+    fn leave(&self, number: u64, parting: Parting, lingered: bool) {
+        let count = if lingered {
+            &self.lingering
+        } else {
+            &self.open
+        };
+        count.fetch_sub(1, Ordering::SeqCst);
         if let Some(count) = self.closed.get(parting.place()) {
             count.fetch_add(1, Ordering::SeqCst);
         }
@@ -181,11 +232,25 @@ impl Crowd {
     }
 }
 
+/// Returns how many connections may linger beside `most` open ones: as many, if descriptors are left
+/// for them, and a quarter at least.
+fn most_lingering(most: u32, descriptors: Option<u64>) -> u32
+    ensures { result ≡ most_lingering most descriptors }
+{
+    let Some(descriptors) = descriptors else {
+        return most;
+    };
+    let left = descriptors.saturating_sub(u64::from(most).saturating_add(OTHERS));
+    (left.min(u64::from(most)) as u32).max(most / 4)
+}
+
 /// The entry of a connection among the open ones. It is counted until it is dropped.
 pub struct Registration {
     crowd: Arc<Crowd>,
     number: u64,
     parting: Parting,
+    /// Whether it lingers behind its last answer.
+    lingers: Cell<bool>,
 }
 
 impl Registration {
@@ -203,7 +268,21 @@ impl Registration {
             crowd,
             number,
             parting,
+            lingers: Cell::new(false),
         }
+    }
+
+    /// Counts it as one that lingers, once.
+    pub fn linger(&self) {
+        if !self.lingers.get() {
+            self.lingers.set(true);
+            self.crowd.linger();
+        }
+    }
+
+    /// Returns how many of the connections of one of `workers` may linger.
+    pub fn lingering_share(&self, workers: usize) -> usize {
+        self.crowd.lingering_share(workers)
     }
 
     /// Returns whether it exceeds the limit of connections.
@@ -237,8 +316,9 @@ impl Drop for Registration {
             crowd,
             number,
             parting,
+            lingers,
         } = self;
-        crowd.leave(number, parting);
+        crowd.leave(number, parting, lingers.get());
     }
 }
 

@@ -2,7 +2,8 @@
 //!
 //! A connection is idle since a look at it and not since its event, so an event reads no clock.
 //! About once a second a worker looks at its places, a few at a time. An idle connection ends as if
-//! its client had closed it.
+//! its client had closed it. A connection with unread input, whose guest waits for memory, isn't
+//! idle (`place.rt`).
 ghost use Rattle.std.specs.Prelude.{◌≡◌, ◌↔◌, ◌<◌, ◌≤◌, ◌+◌, ◌*◌, Some, None, IfSome, IsNone, if◌then◌else◌};
 ghost use Rattle.std.specs.Duration.{as_nanos};
 ghost use Rattle.mc_sockets.specs.Watches.{due, is_too_soon, turn, worth};

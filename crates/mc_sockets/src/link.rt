@@ -3,9 +3,10 @@
 //! A socket's link shows no bytes to contracts: the system's calls return counts only. Contracts
 //! see how often it failed and whether it is at its end.
 
-use crate::channel::SocketChannel;
+use crate::channel::{ScreenedChannel, SocketChannel};
+use crate::screen::Screen;
 use crate::yard::SocketYard;
-use mc_guests::{Gathering, Got, Link, LinkFault, Took};
+use mc_links::{Gathering, Got, Link, LinkFault, Took};
 use std::alloc::{AllocFailed, Global};
 use std::cell::RefCell;
 use std::rc::Rc;
@@ -21,7 +22,7 @@ pub struct SocketLink {
 
 /// What a link has on the heap.
 struct LinkParts {
-    gathering: Gathering<SocketChannel>,
+    gathering: Gathering<ScreenedChannel>,
     place: usize,
     yard: Rc<RefCell<SocketYard>>,
 }
@@ -36,7 +37,7 @@ impl SocketLink {
         yard: Rc<RefCell<SocketYard>>,
     ) -> Option<SocketLink> {
         let parts = LinkParts {
-            gathering: Gathering::new(alloc, channel),
+            gathering: Gathering::new(alloc, Screen::new(channel)),
             place,
             yard,
         };
@@ -51,7 +52,7 @@ impl SocketLink {
 }
 
 impl Link for SocketLink {
-    ghost use Rattle.mc_guests.specs.Gathered.{whole};
+    ghost use Rattle.mc_links.specs.Gathered.{whole};
 
     ghost shown = { λ s. whole s.parts.value.gathering };
 

@@ -16,7 +16,7 @@ use crate::meter::SharedMeter;
 use crate::readiness::{Readiness, SharedReadiness};
 use crate::seats::{Patrol, Rests, Seats, token_of};
 use crate::yard::SocketYard;
-use mc_guests::{Links, Next};
+use mc_links::{Links, Next};
 use mc_metrics::Counters;
 use mio::{Events, Interest, Poll, Token};
 use std::alloc::Global;
@@ -57,10 +57,12 @@ struct LinkContext {
 }
 
 impl LinkContext {
-    /// Makes what the first link shares with later ones. The only error is a refused allocation.
-    fn new(alloc: Global) -> Option<LinkContext> {
+    /// Makes what the first link shares with later ones: this many of them may linger. The only error
+    /// is a refused allocation.
+    fn new(alloc: Global, lingering: usize) -> Option<LinkContext> {
+        let yard = SocketYard::new(alloc, lingering);
         Some(LinkContext {
-            yard: Rc::new(alloc, RefCell::new(SocketYard::new(alloc))).ok()?,
+            yard: Rc::new(alloc, RefCell::new(yard)).ok()?,
             moved: Rc::new(alloc, Cell::new(0)).ok()?,
         })
     }
@@ -272,7 +274,8 @@ impl<'a, R: Wait + Clock> SocketLinks<'a, R> {
         let _ = connection.stream.set_nodelay(true);
         let readiness = Rc::new(self.alloc, Cell::new(Readiness::NEW)).ok()?;
         let counts = self.counts.clone().ok()?;
-        let LinkContext { yard, moved } = self.shared_parts()?;
+        let lingering = connection.entry.lingering_share(self.arrivals.workers());
+        let LinkContext { yard, moved } = self.shared_parts(lingering)?;
         let meter = SharedMeter::new(moved, counts);
         let at = self.settle(&yard, readiness.clone().ok()?)?;
         let all = Interest::READABLE | Interest::WRITABLE | Interest::PRIORITY;
@@ -313,12 +316,12 @@ impl<'a, R: Wait + Clock> SocketLinks<'a, R> {
         Some(at)
     }
 
-    /// Returns what the links share, and makes it for the first one.
-    fn shared_parts(&mut self) -> Option<LinkContext> {
+    /// Returns what the links share, and makes it for the first one: this many may linger.
+    fn shared_parts(&mut self, lingering: usize) -> Option<LinkContext> {
         if let Some(common) = &self.common {
             return common.another();
         }
-        let common = LinkContext::new(self.alloc)?;
+        let common = LinkContext::new(self.alloc, lingering)?;
         self.common = Some(common.another()?);
         Some(common)
     }

@@ -39,6 +39,7 @@ impl<F: ReadinessCell + Drop> LinkRecord<F> {
     ghost use Rattle.mc_sockets.specs.Places.{Answers, AsksIfUnheard, AsksOrCloses, EndsIfIdle};
     ghost use Rattle.mc_sockets.specs.Places.{Finds, Happens, HappensIf, HappensTo, NamesIf};
     ghost use Rattle.mc_sockets.specs.Places.{Notes, WasDropped, lingers, seen_waiting};
+    ghost use Rattle.mc_sockets.specs.Places.{waits_for_client};
 
     /// Returns the record of a new link with this number.
     pub fn new(number: u64, readiness: F) -> LinkRecord<F>
@@ -229,14 +230,14 @@ impl<F: ReadinessCell + Drop> LinkRecord<F> {
 
     /// Returns whether it was idle for the look's limit, with no event since.
     ///
-    /// If it waits and wasn't seen waiting before, it is now.
+    /// If it waits for its client and wasn't seen waiting before, it is now.
     fn has_waited(&mut self, look: Look) -> bool
-        ensures finds { Finds (F.known self.old.readiness) look (λ known. known.waits)
+        ensures finds { Finds (F.known self.old.readiness) look (λ known. waits_for_client known)
             (λ known. seen_waiting known self.old.waits_since) result self.new.waits_since }
         ensures number { self.new.number ≡ self.old.number }
     {
         let known = self.readiness.look();
-        if !known.waits {
+        if !known.waits_for_client() {
             return false;
         }
         if known.is_fresh {

@@ -9,6 +9,7 @@
 //! change for which a link waits is reported.
 ghost use Rattle.std.specs.Prelude.{◌≡◌};
 ghost use Rattle.mc_sockets.specs.Readiness.{after, going, report_of, takes_all};
+ghost use Rattle.mc_sockets.specs.Places.{waits_for_client};
 ghost use Rattle.mc_sockets.specs.Readiness.{Read, Wrote, Paused, Reported, AskedAgain, Ended};
 
 use crate::connection::Parting;
@@ -89,6 +90,15 @@ impl Readiness {
         has_lingered: false,
         ends: None,
     };
+
+    /// Returns whether its link waits for its client: for input, or for room in the socket.
+    ///
+    /// One that waits though there may be both waits for memory. Its input stays unread meanwhile.
+    pub fn waits_for_client(self) -> bool
+        ensures { result ≡ waits_for_client self }
+    {
+        self.waits && !(self.reads && self.writes)
+    }
 
     /// Returns what is known after a read into a piece of `room` bytes.
     pub fn after_read(self, answer: Received, room: usize) -> Readiness

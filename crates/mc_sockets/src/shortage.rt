@@ -1,7 +1,7 @@
 //! The full notice: one line a minute while steps are refused for want of a chunk.
 
 use crate::log::Log;
-use mc_guests::{Outcome, Tally};
+use mc_links::{Outcome, Tally};
 use mc_protocol::{CHUNK_HEAD, KeyStep, Verb};
 use std::sync::atomic::{AtomicU64, Ordering};
 

@@ -4,14 +4,15 @@
 //! its link: `quit` behind many answers loses none. Then the write side is shut down, and what the
 //! client sends on is dropped until it ends, because a close with unread input resets the
 //! connection and loses answers. After 1 MiB, or 2 seconds (`links.rt`), it is closed all the same.
+//! So is the one that lingers longest if one more than a limit would linger.
 //!
 //! A place is free, or a link has it, or what a link left lingers there. It is proved for whatever
 //! may linger.
 ghost use Rattle.std.specs.Prelude.{◌≡◌, ◌↔◌, IfSome, IsTrue, Some};
 ghost use Rattle.slab.specs.Slab.{get, with_value};
 
-use crate::channel::SocketChannel;
-use mc_guests::Gathering;
+use crate::channel::ScreenedChannel;
+use mc_links::Gathering;
 use slab::Slab;
 use std::alloc::{AllocError, Global};
 
@@ -42,7 +43,7 @@ pub trait Lingering {
 }
 
 /// Output that a link gathered. What its channel answers is unspecified.
-impl Lingering for Gathering<SocketChannel> {
+impl Lingering for Gathering<ScreenedChannel> {
     ghost use Rattle.std.specs.Prelude.{⊤};
 
     ghost looks = { λ _ _ _. ⊤ };
@@ -54,7 +55,7 @@ impl Lingering for Gathering<SocketChannel> {
     /// Returns whether nothing is left to do: all was sent and the client sends no more, or the
     /// channel failed or is to end.
     fn is_done(&mut self) -> bool {
-        let channel = self.link();
+        let channel = self.link().link();
         channel.is_over() || self.is_empty() && channel.has_drained()
     }
 
@@ -64,7 +65,7 @@ impl Lingering for Gathering<SocketChannel> {
     }
 
     fn leave(&mut self) {
-        self.link().leave();
+        self.link().link().leave();
     }
 }
 
@@ -96,23 +97,33 @@ impl<L: Lingering + Drop> YardSpot<L> {
 pub struct Yard<L: Lingering + Drop> {
     alloc: Global,
     spots: Slab<YardSpot<L>>,
+    /// The places at which something lingers, that of the longest first.
+    queue: Vec<usize>,
+    /// How many may linger.
+    most: usize,
 }
 
 /// The yard of a worker's sockets.
-pub type SocketYard = Yard<Gathering<SocketChannel>>;
+pub type SocketYard = Yard<Gathering<ScreenedChannel>>;
 
 impl<L: Lingering + Drop> Yard<L> {
     ghost use Rattle.std.specs.Prelude.{ℕ};
+    ghost use Rattle.std.specs.Prelude.{[]};
     ghost use Rattle.mc_sockets.specs.Yards.{place_at, Changes, Free, InUse, TakesIn, Stays};
-    ghost use Rattle.mc_sockets.specs.Yards.{HasSent, SendsRest};
+    ghost use Rattle.mc_sockets.specs.Yards.{HasSent, ClosesLongest, SendsRest, without};
 
-    /// Makes a yard whose places are all free. It takes no memory.
-    pub fn new(alloc: Global) -> Yard<L>
-        ensures { (place : ℕ) → place_at result.spots place ≡ Free }
+    /// Makes a yard whose places are all free, in which at most this many linger. It takes no
+    /// memory.
+    pub fn new(alloc: Global, most: usize) -> Yard<L>
+        ensures free { (place : ℕ) → place_at result.spots place ≡ Free }
+        ensures queue { result.queue.items ≡ [] }
+        ensures most { result.most ≡ most }
     {
         Yard {
             alloc,
             spots: Slab::new(alloc),
+            queue: Vec::new(alloc),
+            most,
         }
     }
 
@@ -121,20 +132,20 @@ impl<L: Lingering + Drop> Yard<L> {
         ensures was_free { IfSome result (λ place. place_at self.old.spots place ≡ Free) }
         ensures taken { IfSome result (λ place.
             Changes self.old.spots self.new.spots place InUse) }
+        ensures queue { self.new.queue.items ≡ self.old.queue.items }
     {
         self.spots.insert(YardSpot::InUse).ok()
     }
 
     /// Takes in what a link left that is dropped.
     ///
-    /// The place is free if nothing is left to do; else what the link left lingers there. If memory
-    /// is refused, the connection is closed and the place is free. Nothing happens if no link has
-    /// the place.
+    /// The place is free if nothing is left to do; else what the link left lingers there, last in
+    /// the queue. If more linger than may, the first in the queue is closed. If memory is refused,
+    /// the connection is closed and the place is free. Nothing happens if no link has the place.
     pub fn take_in(&mut self, place: usize, one: L) -> Result<(), AllocError>
         ensures takes { place_at self.old.spots place ≡ InUse →
-            TakesIn L.looks L.leaves place one result self.old.spots self.new.spots }
-        ensures others { (place_at self.old.spots place ≡ InUse → ⊥) →
-            self.new.spots ≡ self.old.spots }
+            TakesIn L.looks L.leaves place one result self.old self.new }
+        ensures others { (place_at self.old.spots place ≡ InUse → ⊥) → self.new ≡ self.old }
     {
         let mut one = one;
         if !self.is_in_use(place) {
@@ -145,17 +156,38 @@ impl<L: Lingering + Drop> Yard<L> {
             return Ok(());
         }
         one.leave();
-        self.keep(place, one)
+        let kept = self.keep(place, one);
+        self.close_longest();
+        kept
     }
 
     /// Sends what is left at a place, and frees the place if nothing is left to do then.
     pub fn send_rest(&mut self, place: usize)
-        ensures { SendsRest L.sends place (place_at self.old.spots place) self.old.spots
-            self.new.spots }
+        ensures { SendsRest L.sends place (place_at self.old.spots place) self.old self.new }
     {
         if self.has_sent(place) {
             self.free(place);
+            self.forget(place);
         }
+    }
+
+    /// Closes the one that lingers longest if more linger than may.
+    fn close_longest(&mut self)
+        ensures { ClosesLongest self.old self.new }
+    {
+        if self.queue.len() <= self.most {
+            return;
+        }
+        let longest = self.queue.remove(0);
+        self.free(longest);
+    }
+
+    /// Takes a place out of the queue.
+    fn forget(&mut self, place: usize)
+        ensures same { self.new ≡ record self.old { queue = self.new.queue } }
+        ensures queue { self.new.queue.items ≡ without place self.old.queue.items }
+    {
+        self.queue.retain(|at| *at != place);
     }
 
     /// Returns whether a link has a place.
@@ -170,22 +202,29 @@ impl<L: Lingering + Drop> Yard<L> {
 
     /// Frees a place. What lingers there is closed.
     pub fn free(&mut self, place: usize)
-        ensures { Changes self.old.spots self.new.spots place Free }
+        ensures freed { Changes self.old.spots self.new.spots place Free }
+        ensures same { self.new ≡ record self.old { spots = self.new.spots } }
     {
         let _ = self.spots.try_remove(place);
     }
 
-    /// Keeps what a link left at its place, and frees the place if memory is refused.
+    /// Keeps what a link left at its place, last in the queue, and frees the place if memory is
+    /// refused.
     fn keep(&mut self, place: usize, one: L) -> Result<(), AllocError>
         requires { place_at self.old.spots place ≡ InUse }
-        ensures { Stays (λ old new. new ≡ old) place one result self.old.spots self.new.spots }
+        ensures { Stays (λ old new. new ≡ old) place one result self.old self.new }
     {
+        if self.queue.push(place).is_err() {
+            self.free(place);
+            return Err(AllocError);
+        }
         match Box::new(self.alloc, one) {
             Ok(one) => {
                 self.set(place, YardSpot::Lingers(one));
                 Ok(())
             }
             Err(_) => {
+                self.queue.pop();
                 self.free(place);
                 Err(AllocError)
             }
@@ -195,7 +234,8 @@ impl<L: Lingering + Drop> Yard<L> {
     /// Sets a place that isn't free.
     fn set(&mut self, place: usize, spot: YardSpot<L>)
         requires { (place_at self.old.spots place ≡ Free) → ⊥ }
-        ensures { self.new.spots ≡ with_value self.old.spots place spot }
+        ensures set { self.new.spots ≡ with_value self.old.spots place spot }
+        ensures same { self.new ≡ record self.old { spots = self.new.spots } }
     {
         if let Some(at) = self.spots.get_mut(place) {
             *at = spot;
@@ -206,8 +246,9 @@ impl<L: Lingering + Drop> Yard<L> {
     ///
     /// It returns false if nothing lingers there.
     fn has_sent(&mut self, place: usize) -> bool
-        ensures { HasSent L.sends place (place_at self.old.spots place) result self.old.spots
+        ensures sent { HasSent L.sends place (place_at self.old.spots place) result self.old.spots
             self.new.spots }
+        ensures same { self.new ≡ record self.old { spots = self.new.spots } }
     {
         match self.spots.get_mut(place) {
             Some(spot) => spot.send_rest(),

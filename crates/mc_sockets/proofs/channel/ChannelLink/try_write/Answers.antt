@@ -1,5 +1,5 @@
 use Rattle.std.proofs.Common.{subst, append-nil, refl}
-use Rattle.mc_guests.specs.Links.{IsWrite}
+use Rattle.mc_links.specs.Links.{IsWrite}
 use Rattle.mc_sockets.specs.Channels.{AnswersWrite, at, link_of}
 use Rattle.mc_sockets.proofs.channel.ChannelLink.try_write.Goals as goal
 
