@@ -4,13 +4,13 @@ use Rattle.mc_protocol.specs.declared.step.KeyStep.{KeyStep}
 use Rattle.mc_protocol.specs.declared.step.StepKind.{StepKind}
 use Rattle.mc_protocol.specs.declared.step.StepKind.TheVariants as kind
 use Rattle.mc_protocol.specs.Commands.{kind_of}
-use Rattle.mc_guests.specs.declared.tally.Outcome.{Outcome}
-use Rattle.mc_guests.specs.declared.tally.Outcome.TheVariants as outcome
+use Rattle.mc_links.specs.declared.tally.Outcome.{Outcome}
+use Rattle.mc_links.specs.declared.tally.Outcome.TheVariants as outcome
 use Rattle.mc_metrics.specs.declared.counts.Counted.{Counted}
 use Rattle.mc_metrics.specs.declared.counts.Counted.TheVariants.{GetHit, GetMiss, SetStored, SetNotStored, CasHit, CasMiss, CasBadval, DeleteHit, DeleteMiss, IncrHit, IncrMiss, DecrHit, DecrMiss, TouchHit, TouchMiss, Flush, Refused}
 
--- as what a step of this kind counts that did what it asked for, and as what one for which there was no
--- item, or one in its way; a flush is never in vain
+-- the counter of a step of this kind that succeeded, and of one that found no item, or an item in its
+-- way; a flush always succeeds
 abbrev pub ways_of : StepKind → Counted × Counted
 ways_of kind.Set = (SetStored, SetNotStored)
 ways_of kind.Cas = (CasHit, CasMiss)

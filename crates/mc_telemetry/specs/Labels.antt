@@ -5,8 +5,8 @@ use Rattle.mc_protocol.specs.declared.step.KeyStep.{KeyStep}
 use Rattle.mc_protocol.specs.declared.step.StepKind.{StepKind}
 use Rattle.mc_protocol.specs.declared.step.StepKind.TheVariants as kind
 use Rattle.mc_protocol.specs.Commands.{kind_of}
-use Rattle.mc_guests.specs.declared.tally.Outcome.{Outcome}
-use Rattle.mc_guests.specs.declared.tally.Outcome.TheVariants as outcome
+use Rattle.mc_links.specs.declared.tally.Outcome.{Outcome}
+use Rattle.mc_links.specs.declared.tally.Outcome.TheVariants as outcome
 use Rattle.mc_metrics.specs.declared.counts.Counted.{Counted}
 use Rattle.mc_metrics.specs.declared.counts.Counted.TheVariants as counted
 use Rattle.mc_metrics.specs.declared.family.Family.{Family}

@@ -40,6 +40,7 @@ name_of (figure.Count counted) = count_name counted
 name_of figure.Sets = []
 name_of figure.Stored = codes "memcached_items_total"
 name_of figure.Connections = codes "memcached_current_connections"
+name_of figure.Lingering = codes "mcserver_lingering_connections"
 name_of figure.Accepted = codes "memcached_connections_total"
 name_of figure.Most = codes "memcached_max_connections"
 name_of (figure.Closed place) = closed_name place
@@ -76,7 +77,7 @@ process_name process.Started = codes "process_start_time_seconds"
 process_name process.OpenFds = codes "process_open_fds"
 process_name process.MostFds = codes "process_max_fds"
 
--- the label of a reason for which a connection is closed
+-- the label of a reason of a close
 abbrev pub reason_of : Parting → List ℕ
 reason_of parting.OneTooMany = codes "one_too_many"
 reason_of parting.NoDescriptor = codes "no_descriptor"
@@ -91,13 +92,14 @@ reason_of parting.Hoarding = codes "hoarding"
 reason_of parting.LineTooLong = codes "line_too_long"
 reason_of parting.Stopped = codes "stopped"
 reason_of parting.OutOfMemory = codes "out_of_memory"
+reason_of parting.OtherProtocol = codes "other_protocol"
 
 -- all reasons
 abbrev pub partings : List Parting
 partings =
     parting.OneTooMany ∷ parting.NoDescriptor ∷ parting.NoRoom ∷ parting.Ended ∷ parting.ReadFault
     ∷ parting.WriteFault ∷ parting.SessionOver ∷ parting.Idle ∷ parting.ListenerFailed ∷ parting.Hoarding
-    ∷ parting.LineTooLong ∷ parting.Stopped ∷ parting.OutOfMemory ∷ []
+    ∷ parting.LineTooLong ∷ parting.Stopped ∷ parting.OutOfMemory ∷ parting.OtherProtocol ∷ []
 
 -- the label of the reason with this place
 abbrev pub reason_at : (place : ℕ) → List Parting → List ℕ

@@ -19,7 +19,7 @@ field_of stat field = option_and_then (number_up_to (2 ^ 64 - 1)) (slice_get (fi
 abbrev pub sum_of : (one other : Option ℕ) → Option ℕ
 sum_of one other = option_and_then (λ n. option_map (λ m. min (n + m) (2 ^ 64 - 1)) other) one
 
--- the time for which the process used a processor, in hundredths of a second: its own (field 14), and the system's for it (15)
+-- the processor time of the process, in hundredths of a second: its own (field 14), and the system's for it (15)
 abbrev pub cpu_of : (stat : List ℕ) → Option ℕ
 cpu_of stat = sum_of (field_of stat 14) (field_of stat 15)
 

@@ -2,7 +2,7 @@
 ghost use Rattle.std.specs.Prelude.{◌≡◌};
 ghost use Rattle.mc_telemetry.specs.Counting.{badval_of, counted_as, ways_of};
 
-use mc_guests::Outcome;
+use mc_links::Outcome;
 use mc_metrics::Counted;
 use mc_protocol::{KeyStep, StepKind};
 

@@ -73,10 +73,14 @@ const REASONS: &[(&str, Figure)] = &[
         r#"{reason="out_of_memory"}"#,
         Closed(Parting::OutOfMemory as usize),
     ),
+    (
+        r#"{reason="other_protocol"}"#,
+        Closed(Parting::OtherProtocol as usize),
+    ),
 ];
 
 /// The metrics of a page, in this order.
-pub const FAMILIES: [Family; 42] = [
+pub const FAMILIES: [Family; 43] = [
     Family(
         Gauge,
         "memcached_up",
@@ -110,7 +114,7 @@ pub const FAMILIES: [Family; 42] = [
     Family(
         Gauge,
         "memcached_current_connections",
-        "Open client connections.",
+        "Open client connections that count in -c: all but those that linger behind their last answer.",
         One(Figure::Connections),
     ),
     Family(
@@ -130,6 +134,12 @@ pub const FAMILIES: [Family; 42] = [
         "memcached_max_connections",
         "Limit of open client connections, -c.",
         One(Figure::Most),
+    ),
+    Family(
+        Gauge,
+        "mcserver_lingering_connections",
+        "Client connections that linger behind their last answer, beside those of -c.",
+        One(Figure::Lingering),
     ),
     Family(
         Gauge,

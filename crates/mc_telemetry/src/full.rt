@@ -1,6 +1,6 @@
 //! The report that the store is full.
 
-use mc_slab::{Account, Need};
+use mc_sizes::{Account, Need};
 use std::fmt::{self, Display, Formatter};
 
 /// The chunks that an item needs, and what their class has.

@@ -2,7 +2,7 @@
 ghost use Rattle.std.specs.Prelude.{◌≡◌};
 ghost use Rattle.std.specs.Option.{option_and_then};
 ghost use Rattle.mc_protocol.specs.declared.step.KeyStep.{KeyStep};
-ghost use Rattle.mc_guests.specs.declared.tally.Outcome.{Outcome};
+ghost use Rattle.mc_links.specs.declared.tally.Outcome.{Outcome};
 ghost use Rattle.mc_telemetry.specs.Counting.{counted_as};
 ghost use Rattle.mc_telemetry.specs.Labels.{label_of, shown_as};
 

@@ -8,7 +8,7 @@ use crate::outlet::Outlet;
 use crate::stats::StoreStats;
 use mc_host::{Diagnostics, Level};
 use mc_options::{Endpoints, Options};
-use mc_slab::need_of;
+use mc_sizes::need_of;
 use mc_sockets::{Log, LogLine, WaitingLine, Wanted};
 use std::io::{self, Stderr};
 use std::net::IpAddr;

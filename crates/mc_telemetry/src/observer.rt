@@ -6,7 +6,7 @@ use mc_metrics::{
     BuffersReading, COUNTED, Counters, PageValues, ProcessReading, REFUSED, RefusedReading,
     SlabReading,
 };
-use mc_slab::{PAGE_SIZE, class_of};
+use mc_sizes::{PAGE_SIZE, class_of};
 use mc_sockets::{Crowd, PARTINGS};
 use std::alloc::{AllocError, AllocGlobal, Global};
 use std::fs::Files;
@@ -55,6 +55,7 @@ impl Observer {
             closed: self.closed_counts(alloc)?,
             uptime: self.uptime(rt),
             connections: u64::from(self.crowd.open()),
+            lingering: u64::from(self.crowd.lingering()),
             accepted: self.crowd.accepted_count(),
             most: u64::from(self.crowd.most()),
             tables,

@@ -1,7 +1,7 @@
 //! What telemetry asks of the store.
 
 use mc_metrics::TablesReading;
-use mc_slab::{Account, Class};
+use mc_sizes::{Account, Class};
 use std::sync::Wait;
 
 /// A store that reports what it holds.

@@ -4,10 +4,10 @@
 //! command costs one addition.
 
 use crate::counting::counted_as;
-use mc_guests::{Outcome, Tally};
+use mc_links::{Outcome, Tally};
 use mc_metrics::{Counted, Counters};
 use mc_protocol::KeyStep;
-use mc_slab::need_of;
+use mc_sizes::need_of;
 use mc_sockets::{Refusals, Wanted};
 
 /// Counts a worker's steps and what its connections hold, and notes in the log each step that is
