@@ -1,22 +1,13 @@
 //! `mcserver`: a cache server that speaks memcached's text protocol.
 //!
-//! The replies to clients are decided and proved in the crates below: the grammar in `mc_parse`,
-//! the protocol's table in `mc_protocol`, the store for many threads in `mc_shared`, the loop of a
-//! worker in `mc_workers`. This crate joins them to a process with sockets and threads. With
-//! `--stdin` it serves one session over standard input and output (`serving.rt`); otherwise it
-//! listens (`listening.rt`).
+//! The program reads its command line, does what it asks for, and ends with a status and, where
+//! there is something to say, a line on standard error. What it does is a run of `mc_run`; how it
+//! ends is the table of ends in `mc_host`.
 //!
-//! Connections are accepted, dealt to workers and made links by `mc_sockets`. Metrics and the lines
-//! on standard error are in `mc_telemetry`. This crate has what is made before the first thread
-//! starts (`plan.rt`), the threads (`threads.rt`), and a thread's caller of the store
-//! (`client.rt`).
+//! Contracts state that the status is that of the end. Which words ask for what is proved in
+//! `mc_options`, and the texts are tested (tests/rows).
 //!
-//! A socket's bytes and the scheduling of threads are unspecified, so contracts cover the rest:
-//! that a server is planned by its options, and ends only as they let it; that `--stdin` serves a
-//! session of a new world; and that the status is that of the end. The rest is tested over sockets
-//! (tests/sockets); docs/GAPS.md lists what isn't proved.
-//!
-//! Begin with `running.rt`, `serving.rt` and `listening.rt`.
+//! Begin with `main.rt`, and then `mc_run`.
 //!
 //! Tests: mc_server_tests, src/tests/tcp_tests.rt.
 #![tactic(auto)]
@@ -25,18 +16,10 @@ ghost use Rattle.std.specs.Prelude.{◌≡◌};
 ghost use Rattle.std.specs.Process.{exit_status};
 ghost use Rattle.mc_host.specs.Ends.{status_of};
 
-mod client;
-mod clock;
-mod listening;
-mod plan;
-mod running;
-mod serving;
-mod threads;
-
 use clap::error::ErrorKind;
 use mc_host::{Denial, Diagnostics, End, Level, ListenFault, ask_server, has_small_stack};
 use mc_options::{Options, Unfit};
-use running::run;
+use mc_run::run;
 use std::process::ExitCode;
 use std::{env, io};
 

@@ -8,7 +8,7 @@ use mc_guests::Tally;
 use mc_hop::Fnv;
 use mc_metrics::TablesReading;
 use mc_shared::{Caller, Shared};
-use mc_slab::{Account, Class};
+use mc_sizes::{Account, Class};
 use mc_sockets::ClosingLinks;
 use mc_telemetry::StoreStats;
 use mc_time::Clock;
@@ -30,7 +30,7 @@ pub struct StoreClient<'a> {
 
 impl<'a> Model for StoreClient<'a> {
     ghost use Rattle.std.specs.Prelude.{◌≡◌};
-    ghost use Rattle.mc_shelf.specs.declared.settings.Settings.{Settings};
+    ghost use Rattle.mc_sizes.specs.declared.settings.Settings.{Settings};
 
     ghost Value = { Settings };
 

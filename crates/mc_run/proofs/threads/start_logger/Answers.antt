@@ -4,8 +4,8 @@ use Rattle.std.proofs.Common.{rules}
 use Rattle.mc_shared.proofs.Sent.{tuple_send, lent}
 use Rattle.mc_telemetry.proofs.logger.Notice.TheSendSync as notice
 use Rattle.mc_telemetry.proofs.outlet.Outlet.TheSendSync as outlet
-use Rattle.mc_server.proofs.Sent.{client_send, common_lent}
-use Rattle.mc_server.proofs.threads.start_logger.Goals as goal
+use Rattle.mc_run.proofs.Sent.{client_send, common_lent}
+use Rattle.mc_run.proofs.threads.start_logger.Goals as goal
 
 pub start-requires-send-F : goal.start-requires-send-F
 start-requires-send-F g c κs within =

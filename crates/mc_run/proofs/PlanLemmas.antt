@@ -5,8 +5,8 @@ use Rattle.std.specs.List.{All}
 use Rattle.std.proofs.lemmas.List.Elements.{All-cons, All-head, All-nil, All-push, All-tail}
 use Rattle.std.proofs.lemmas.List.Sums.{sum_by-le}
 use Rattle.mc_options.specs.declared.options.Options.{Options}
-use Rattle.mc_server.specs.declared.plan.WorkerPlan.{WorkerPlan}
-use Rattle.mc_server.specs.Plans.{IsWorkerOf, held_of, held_together}
+use Rattle.mc_run.specs.declared.plan.WorkerPlan.{WorkerPlan}
+use Rattle.mc_run.specs.Plans.{IsWorkerOf, held_of, held_together}
 
 pub one_more : (options : Options) (plans : List WorkerPlan) (plan : WorkerPlan) → All (IsWorkerOf options) plans
     → IsWorkerOf options plan → All (IsWorkerOf options) (plans ++ plan ∷ [])

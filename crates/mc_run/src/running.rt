@@ -2,13 +2,14 @@
 ghost use Rattle.std.specs.Prelude.{◌≡◌, true, false};
 ghost use Rattle.mc_host.specs.Ends.{EndsListening};
 ghost use Rattle.mc_host.specs.Clocks.{moments};
-ghost use Rattle.mc_server.specs.Runs.{IsSystemMoment, EndsServed};
+ghost use Rattle.mc_run.specs.Runs.{IsProgramMoment, EndsServed};
+ghost use Rattle.mc_time.specs.declared.reading.Reading.{Reading};
 
 use crate::listening::listen;
 use crate::serving::serve;
 use mc_host::{AskedClock, Diagnostics, End};
 use mc_options::Options;
-use mc_time::SteadyClock;
+use mc_time::{HostClocks, SteadyClock};
 use std::alloc::AllocGlobal;
 use std::fs::Files;
 use std::io::{Read, Write};
@@ -33,8 +34,8 @@ where
     H: Net + Files + AllocGlobal + Wait + Threads + time::Clock + Sync,
     R: Read,
     W: Write,
-    ensures serves { options.stdin ≡ true
-        → EndsServed options.settings (moments options.now IsSystemMoment)
+    ensures serves { options.stdin ≡ true → (start : Reading)
+        × EndsServed options.settings (moments options.now (IsProgramMoment start))
         (R.remaining reader.old) (R.remaining reader.new)
         (W.contents writer.old) (W.contents writer.new) result }
     ensures listens { options.stdin ≡ false
@@ -42,7 +43,7 @@ where
     ensures reads_nothing { options.stdin ≡ false → reader.new ≡ reader.old }
     ensures writes_nothing { options.stdin ≡ false → writer.new ≡ writer.old }
 {
-    let system = SteadyClock::new(rt);
+    let system = SteadyClock::new(HostClocks::new(rt));
     if options.stdin {
         let clock = AskedClock {
             asked: options.now,

@@ -2,12 +2,12 @@
 use Rattle.std.proofs.Common.{◌≡◌, inl, ℕ, List, [], Option, Result, Ok, Err, OnOk}
 use Rattle.std.proofs.Common.{refl, subst}
 use Rattle.mc_hop.specs.declared.hash.Fnv.{Fnv}
-use Rattle.mc_shelf.specs.declared.settings.Settings.{Settings}
+use Rattle.mc_sizes.specs.declared.settings.Settings.{Settings}
 use Rattle.mc_world.specs.Worlds.{WorldState, CanStand}
 use Rattle.mc_world.specs.Serving.{scene, Served, ServedAll, RanShort}
-use Rattle.mc_session.specs.declared.serving.ServeFault.{ServeFault}
-use Rattle.mc_session.specs.declared.serving.ServeFault.TheVariants.{Read, Write, NoMemory}
-use Rattle.mc_server.specs.Runs.{hash_of, new_world, InNewWorld, Serves}
+use Rattle.mc_protocol.specs.declared.serving.ServeFault.{ServeFault}
+use Rattle.mc_protocol.specs.declared.serving.ServeFault.TheVariants.{Read, Write, NoMemory}
+use Rattle.mc_run.specs.Runs.{hash_of, new_world, InNewWorld, Serves}
 
 -- a new world stands, as a plain world of no connections
 can_stand : (hasher : Fnv) (settings : Settings) (now : ℕ) → CanStand (new_world hasher settings now)

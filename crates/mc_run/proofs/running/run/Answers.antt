@@ -1,5 +1,8 @@
 use Rattle.std.proofs.Common.{◌≡◌, ◌∙◌, sym, true, false}
-use Rattle.mc_server.proofs.running.run.Goals as goal
+use Rattle.mc_run.proofs.running.run.Goals as goal
+
+pub returns-then-options-clause-serves : goal.returns-then-options-clause-serves
+returns-then-options-clause-serves g c = λ is. (c.new-system.result.start, c.serve.ensures)
 
 pub returns-then-options-clause-listens : goal.returns-then-options-clause-listens
 returns-then-options-clause-listens g c = λ not. let no : true ≡ false = sym c.if-options.true ∙ not in cc

@@ -1,13 +1,15 @@
 -- What the program serves, by its command line.
-use Rattle.std.specs.Prelude.{◌≤◌, ◌^◌, ℕ, List, [], replicate, Option, Result, Ok, Err}
+use Rattle.std.specs.Prelude.{ℕ, List, [], replicate, Option, Result, Ok, Err}
+use Rattle.mc_time.specs.declared.reading.Reading.{Reading}
+use Rattle.mc_time.specs.Readings.{IsSteadyMoment}
 use Rattle.mc_hop.specs.Hash.{fnv}
 use Rattle.mc_protocol.specs.Plain.{opening}
 use Rattle.mc_world.specs.Worlds.{WorldState, CanStand}
 use Rattle.mc_world.specs.Serving.{scene, Served, ServedAll, RanShort}
-use Rattle.mc_shelf.specs.declared.settings.Settings.{Settings}
+use Rattle.mc_sizes.specs.declared.settings.Settings.{Settings}
 use Rattle.mc_hop.specs.declared.hash.Fnv.{Fnv}
-use Rattle.mc_session.specs.declared.serving.ServeFault.{ServeFault}
-use Rattle.mc_session.specs.declared.serving.ServeFault.TheVariants as fault
+use Rattle.mc_protocol.specs.declared.serving.ServeFault.{ServeFault}
+use Rattle.mc_protocol.specs.declared.serving.ServeFault.TheVariants as fault
 use Rattle.mc_host.specs.declared.end.End.{End}
 use Rattle.mc_host.specs.declared.end.End.TheVariants as end
 
@@ -26,9 +28,9 @@ new_world hasher settings now = record {
   left = replicate settings.shelves 0;
 }
 
--- what the system's clock may give: any moment
-abbrev pub IsSystemMoment : ℕ → Type 0
-IsSystemMoment now = now ≤ 2 ^ 62
+-- what the program's clock may give, if it began at a reading: of the later ones nothing is known
+abbrev pub IsProgramMoment : (start : Reading) → ℕ → Type 0
+IsProgramMoment start = IsSteadyMoment (λ reading. Unit {0}) start
 
 -- The world was new at a moment of the clock, and was served so.
 pub record InNewWorld (settings : Settings) (may_give : ℕ → Type 0)

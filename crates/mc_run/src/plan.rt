@@ -6,7 +6,7 @@
 ghost use Rattle.std.specs.Prelude.{◌≡◌, ◌+◌, length, IfOk, OnOk, All};
 ghost use Rattle.std.specs.Arc.{arc_value};
 ghost use Rattle.mc_sockets.specs.Crowds.{most_of};
-ghost use Rattle.mc_server.specs.Plans.{IsPlanOf, IsWorkerOf, IsOneAcceptor, ArePlansOf, held_of};
+ghost use Rattle.mc_run.specs.Plans.{IsPlanOf, IsWorkerOf, IsOneAcceptor, ArePlansOf, held_of};
 
 use mc_host::{
     Diagnostics, Listeners, ScrapeListener, Wanting, look_for_descriptors, most_descriptors,
@@ -144,7 +144,7 @@ fn plan_with<'a, R: AllocGlobal + Files + Clock>(
         counts,
     } = workers;
     let common = make_common(rt, notice.options, &bound.listeners, inboxes)?;
-    let crowd = make_crowd(rt.alloc(), notice.options, &common.log)?;
+    let crowd = make_crowd(rt.alloc(), notice, &common.log)?;
     let metrics = make_metrics(rt, notice, bound.door, &crowd, counts)?;
     let Listeners { first, others } = bound.listeners;
     let (own, first) = share_out(metrics, first, &crowd)?;
@@ -193,11 +193,17 @@ fn make_common<R: AllocGlobal + Clock>(
 }
 
 /// Returns a counter of connections. The one error is a refused allocation.
-fn make_crowd(alloc: Global, options: &Options, log: &Arc<Log>) -> Result<Arc<Crowd>, AllocError>
-    ensures { IfOk result (λ crowd. most_of (arc_value crowd) ≡ options.entry.now.connections) }
+fn make_crowd(alloc: Global, notice: Notice<'_>, log: &Arc<Log>) -> Result<Arc<Crowd>, AllocError>
+    ensures { IfOk result (λ crowd.
+        most_of (arc_value crowd) ≡ notice.entry.options.now.connections) }
 {
+    let Notice {
+        options,
+        descriptors,
+        ..
+    } = notice;
     let log = log.clone().map_err(|_| AllocError)?;
-    Crowd::new(alloc, options.connections, Some(log))
+    Crowd::new(alloc, options.connections, descriptors, Some(log))
 }
 
 /// Returns the metrics server, if there is a listener for scrapes. The one error is a refused

@@ -1,6 +1,6 @@
 use Rattle.std.proofs.Common.{◌≡◌, arith, length}
-use Rattle.mc_server.proofs.PlanLemmas.{all_fit}
-use Rattle.mc_server.proofs.plan.make_workers.Goals as goal
+use Rattle.mc_run.proofs.PlanLemmas.{all_fit}
+use Rattle.mc_run.proofs.plan.make_workers.Goals as goal
 
 pub returns : goal.returns
 returns g c =

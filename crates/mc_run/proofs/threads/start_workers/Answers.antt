@@ -2,9 +2,9 @@ use denote.Param.{param}
 use denote.Param.Send.{IsSync, param_sync, sendable}
 use Rattle.std.proofs.Common.{rules}
 use Rattle.mc_shared.proofs.Sent.{tuple_send, lent}
-use Rattle.mc_server.proofs.Sent.{client_send, common_lent}
-use Rattle.mc_server.proofs.plan.WorkerPlan.TheSendSync as plan
-use Rattle.mc_server.proofs.threads.start_workers.Goals as goal
+use Rattle.mc_run.proofs.Sent.{client_send, common_lent}
+use Rattle.mc_run.proofs.plan.WorkerPlan.TheSendSync as plan
+use Rattle.mc_run.proofs.threads.start_workers.Goals as goal
 
 pub start-requires-send-F : goal.start-requires-send-F
 start-requires-send-F g c κs within =

@@ -4,10 +4,10 @@ use denote.Struct.Declared as struct
 use denote.Param.Send.{IsSend, IsSync, recorded_send, struct_send, view_send, sendable}
 use Rattle.mc_hop.specs.contracts.hash.Fnv as fnv
 use Rattle.mc_shared.proofs.Sent.{Lent, lent, shared_lent, caller_send}
-use Rattle.mc_server.specs.contracts.plan.Common as common
-use Rattle.mc_server.proofs.plan.Common.TheSendSync as commons
-use Rattle.mc_server.specs.contracts.client.StoreClient as client
-use Rattle.mc_server.specs.contracts.client.StoreClient.TheInside as inside
+use Rattle.mc_run.specs.contracts.plan.Common as common
+use Rattle.mc_run.proofs.plan.Common.TheSendSync as commons
+use Rattle.mc_run.specs.contracts.client.StoreClient as client
+use Rattle.mc_run.specs.contracts.client.StoreClient.TheInside as inside
 
 hasher_sync : IsSync fnv.the_row
 hasher_sync = search sendable

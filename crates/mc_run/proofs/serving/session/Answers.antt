@@ -1,5 +1,5 @@
-use Rattle.mc_server.proofs.RunLemmas.{serves, not_begun}
-use Rattle.mc_server.proofs.serving.session.Goals as goal
+use Rattle.mc_run.proofs.RunLemmas.{serves, not_begun}
+use Rattle.mc_run.proofs.serving.session.Goals as goal
 
 pub returns-in_default : goal.returns-in_default
 returns-in_default g c =

@@ -4,11 +4,11 @@ use Rattle.std.specs.Arc.{arc_value}
 use Rattle.mc_options.specs.declared.options.Options.{Options}
 use Rattle.mc_sockets.specs.Crowds.{most_of}
 use Rattle.mc_sockets.specs.declared.connection.Crowd.{Crowd}
-use Rattle.mc_server.specs.declared.plan.Entrance.{Entrance}
-use Rattle.mc_server.specs.declared.plan.OwnTask.{OwnTask}
-use Rattle.mc_server.specs.declared.plan.OwnTask.TheVariants.{Accept, AnswerScrapes}
-use Rattle.mc_server.specs.declared.plan.ServerPlan.{ServerPlan}
-use Rattle.mc_server.specs.declared.plan.WorkerPlan.{WorkerPlan}
+use Rattle.mc_run.specs.declared.plan.Entrance.{Entrance}
+use Rattle.mc_run.specs.declared.plan.OwnTask.{OwnTask}
+use Rattle.mc_run.specs.declared.plan.OwnTask.TheVariants.{Accept, AnswerScrapes}
+use Rattle.mc_run.specs.declared.plan.ServerPlan.{ServerPlan}
+use Rattle.mc_run.specs.declared.plan.WorkerPlan.{WorkerPlan}
 
 -- how many bytes a MiB has
 abbrev pub mib : ℕ
