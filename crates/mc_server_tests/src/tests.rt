@@ -3,6 +3,7 @@
 mod idle_tests;
 mod lines_tests;
 mod quit_tests;
+mod screen_tests;
 mod session_tests;
 mod tcp_tests;
 mod telemetry_tests;

@@ -35,7 +35,7 @@ where
     let mut inboxes = Vec::new(alloc);
     inboxes.push(Inbox::new(alloc, Waker::new(poll.registry(), WAKER)?)?)?;
     let arrivals = Arrivals::new(inboxes, Vec::new(alloc));
-    let crowd = Crowd::new(alloc, 1, None)?;
+    let crowd = Crowd::new(alloc, 1, None, None)?;
     let stream = Stream::from_std(stream);
     arrivals.deal(rt, Connection::new(crowd, stream, peer), 0);
     arrivals.end();

@@ -45,7 +45,7 @@ fn observer_of_two(alloc: Global) -> Result<Observer, AllocError> {
         counts.push(worker)?;
     }
     Ok(Observer {
-        crowd: Crowd::new(alloc, 7, None)?,
+        crowd: Crowd::new(alloc, 7, None, None)?,
         counts,
         pages: 64,
         buffers: 4096,
@@ -63,8 +63,9 @@ fn a_scrape_adds_up_workers(rt: HostRuntime) -> Result<(), Fail> {
     let misses = number_at(&reading.counts, Counted::GetMiss.place());
     assert!(rt; (hits, misses) == (7, 0));
     assert_eq!(rt; reading.closed.len(), PARTINGS);
-    let found = (reading.most, reading.connections, reading.accepted);
+    let found = (reading.most, reading.connections, reading.lingering);
     assert!(rt; found == (7, 0, 0));
+    assert!(rt; reading.accepted == 0);
     // 64 pages of 1048576 bytes
     let found = (reading.limit, reading.shelves, reading.tables.items);
     assert!(rt; found == (67_108_864, 4, 5));
@@ -88,7 +89,7 @@ fn a_scrape_adds_up_workers(rt: HostRuntime) -> Result<(), Fail> {
 fn a_scrape_has_the_classes_with_a_page(rt: HostRuntime) -> Result<(), Fail> {
     let alloc = rt.alloc();
     let observer = Observer {
-        crowd: Crowd::new(alloc, 1, None)?,
+        crowd: Crowd::new(alloc, 1, None, None)?,
         counts: Vec::new(alloc),
         pages: 1,
         buffers: 0,
