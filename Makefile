@@ -9,6 +9,8 @@ BIN = $(DESTDIR)$(PREFIX)/bin
 MAN = $(DESTDIR)$(PREFIX)/share/man/man1
 DOC = $(DESTDIR)$(PREFIX)/share/doc/mcserver
 UNITS = $(DESTDIR)$(PREFIX)/lib/systemd/system
+# Where systemd looks by itself.
+IS_SYSTEMS = $(filter /usr /usr/local,$(PREFIX))
 USER_UNITS = $(DESTDIR)$(PREFIX)/share/systemd/user
 DEFAULTS = $(DESTDIR)/etc/default
 DOCS = CHANGELOG.md docs/OPERATING.md docs/PROTOCOL.md docs/CLIENTS.md docs/SCALING.md docs/CONTAINERS.md
@@ -24,19 +26,19 @@ JOBS ?= $(shell nproc)
 MINUTES ?= 30
 
 .PHONY: build try bench-build run test check crate rows history fmt bench bench-tcp bench-waiting bench-instructions bench-resident clean
-.PHONY: docs docs-check where test-clients test-scaling test-metrics test-package test-containers soak man install uninstall deb is-built thin
+.PHONY: calibrate docs docs-check where test-clients test-scaling test-metrics test-package test-containers soak man install uninstall deb release is-built has-rt thin
 
-# Proves the program and what is below it, and builds it (build.py tells how far it is). It is run once, for --help, which ends it at once. What is
+# Proves the program and what is below it, and builds it (tools/build.py tells how far it is). It is run once, for --help, which ends it at once. What is
 # said goes to standard error, so that `make run` writes what the program writes alone. Beside the program it notes what it was built of.
 build:
-	@JOBS=$(JOBS) python3 build.py
+	@JOBS=$(JOBS) python3 tools/build.py
 	@printf 'commit %s\ntoolchain %s\n' "$$(git describe --always --dirty 2> /dev/null)" "$$(rt version)" > $(dir $(PROGRAM))BUILD
 	@echo "$(PROGRAM) is proved and built" >&2
 
 # The program unproved, in a minute or two, to try it: out/try/mcserver. Nothing of it is proved, and it is never installed. With FAST=1 it is
-# optimized, and has no checks of addresses.
+# optimized, and has no checks of addresses; with FAST=2 it has no checks at all, to measure speed.
 try:
-	@python3 try.py $(if $(FAST),--fast)
+	@python3 tools/try.py $(if $(FAST),$(if $(filter 2,$(FAST)),--bare,--fast))
 
 # The same for the program that is measured and records calls.
 bench-build:
@@ -48,11 +50,15 @@ run: build
 	@trap : INT; set -m 2> /dev/null; $(PROGRAM) $(ARGS) || { status=$$?; test $$status -eq 130 || exit $$status; }
 
 # The gate: every proof, every must-fail edit, every test of the crates, and the tests of tests/.
-test:
+test: has-rt
 	@python3 -m tests.gate
 
+# The toolchain, without which nothing is proved.
+has-rt:
+	@command -v rt > /dev/null || { echo "there is no command rt: README.md says where the toolchain is had; a built program is tested by PROGRAM=/usr/bin/mcserver python3 -m tests protocol" >&2; exit 2; }
+
 # Every crate, over what earlier runs kept in out/.
-check:
+check: has-rt
 	@rt all check --jobs $(JOBS)
 
 # One crate: make crate C=mc_shelf
@@ -88,6 +94,10 @@ where:
 
 fmt:
 	@for crate in crates/*/; do (cd $$crate && rt fmt) || exit 1; done
+
+# How fast this machine is, for figures of builds and of the gate
+calibrate:
+	@python3 bench/calibrate.py
 
 # What it costs. One table of it: make bench ONLY=finds
 bench: build bench-build
@@ -151,11 +161,16 @@ install: is-built
 	install -m 644 $(SHIPPED) $(DOC)
 	test ! -f $(dir $(PROGRAM))BUILD || install -m 644 $(dir $(PROGRAM))BUILD $(DOC)/BUILD
 ifeq ($(IN_HOME),)
-	install -d $(UNITS) $(DEFAULTS)
-	sed 's|/usr/local/bin/|$(PREFIX)/bin/|' mcserver.service > $(UNITS)/mcserver.service
+	install -d $(UNITS)
+	sed 's|/usr/local/bin/|$(PREFIX)/bin/|' packaging/mcserver.service > $(UNITS)/mcserver.service
 	sed -f packaging/instance.sed $(UNITS)/mcserver.service > $(UNITS)/mcserver@.service
 	chmod 644 $(UNITS)/mcserver.service $(UNITS)/mcserver@.service
+ifneq ($(IS_SYSTEMS),)
+	install -d $(DEFAULTS)
 	test -e $(DEFAULTS)/mcserver || install -m 644 packaging/mcserver.default $(DEFAULTS)/mcserver
+else
+	@echo "systemd doesn't look below $(PREFIX): systemctl link $(PREFIX)/lib/systemd/system/mcserver.service; its options go into /etc/default/mcserver" >&2
+endif
 else ifeq ($(PREFIX),$(HOME)/.local)
 	install -d $(USER_UNITS)
 	install -m 644 packaging/mcserver.user.service $(USER_UNITS)/mcserver.service
@@ -180,6 +195,10 @@ thin:
 # A package of Debian, by debhelper: out/mcserver_VERSION_amd64.deb
 deb: is-built
 	@sh packaging/deb.sh $(VERSION)-1 $(PACKAGES)
+
+# What a release offers, of what is built: the package, a tar, checksums, and what they were built of.
+release: is-built
+	@PROGRAM=$(abspath $(PROGRAM)) sh packaging/release.sh $(VERSION) out/release
 
 clean:
 	rm -rf crates/*/out

@@ -1,9 +1,10 @@
 #!/usr/bin/env python3
-"""Proves the crates below the program, and then proves and builds the program: `build.py [CRATE]`
+"""Proves the crates below the program, and then proves and builds the program: `tools/build.py [CRATE]`
 
 `rt` works on one crate of a checkout at a time. So each processor has a checkout: this one and copies of the sources, which are removed
 at the end. Each takes the crate whose libraries are proved and whose longest chain of crates above it has the most lines, and lends its
-processors first to that chain. What is proved lies in each crate's out/ here; a crate that is proved already takes a second.
+processors first to that chain. A proof in four jobs costs a third more than in one, so a crate has one job, and beyond it only processors
+that no other crate waits for. What is proved lies in each crate's out/ here; a crate that is proved already takes a second.
 
 It prints a line a crate with a guess at what is left, and at a failure what `rt` printed. The status is 0 if the program is built, 1 if a
 crate isn't proved, 2 if there is no `rt`, 128 and the signal's number if a signal ends it. JOBS is the number of processors to use: all,
@@ -19,12 +20,15 @@ import tempfile
 import threading
 import time
 
-ROOT = os.path.dirname(os.path.realpath(__file__))
+ROOT = os.path.dirname(os.path.dirname(os.path.realpath(__file__)))
+sys.path[:0] = [ROOT]
+from tests.lib import kit  # noqa: E402
 PARTS = ("src", "specs", "proofs")
 # A program is compiled and linked as well: it costs twice what a library of its size does.
 PROGRAM = 2
-# Processor seconds a line of Rust, before a crate of this build tells better; and how many processors a single crate keeps busy.
-A_LINE, AT_ONCE = 0.15, 1.9
+# Processor seconds a line of Rust, before a crate of this build tells better; and how many processors a single crate keeps busy: one while
+# others are proved beside it, and nearly two alone.
+A_LINE, AT_ONCE = 0.14, 1.3
 
 
 def crates_of(root):
@@ -53,17 +57,30 @@ def lines_of(crate):
     return lines * (PROGRAM if f"{ROOT}/crates/{crate}/src/main.rt" in files else 1)
 
 
+def built_before():
+    """Returns the crates whose libraries stand, by the toolchain's own stamps of their sources and of those below them; none if it has no such word."""
+    try:
+        return {it.name for it in kit.crates_of(ROOT) if it.is_built()}
+    except (kit.Stopped, AttributeError, OSError):
+        return set()
+
+
 class Build:
     """The crates that wait, those that are being proved, and those that are proved."""
 
     def __init__(self, top, jobs):
         self.uses = crates_of(ROOT)
         self.top, self.jobs = top, jobs
-        self.waiting = below(top, self.uses)
-        self.whole = [*self.waiting, top]
+        self.whole = [*below(top, self.uses), top]
+        built = built_before() - {top}
+        # The crates that are proved, and those that are to be.
+        self.done = [it for it in self.whole if it in built]
+        self.waiting = [it for it in self.whole[:-1] if it not in built]
         self.lines = {it: lines_of(it) for it in self.whole}
         self.chains = {it: self.chain_above(it) for it in self.whole}
-        self.at_work, self.done, self.lanes, self.started = [], [], [ROOT], []
+        # The crates that are being proved, each with its jobs.
+        self.at_work = {}
+        self.lanes, self.started = [ROOT], []
         self.failed = self.ended = None
         # Lines and processor seconds of the crates that this build proved.
         self.proved = [0, 0.0]
@@ -74,15 +91,16 @@ class Build:
         return self.lines[crate] + max((self.chain_above(it) for it in self.whole if crate in self.uses[it]), default=0)
 
     def next_crate(self):
-        """Waits for a crate whose libraries are proved, and takes the one with the longest chain; None if there is none left."""
+        """Waits for a crate whose libraries are proved, and takes the one with the longest chain, with its jobs; None if there is none left."""
         with self.turn:
             while self.waiting and not self.failed and not self.ended:
                 ready = [it for it in self.waiting if all(low in self.done for low in self.uses[it])]
                 if ready:
                     crate = max(ready, key=self.chains.get)
+                    jobs = max(self.jobs - sum(self.at_work.values()) - len(ready) + 1, 1)
                     self.waiting.remove(crate)
-                    self.at_work.append(crate)
-                    return crate
+                    self.at_work[crate] = jobs
+                    return crate, jobs
                 self.turn.wait(1)
         return None
 
@@ -104,11 +122,11 @@ class Build:
 
     def prove(self, lane):
         """Proves one crate after another in a checkout."""
-        while crate := self.next_crate():
-            began = time.monotonic()
-            status, said, used = self.run(["lib", "--jobs", str(self.jobs)], lane, crate)
+        while taken := self.next_crate():
+            (crate, jobs), began = taken, time.monotonic()
+            status, said, used = self.run(["lib", "--jobs", str(jobs)], lane, crate)
             with self.turn:
-                self.at_work.remove(crate)
+                del self.at_work[crate]
                 if status:
                     self.failed = self.failed or (crate, said)
                 else:
@@ -128,9 +146,7 @@ class Build:
 
     def note(self, crate, seconds, used):
         """Prints that a crate is proved, and how long the rest may take."""
-        # A crate that was proved before takes a few seconds, and says nothing about the others.
-        if used > self.lines[crate] * A_LINE / 4:
-            self.proved = [self.proved[0] + self.lines[crate], self.proved[1] + used]
+        self.proved = [self.proved[0] + self.lines[crate], self.proved[1] + used]
         a_line = (self.proved[1] + 1000 * A_LINE) / (self.proved[0] + 1000)
         rest = [it for it in self.whole if it not in self.done]
         at_once = min(AT_ONCE, self.jobs)
