@@ -1,18 +1,21 @@
 """Runs the tests of one kind, which is a folder here:
 
     python3 -m tests protocol|sockets|history|refusals|interop|standin [-k WORD] [-p FILE] [-f]
+    python3 -m tests KIND --pin
 
 The options are those of `python3 -m unittest discover`, which runs the same tests: -k takes those in whose name the word is, -p the
-files of a name, -f ends at the first failure. What the environment may change is in lib/settings.py. The last line is
-`N passed, N failed`; the status is 0 where something passed and nothing failed.
+files of a name, -f ends at the first failure. Without options the parts of each file are compared with tests/counts.txt, if it has the
+kind; --pin writes them there. What the environment may change is in lib/settings.py. The last line is `N passed, N failed, N skipped`;
+the status is 0 where something passed and nothing failed.
 """
 import os
 import signal
 import sys
 import unittest
 
-from tests.lib.result import Runner
-from tests.lib.settings import ROOT
+from tests.lib import counts
+from tests.lib.result import Runner, name_of
+from tests.lib.settings import NAMES, ROOT
 
 KINDS = ["protocol", "sockets", "history", "refusals", "interop", "standin"]
 
@@ -25,12 +28,31 @@ def run(kind, options=()):
     return unittest.main(None, argv=words, testRunner=Runner, exit=False).result
 
 
+def compared(kind, result):
+    """Compares the parts of each file with what is pinned, prints what differs, and gives how much that is."""
+    pinned = counts.read().get(kind)
+    found = list(counts.faults(kind, result.by_file(), pinned)) if pinned else []
+    for line in found:
+        print(f"FAILED {line}", flush=True)
+    return len(found)
+
+
 def main(words):
     if not words or words[0] not in KINDS:
         print(__doc__, end="")
         return 2
     os.chdir(ROOT)
-    return 0 if run(words[0], words[1:]).wasSuccessful() else 1
+    kind, options = words[0], words[1:]
+    result = run(kind, [it for it in options if it != "--pin"])
+    if "--pin" in options and result.wasSuccessful():
+        counts.pin(kind, result.by_file())
+    # another program or other numbers have other parts
+    is_whole = not options and not any(os.environ.get(name) for name in NAMES if name != "LONGEST")
+    failed = result.failed + (compared(kind, result) if is_whole else 0)
+    for test, reason in result.skipped:
+        print(f"skipped {name_of(test)}: {reason}")
+    print(f"{result.passed} passed, {failed} failed, {len(result.skipped)} skipped", flush=True)
+    return 0 if result.wasSuccessful() and not failed else 1
 
 
 if __name__ == "__main__":

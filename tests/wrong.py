@@ -1,12 +1,13 @@
-"""Judges the wrong bodies of the crates: `python3 -m tests.wrong [CRATE..] [--only NAME] [--anew] [--left] [--edits]`
+"""Judges the wrong bodies of the crates: `python3 -m tests.wrong [CRATE..] [--only NAME] [--anew] [--left] [--edits] [--beside FOLDER]`
 
 Each crate's wrong bodies (`crates/NAME/wrong/`) are planted at once in a copy of its sources, and one check must refuse each one's function for
 a reason of its own (lib/bodies.py). Bodies that change the same function have a further check, and one that changes more than bodies of
 functions has one of its own. Each begins with the work of the one before. What was refused is kept beside the toolchain by the sums of all
-that it rests on, and is not judged again; --anew judges all. --only judges one alone. --left takes the libraries that a run of `rt ci` over
+that it rests on (lib/rests.py), and is not judged again; --anew judges all. --only judges one alone. --left takes the libraries that a run of `rt ci` over
 the same sources has just left in the crates' folders, where the toolchain keeps none. --edits judges the edits of `crates/NAME/must-fail/`
-too; one that isn't refused so is tried as `rt must-fail` tries it. With a crate's name each reason is printed. The
-environment may name JOBS, how many checks run side by side: as many as there are processors, where it doesn't. It may name LIMIT, the seconds
+too; one that isn't refused so is tried as `rt must-fail` tries it. With a crate's name each reason is printed. --beside is for a run beside
+`rt ci` in the same folder: it judges the bodies of a crate once the libraries below it are kept, by half of the processors, until standard
+input has a line, which says that all is proved; the edits lie in FOLDER meanwhile. The environment may name JOBS, how many checks run side by side: as many as there are processors, where it doesn't. It may name LIMIT, the seconds
 after which a check is killed: 2400, where it doesn't. If that check was of several bodies each is then judged alone, and what gives no verdict
 alone either has failed. The last line is `N passed, N failed`; the status is 0 where something passed and nothing failed.
 """
@@ -72,11 +73,12 @@ class Run:
 
     def __init__(self, copy, room, given):
         self.copy, self.room, self.given = copy, room, given
-        # how many processors a check may use where there are fewer checks than processors
-        self.each = 1
         self.results = Results(copy)
         self.tasks, self.turn, self.number = queue.PriorityQueue(), threading.Lock(), 0
-        self.crates = []
+        # the crates with something to say, and those whose checks wait for libraries, with their bodies
+        self.crates, self.waiting = [], []
+        # whether all is proved, and whether each crate has its libraries
+        self.is_proved, self.is_fed = threading.Event(), threading.Event()
 
     def add(self, crate, found, begin):
         """Adds a check of bodies, which begins with what a folder holds. The longest come first, by what they read and how many follow."""
@@ -86,13 +88,21 @@ class Run:
             cost = self.copy.lines_read(crate.name) * (len(crate.later) + 1)
             self.tasks.put((-cost, self.number, crate, found, begin))
 
-    def work(self):
+    def each(self):
+        """How many processors a check may use: those that no other check wants, once all is proved."""
+        with self.turn:
+            return max(self.given.jobs // max(sum(it.left for it in self.crates), 1), 1) if self.is_proved.is_set() else 1
+
+    def work(self, is_spare):
+        """Judges what is to be judged. A spare thread waits until all is proved."""
+        if is_spare:
+            self.is_proved.wait()
         while True:
             try:
                 _, number, crate, found, begin = self.tasks.get(timeout=0.2)
             except queue.Empty:
                 with self.turn:
-                    if not any(it.left for it in self.crates):
+                    if self.is_fed.is_set() and not any(it.left for it in self.crates):
                         return
                 continue
             began, keep = time.monotonic(), f"{self.room}/{crate.name}-{number}"
@@ -120,7 +130,7 @@ class Run:
         names = dict.fromkeys(f"{crate.name}::{it.function}" for it in found)
         flags = [word for it in names for word in ("--only", it)]
         try:
-            status, output = self.copy.check(crate.name, crate.sources.planted(found), [*flags, "--jobs", str(self.each)], begin, keep)
+            status, output = self.copy.check(crate.name, crate.sources.planted(found), [*flags, "--jobs", str(self.each())], begin, keep)
         except Late as late:
             self.find_late(crate, found, str(late), keep)
             return
@@ -152,7 +162,7 @@ class Run:
         for body in found:
             is_refused, why = bodies.reason(body, f"{crate.name}::{body.function}", said)
             if is_refused:
-                self.results.keep(crate.name, body, why)
+                self.results.keep(crate, body, why)
                 with self.turn:
                     crate.refused[body.name] = why
             elif is_refused is not None and (len(found) > 1 or begin and not is_edit(body)):
@@ -164,11 +174,11 @@ class Run:
         """Fails a wrong body, unless it is an edit of must-fail/ that the toolchain's own rule finds refused."""
         if is_edit(body):
             try:
-                is_refused, why = self.copy.tries_edit(crate.name, body.name, begin, tempfile.mkdtemp(dir=self.room))
+                is_refused, why = self.copy.tries_edit(crate.name, body, begin, tempfile.mkdtemp(dir=self.room))
             except Late as late:
                 is_refused, why = False, str(late)
             if is_refused:
-                self.results.keep(crate.name, body, why)
+                self.results.keep(crate, body, why)
                 with self.turn:
                     crate.refused[body.name] = why
                 return
@@ -191,31 +201,53 @@ class Run:
             shutil.rmtree(folder, ignore_errors=True)
 
     def begin(self, names):
-        """Reads the wrong bodies of these crates, and adds the checks of those that weren't judged."""
-        wanted = []
+        """Reads the wrong bodies of these crates, and finds those that weren't judged."""
         for name in names:
             crate = Crate(name, self.copy)
             found = crate.read(f"{self.copy.root}/crates/{name}/wrong", self.given.only)
             if self.given.edits:
-                found += crate.read_edits(f"{self.copy.root}/crates/{name}/must-fail", self.given.only)
+                beside = f"{self.copy.root}/{self.given.beside}/{name}"
+                found += crate.read_edits(beside if self.given.beside else f"{self.copy.root}/crates/{name}/must-fail", self.given.only)
             for body in [] if self.given.anew or self.given.only else found:
-                why = self.results.find(name, body)
+                why = self.results.find(crate, body)
                 if why is not None:
                     crate.refused[body.name] = why
             crate.kept = len(crate.refused)
             found = [it for it in found if it.name not in crate.refused]
             if found or crate.refused or crate.failed:
                 self.crates.append(crate)
-            wanted.append((crate, found))
-        self.copy.bring_libraries([crate.name for crate, found in wanted if found], self.given.jobs, self.given.left)
-        for crate, found in wanted:
-            first, *crate.later = crate.sources.rounds(found) or [None]
-            if first:
-                self.add(crate, first, self.copy.work(crate.name))
-        self.each = max(self.given.jobs // max(self.tasks.qsize(), 1), 1)
-        for crate in self.crates:
-            if not crate.left:
+            if found:
+                self.waiting.append((crate, found))
+            elif crate in self.crates:
                 self.tell(crate)
+
+    def feed(self):
+        """Adds the checks of each crate once the libraries below it are there."""
+        while self.waiting and not self.is_proved.wait(5):
+            self.copy.takes_kept(self.copy.below([crate.name for crate, _ in self.waiting]))
+            self.add_all([it for it in self.waiting if all(low.name in self.copy.brought for low in self.copy.below([it[0].name]))])
+        names = [crate.name for crate, _ in self.waiting]
+        if not self.copy.takes_kept(self.copy.below(names)):
+            # libraries that are built take the place of those over which checks run
+            while any(it.left for it in self.crates):
+                time.sleep(1)
+            self.copy.bring_libraries(names, self.given.jobs, self.given.left)
+        self.add_all(list(self.waiting))
+        self.is_fed.set()
+
+    def add_all(self, wanted):
+        """Adds the checks of crates."""
+        for crate, found in wanted:
+            self.waiting.remove((crate, found))
+            first, *crate.later = crate.sources.rounds(found)
+            self.add(crate, first, self.copy.work(crate.name))
+
+    def hear(self):
+        """Waits for the line that says that all is proved. Without one it ends the run."""
+        if sys.stdin.readline().strip():
+            self.is_proved.set()
+        else:
+            os.kill(os.getpid(), signal.SIGTERM)
 
 
 def is_edit(body):
@@ -234,6 +266,7 @@ def main(words, root=ROOT):
     parser.add_argument("--anew", action="store_true")
     parser.add_argument("--left", action="store_true")
     parser.add_argument("--edits", action="store_true")
+    parser.add_argument("--beside", metavar="FOLDER")
     given = parser.parse_args(words)
     if threading.current_thread() is threading.main_thread():
         # as Ctrl-C does, so that no folder stays
@@ -247,13 +280,19 @@ def main(words, root=ROOT):
             if lacking:
                 raise Stopped(f"{lacking[0]} is no crate of crates.txt")
             run = Run(copy, room, given)
+            if given.beside:
+                os.nice(10)
+                threading.Thread(target=run.hear, daemon=True).start()
+            else:
+                run.is_proved.set()
             run.begin(given.crates or list(copy.crates))
+            threads = [threading.Thread(target=run.work, args=(2 * it >= max(given.jobs, 2),), daemon=True) for it in range(given.jobs)]
+            for it in threads:
+                it.start()
+            run.feed()
         except Stopped as error:
             print(f"wrong bodies: {error}\n0 passed, 1 failed", flush=True)
             return 1
-        threads = [threading.Thread(target=run.work, daemon=True) for _ in range(given.jobs)]
-        for it in threads:
-            it.start()
         for it in threads:
             it.join()
     passed, failed = (sum(len(getattr(it, kind)) for it in run.crates) for kind in ("refused", "failed"))

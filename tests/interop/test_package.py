@@ -15,7 +15,7 @@ from tests.lib.settings import ROOT
 
 SECONDS = 120
 # What the package is made of, beside the program.
-SOURCES = ["CHANGELOG.md", "LICENSE", "Makefile", "README.md", "docs", "man", "mcserver.service", "packaging", "crates/mc_options/src"]
+SOURCES = ["CHANGELOG.md", "LICENSE", "Makefile", "README.md", "docs", "man", "packaging", "crates/mc_options/src"]
 # A moment of which a build is, in place of the last commit's.
 MOMENT = "1700000000"
 # A path of the source, or a document, as the text of a document names it.

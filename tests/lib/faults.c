@@ -1,8 +1,8 @@
-// Makes calls of the program fail that it is preloaded to, and sets its clock back; faults.py compiles it and says when.
+// Makes calls of the program fail that it is preloaded to, and sets its clocks; faults.py compiles it and says when.
 //
 // What fails is read from the file that FAULTS names, which stays mapped: a test changes it while the program runs. It holds 64-bit
-// words: the seconds that are added to the system's clock, whether each peer seems to be another machine's, six that nobody reads, and
-// then a row of 16 for each call of CALLS in that order: each Kth call fails (0: none), how many may fail still (negative: no end), how
+// words: the seconds that are added to the system's clock, whether each peer seems to be another machine's, the seconds that are added to
+// the monotonic clock, five that nobody reads, and then a row of 16 for each call of CALLS in that order: each Kth call fails (0: none), how many may fail still (negative: no end), how
 // many calls there were, how many failed, how many errors follow, and the errors in turn. An error 0 stands for an answer of 0, as of a
 // send that takes nothing; 1000 and more for a call that is made after so many milliseconds less 1000; 1000000 and more for an epoll_wait
 // whose answer comes so many milliseconds less 1000000 later. A call that fails isn't made, but for close, whose descriptor is gone on Linux
@@ -27,7 +27,7 @@
 
 enum call { ACCEPT4, RECV, SEND, SENDMSG, EPOLL_WAIT, EPOLL_CTL, CLOSE, WRITE, PTHREAD_CREATE, STDIN, STDOUT, CALLS };
 enum column { EVERY, LEFT, MADE, FAILED, ERRORS, FIRST, WIDTH = 16 };
-enum { CLOCK, ELSEWHERE, FRONT = 8, DELAY = 1000, LATE = 1000000 };
+enum { CLOCK, ELSEWHERE, MONOTONIC, FRONT = 8, DELAY = 1000, LATE = 1000000 };
 
 typedef _Atomic int64_t word;
 
@@ -158,5 +158,7 @@ int clock_gettime(clockid_t clock, struct timespec *time) {
     int answer = next(clock, time);
     if (answer == 0 && clock == CLOCK_REALTIME)
         time->tv_sec += told[CLOCK];
+    if (answer == 0 && clock == CLOCK_MONOTONIC)
+        time->tv_sec += told[MONOTONIC];
     return answer;
 }

@@ -7,6 +7,7 @@
         faults.fail("epoll_wait", [late(50)], left=1)   # the next is made now, and answers 50 ms later
         faults.end()
         faults.set_clock_back(3600)
+    faults.pass_seconds(60)
 
 faults.c is compiled once in a run, by cc or what the environment's CC names, and preloaded to the program.
 """
@@ -20,7 +21,7 @@ import tempfile
 HERE = os.path.dirname(os.path.realpath(__file__))
 # As in faults.c: write is that of standard error, stdin a read of standard input, stdout a write of standard output.
 CALLS = ["accept4", "recv", "send", "sendmsg", "epoll_wait", "epoll_ctl", "close", "write", "pthread_create", "stdin", "stdout"]
-CLOCK, ELSEWHERE, FRONT, WIDTH, WORD, DELAY, LATE = 0, 1, 8, 16, 8, 1000, 1_000_000
+CLOCK, ELSEWHERE, MONOTONIC, FRONT, WIDTH, WORD, DELAY, LATE = 0, 1, 2, 8, 16, 8, 1000, 1_000_000
 EVERY, LEFT, MADE, FAILED, ERRORS, FIRST = range(6)
 MOST = WIDTH - FIRST
 
@@ -90,6 +91,10 @@ class Faults:
     def set_clock_back(self, seconds):
         """Sets the system's clock back, as the program sees it, from what the machine's says."""
         self._set(CLOCK, -seconds)
+
+    def pass_seconds(self, seconds):
+        """Sets the monotonic clock forward, as the program sees it, by so many seconds in all."""
+        self._set(MONOTONIC, seconds)
 
     def move_peers(self):
         """Lets each peer that is accepted from now on seem to be on another machine, at 192.0.2.1."""

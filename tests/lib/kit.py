@@ -18,11 +18,11 @@ import sys
 import tempfile
 import threading
 
-from tests.lib import settings
+from tests.lib import bodies, rests, settings
 
 NAMES = ["Crate", "checked", "crates_of", "handles_of", "must_fail", "rtlib"]
 # The names of a toolchain that keeps what `rt ci` proved.
-KEEPING = ["Kept", "STORE", "stamp_of", "work_for"]
+KEEPING = ["Kept", "STORE", "kit_sum", "own_sum", "work_for"]
 # Its names for an edit that is refused: by a proof, and by a limit of the prover.
 VERDICTS = ["REFUSED", "AT_LIMIT"]
 PARTS = ("src", "specs", "proofs", "c")
@@ -49,6 +49,17 @@ def toolchain():
     if lacking:
         raise Stopped(f"this toolchain's rt has no {', '.join(lacking)}: tests/lib/kit.py was written for another")
     return made
+
+
+def crates_of(root, rt=None):
+    """The crates of a checkout as the toolchain reads them."""
+    rt = rt or toolchain()
+    try:
+        rt.Crate.allowed = rt.handles_of(root)
+        # the second folder is for what earlier runs left, and a checkout has none of it
+        return rt.crates_of(*[root] * len(inspect.signature(rt.crates_of).parameters))
+    except SystemExit:
+        raise Stopped("rt can't read the crates, as it says above") from None
 
 
 def link_or_copy(one, other):
@@ -127,17 +138,13 @@ class Copy:
                     shutil.copytree(f"{root}/crates/{crate}/{part}", f"{folder}/crates/{crate}/{part}")
         # `rt` takes the folder for the top of a repository
         os.mkdir(f"{folder}/.git")
-        try:
-            self.rt.Crate.allowed = self.rt.handles_of(folder)
-            # the second folder is for what earlier runs left, and a copy has none of it
-            folders = inspect.signature(self.rt.crates_of).parameters
-            self.crates = {it.name: it for it in self.rt.crates_of(*[folder] * len(folders))}
-        except SystemExit:
-            raise Stopped("rt can't read the crates, as it says above") from None
+        self.crates = {it.name: it for it in crates_of(folder, self.rt)}
         self.limit = Limit(self.rt.rtlib, settings.number("LIMIT"))
-        self.stamps = {}
+        self.sums = {}
         # whether the libraries are those that `rt ci` left, over which no check kept work
         self.has_left = False
+        # the crates whose libraries `rt ci` kept and are here
+        self.brought, self.kept = set(), None
 
     def lines(self, name):
         """How long a crate is."""
@@ -150,9 +157,10 @@ class Copy:
 
     def bring_libraries(self, names, jobs, left=False):
         """Brings the libraries below these crates: those that `rt ci` kept, or `left` in the crates' folders, or else what `rt lib` builds."""
-        wanted = [it for it in self.crates.values() if any(it in self.crates[name].below() for name in names)]
+        wanted = self.below(names)
         if self.takes_kept(wanted) or left and self.takes_left(wanted):
             return
+        self.brought.clear()
         for crate in wanted:
             shutil.rmtree(f"{crate.folder}/out", ignore_errors=True)
             built = f"{self.root}/crates/{crate.name}"
@@ -163,16 +171,22 @@ class Copy:
             if self.rt.rtlib.text_of(f"{crate.folder}/out/rlib/stamp") != crate.stamp():
                 raise Stopped(f"{crate.name} changed while it was built: run this again")
 
+    def below(self, names):
+        """The crates below these, lowest first."""
+        return [it for it in self.crates.values() if any(it in self.crates[name].below() for name in names)]
+
     def takes_kept(self, wanted):
-        """Takes the libraries that `rt ci` kept beside the toolchain, and returns whether all were there."""
-        if not self.rt.keeps:
-            return False
-        kept = self.rt.Kept(list(self.crates.values()))
-        for crate in wanted:
-            if not kept.give(crate, False, kept.key(crate)):
-                return False
-            kept.is_built(crate)
-        return True
+        """Takes the libraries of crates, lowest first, that `rt ci` kept beside the toolchain, as far as it can. Returns whether all are there."""
+        if self.rt.keeps and not self.kept:
+            self.kept = self.rt.Kept(list(self.crates.values()))
+        return self.rt.keeps and all([self.takes(it) for it in wanted])
+
+    def takes(self, crate):
+        """Takes what `rt ci` kept of a crate over the libraries that are here, and returns whether it is there."""
+        if crate.name not in self.brought and all(it.name in self.brought for it in crate.below()) and self.kept.give(crate, False, self.kept.key(crate)):
+            self.kept.is_built(crate)
+            self.brought.add(crate.name)
+        return crate.name in self.brought
 
     def takes_left(self, wanted):
         """Takes the libraries that `rt ci` left in the crates' folders, and returns whether all were there.
@@ -182,7 +196,9 @@ class Copy:
         folders = [f"{self.root}/crates/{it.name}/out/rlib" for it in wanted]
         if not all(os.path.isdir(it) and os.listdir(it) and not os.path.exists(f"{it}/stamp") for it in folders):
             return False
+        self.brought.clear()
         for crate, folder in zip(wanted, folders):
+            shutil.rmtree(f"{crate.folder}/out", ignore_errors=True)
             shutil.copytree(folder, f"{crate.folder}/out/rlib", copy_function=link_or_copy)
         self.has_left = True
         return True
@@ -209,8 +225,11 @@ class Copy:
     def tries_edit(self, name, edit, begin, keep):
         """Whether the toolchain's own rule finds an edit of must-fail/ refused, and what it says. Raises Late if it gives no verdict in time."""
         self.begin_with(begin, keep)
-        with self.limit.within():
-            verdict, why = self.rt.must_fail(self.crates[name], f"{self.root}/crates/{name}/{edit}.edit", ["--jobs", "1"], keep)
+        with tempfile.TemporaryDirectory() as room, self.limit.within():
+            file = f"{room}/{os.path.basename(edit.name)}.edit"
+            with open(file, "wb") as it:
+                it.write(edit.data)
+            verdict, why = self.rt.must_fail(self.crates[name], file, ["--jobs", "1"], keep)
         # a toolchain that keeps what it proved has a word for each verdict, and one that doesn't says whether it is refused
         return verdict in (True, *(getattr(self.rt, it, True) for it in VERDICTS)), why
 
@@ -221,13 +240,24 @@ class Copy:
         kept = f"{self.root}/crates/{name}/out/incremental"
         return kept if not self.has_left and os.path.isdir(kept) and os.listdir(kept) else None
 
-    def sum(self, name):
-        """A sum of all that a verdict on a crate rests on: the toolchain, its line of crates.txt, and its files and those below."""
-        if self.rt.keeps:
-            return self.rt.stamp_of(self.crates[name], self.stamps)
-        if name not in self.stamps:
-            self.stamps[name] = self.crates[name].stamp()
-        return self.stamps[name]
+    def sum(self, name, kind, made):
+        """A sum of a crate, which is made once."""
+        if (name, kind) not in self.sums:
+            self.sums[name, kind] = hashlib.sha256(repr(made(self.crates[name])).encode()).hexdigest()
+        return self.sums[name, kind]
+
+    def seen(self, name):
+        """A sum of the toolchain and of what crates above see of a crate: its line of crates.txt, and its files without bodies and answers."""
+        line = lambda it: (it.name, it.said, it.is_program, [low.name for low in it.deps], list(it.of_kit))
+        return self.sum(name, "seen", lambda it: (self.rt.kit_sum(), self.rt.Crate.allowed, line(it), list(rests.seen(it.folder, PARTS))))
+
+    def rests_on(self, name, sources, body):
+        """A sum of all that a verdict on a wrong body rests on. With a toolchain that keeps nothing it rests on all files of its crate and of those below."""
+        if not self.rt.keeps:
+            return self.sum(name, "stamp", lambda it: it.stamp())
+        spots = sources.spots(body) if body.changes else None
+        own = self.sum(name, "own", self.rt.own_sum) if spots is None else list(rests.changed(sources, spots))
+        return hashlib.sha256(repr((own, [self.seen(it) for it in [name, *(low.name for low in self.crates[name].below())]])).encode()).hexdigest()
 
 
 class Results:
@@ -236,11 +266,10 @@ class Results:
     def __init__(self, copy):
         cache = os.environ.get("XDG_CACHE_HOME") or os.path.expanduser("~/.cache")
         self.copy, self.folder = copy, f"{copy.rt.STORE if copy.rt.keeps else cache + '/mcserver'}/wrong"
-        with open(os.path.join(os.path.dirname(os.path.realpath(__file__)), "bodies.py"), "rb") as file:
-            self.judge = hashlib.sha256(file.read()).hexdigest()
+        self.judge = [hashlib.sha256(inspect.getsource(it).encode()).hexdigest() for it in (bodies, rests)]
 
     def key(self, crate, body):
-        return hashlib.sha256(repr((self.judge, self.copy.sum(crate), body.name, body.data)).encode()).hexdigest()
+        return hashlib.sha256(repr((self.judge, self.copy.rests_on(crate.name, crate.sources, body), body.name, body.data)).encode()).hexdigest()
 
     def find(self, crate, body):
         """Why the body was refused, or None where it wasn't judged yet."""
@@ -258,5 +287,13 @@ class Results:
         with contextlib.suppress(OSError):
             os.makedirs(self.folder, 0o700, exist_ok=True)
             with tempfile.NamedTemporaryFile("w", dir=self.folder, delete=False, encoding="utf-8") as file:
-                json.dump({"key": key, "body": f"{crate}/{body.name}", "why": why}, file)
+                json.dump({"key": key, "body": f"{crate.name}/{body.name}", "why": why}, file)
             os.replace(file.name, f"{self.folder}/{key}")
+
+
+def is_much_to_prove(root):
+    """Whether `rt ci` has to prove more than half of the crates, as it kept nothing of their files over the libraries below."""
+    with tempfile.TemporaryDirectory(prefix="mcserver-kept-") as folder:
+        copy = Copy(root, folder)
+        copy.takes_kept(list(copy.crates.values()))
+        return 2 * len(copy.brought) < len(copy.crates)

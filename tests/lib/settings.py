@@ -8,13 +8,14 @@
     ALTERED     how many shorter runs are recorded and altered
     JOBS        how many records are judged, or requests refused, side by side
     LIMIT       seconds after which a check of wrong bodies is killed
+    LONGEST     seconds after which a test that has no end is ended, and the run with it
     KEEP        the folder in which records lie that aren't as they should be
 """
 import os
 import tempfile
 
 ROOT = os.path.dirname(os.path.dirname(os.path.dirname(os.path.realpath(__file__))))
-NUMBERS = {"COUNT": 300, "SEED": 1, "INPUTS": 100_000, "CALLS": 25_000, "SEEDS": 20, "FIRST": 1, "ALTERED": 5, "JOBS": os.cpu_count() or 1, "LIMIT": 2400}
+NUMBERS = {"COUNT": 300, "SEED": 1, "INPUTS": 100_000, "CALLS": 25_000, "SEEDS": 20, "FIRST": 1, "ALTERED": 5, "JOBS": os.cpu_count() or 1, "LIMIT": 2400, "LONGEST": 900}
 NAMES = [*NUMBERS, "PROGRAM", "KEEP"]
 
 

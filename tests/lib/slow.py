@@ -42,6 +42,25 @@ class Honest(threading.Thread):
             self.times.append(time.monotonic() - began)
 
 
+class Sets(threading.Thread):
+    """A client that sets blocks of one length, and notes how long each took."""
+
+    def __init__(self, port, count, length):
+        super().__init__(daemon=True)
+        self.port, self.count, self.sent, self.times, self.fault = port, count, b"set of 0 0 %d\r\n%s\r\n" % (length, b"s" * length), [], None
+
+    def run(self):
+        try:
+            with Peer(self.port, PATIENCE) as peer:
+                for _ in range(self.count):
+                    time.sleep(0.1)
+                    began = time.monotonic()
+                    peer.asks(self.sent, b"STORED\r\n")
+                    self.times.append(time.monotonic() - began)
+        except (OSError, AssertionError) as error:
+            self.fault = error
+
+
 class Drips(threading.Thread):
     """Clients that begin a block and send a byte of it each 1, 3 or 10 seconds. One that was closed comes again."""
 

@@ -9,6 +9,8 @@ from tests.lib.wait import until
 
 HOUR = 3600
 ITEMS = 200
+# Each worker has looked at the clock, and one has judged the system's, after so many seconds.
+LOOKS = 2.5
 # An item expires within so many seconds of its expiry, on a machine that is busy.
 SOON = 10
 
@@ -63,11 +65,30 @@ class Clock(ProgramCase):
             self.assertGreater(time.monotonic() - stored, 1.5, "seconds that items of 3 seconds lived")
 
     def test_set_forward(self):
-        """A step forward is taken as it is, and a step back from there is none."""
+        """A step forward is followed once it has stood for a minute, and a step back from there is none."""
         with Faults() as faults, Server(faults=faults) as server, Peer(server.port) as peer:
             self.store(peer, b"hour", HOUR)
-            faults.set_clock_back(-HOUR - 10)
+            faults.set_clock_back(-HOUR - 100)
+            time.sleep(LOOKS)
+            self.assertEqual(ITEMS, self.alive(peer, b"hour"), "items that live, while the step hasn't stood for a minute")
+            faults.pass_seconds(61)
             self.assertTrue(self.is_dead(peer, b"hour"), "an item of an hour is alive, an hour later")
             faults.set_clock_back(0)
-            time.sleep(0.6)
+            time.sleep(LOOKS)
             self.assertEqual(0, self.alive(peer, b"hour"), "items that were dead are hits")
+
+    def test_ahead_for_two_seconds(self):
+        """A clock that is a day ahead for two seconds kills nothing, also of what is stored afterwards."""
+        unix = b"set unix 0 %d 1\r\nx\r\n" % (int(time.time()) + HOUR)
+        hit = b"VALUE unix 0 1\r\nx\r\nEND\r\n"
+        with Faults() as faults, Server(faults=faults) as server, Peer(server.port) as peer:
+            peer.asks(unix, b"STORED\r\n")
+            faults.set_clock_back(-24 * HOUR)
+            time.sleep(2)
+            faults.set_clock_back(0)
+            time.sleep(LOOKS)
+            faults.pass_seconds(61)
+            time.sleep(LOOKS)
+            peer.asks(b"get unix\r\n", hit)
+            peer.asks(unix, b"STORED\r\n")
+            peer.asks(b"get unix\r\n", hit)

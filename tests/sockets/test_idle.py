@@ -7,6 +7,7 @@ from tests.lib.abuse import store_large
 from tests.lib.case import ProgramCase
 from tests.lib.faults import Faults, late
 from tests.lib.peer import Peer, answers, clients
+from tests.lib.scrape import MetricsServer
 from tests.lib.server import HOST, MOMENT, Server
 from tests.lib.wait import until
 
@@ -108,6 +109,23 @@ class Idle(ProgramCase):
                 time.sleep(POLL)
                 for peer in peers:
                     peer.asks(b"get a\r\n", b"END\r\n")
+
+    def test_those_that_wait_for_memory(self):
+        """Clients that send on while others hold all memory, so that nothing of theirs is read, aren't idle."""
+        waiting, closed = "mcserver_waiting_connections", 'mcserver_connections_closed_total{reason="idle"}'
+        with MetricsServer("--idle-timeout", str(LIMIT), "--buffer-limit", "4", workers=1) as server, clients(server.port, 12) as peers:
+            for number, peer in enumerate(peers):
+                peer.send(b"set k%d 0 0 1000000\r\n" % number)
+                peer.socket.setblocking(False)
+            most, end = 0, time.monotonic() + WATCHED
+            while time.monotonic() < end:
+                for peer in peers:
+                    with contextlib.suppress(BlockingIOError, ConnectionError):
+                        peer.socket.send(b"b" * 10_000)
+                most = max(most, server.scrape()[waiting])
+                time.sleep(0.1)
+            self.assertGreaterEqual(most, 3, "connections that wait")
+            self.assertEqual(0, server.scrape()[closed], f"connections closed as idle, of which {most} waited")
 
     def test_the_place_of_one_comes_back(self):
         with idle_server(LIMIT, "-c", "2") as server:

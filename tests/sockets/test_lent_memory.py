@@ -139,13 +139,13 @@ class LentMemory(ProgramCase):
         if act < 0.75:
             return told.asks(b"append %s 0 0 16\r\n%s\r\n" % (key, data[:16]))
         if act < 0.8:
-            return told.asks(b"touch %s %d\r\n" % (key, chance.choice([-1, 0, 100])))
+            return told.asks(b"touch %s %d\r\n" % (key, chance.choice([0, 100])))
         return told.asks(b"delete %s\r\n" % key)
 
     def test_readers_of_items_that_are_written_again(self):
         """Clients have parts of an item that is changed behind each of them: memory is bound by pages and the limit of buffers.
 
-        Who has the last bytes of a page has a page. They come until one isn't answered, as what others hold fills the limit."""
+        Who has the last bytes of a page has a page. Beyond the limit the slowest are closed."""
         for name, length, change, count, reads in BOUNDED:
             with self.subTest(name), StillServer(pages=PAGES, workers=1, buffers=LIMIT) as server, Peer(server.port, LET_ON) as peer:
                 told, readers, before = Told(peer, PAGES, MB), [], server.memory()
@@ -159,7 +159,9 @@ class LentMemory(ProgramCase):
                     for _ in range(20):
                         append(told, length)
                     print(f"    {name}: {server.memory() - before >> 20} MB, {sum(bool(it.got) for it in readers)} readers")
-                    costs(server, before, PAGES * MB + LIMIT * MB + BESIDE)
+                    # the slowest of those that hold what has left are closed, at most 16 in a quarter of a second
+                    most = before + PAGES * MB + LIMIT * MB + BESIDE
+                    self.assertTrue(until(lambda: server.memory() <= most, 5), f"{server.memory() >> 20} MB, and {most >> 20} are meant to do")
 
     def test_each_chunk_is_written_while_it_is_read(self):
         """Each chunk of a store is written while a client reads it, and again: what was reserved for copies isn't in memory afterwards."""

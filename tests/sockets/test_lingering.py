@@ -6,7 +6,8 @@ from concurrent.futures import ThreadPoolExecutor
 from tests.lib.abuse import KEPT, abused
 from tests.lib.case import ProgramCase, tests_of
 from tests.lib.compare import difference
-from tests.lib.peer import Peer
+from tests.lib.peer import Peer, clients
+from tests.lib.scrape import MetricsServer
 from tests.lib.server import StillServer
 from tests.lib.wait import until
 
@@ -21,6 +22,9 @@ OVER = 6
 DROPPED, SYSTEMS = 2**20, 16 * 2**20
 JUNK = b"j" * MORE
 TOO_LONG = b"CLIENT_ERROR line too long\r\n"
+# How many may be open, and the names of what is counted.
+MOST = 20
+OPEN, LINGERING = "memcached_current_connections", "mcserver_lingering_connections"
 # What is sent, what is sent behind it after how many seconds, and what is answered behind the item.
 ROWS = [
     ("quit and more at once", b"quit\r\n" + JUNK, 0, b"", b""),
@@ -121,3 +125,50 @@ class Ends(ProgramCase):
                     time.sleep(0.3)
                     for nth, it in enumerate(newcomers):
                         it.asks(b"get k%d\r\n" % nth, b"VALUE k%d 0 3\r\n%03d\r\nEND\r\n" % (nth, nth))
+
+
+class Beside(ProgramCase):
+    """Those that linger count apart from those that -c bounds, and as many may."""
+
+    def leaves(self, peer):
+        peer.asks(b"get a\r\nquit\r\n", b"END\r\n")
+        self.assertFalse(peer.more(time.monotonic() + OVER), "bytes behind the answer")
+
+    def test_newcomers_beside_them(self):
+        """As many that stay behind their quit as may be open keep no newcomer out."""
+        with MetricsServer("-c", str(MOST), workers=2) as server:
+            server.settle()
+            with clients(server.port, MOST) as leaving:
+                for it in leaving:
+                    self.leaves(it)
+                # the end of the stream comes just before it is counted apart
+                self.assertTrue(until(lambda: server.scrape()[OPEN] == 0, OVER))
+                with clients(server.port, MOST) as newcomers:
+                    for it in newcomers:
+                        it.asks(b"get a\r\n", b"END\r\n")
+                    now = server.scrape()
+                    self.assertEqual(MOST, now[OPEN])
+                    self.assertLessEqual(now[LINGERING], MOST)
+
+    def test_too_many_of_them(self):
+        """If more would linger the oldest is closed: no more sockets are open, and the newest lingers on."""
+        with MetricsServer("-c", str(MOST), workers=1) as server:
+            server.settle()
+            with contextlib.ExitStack() as stack:
+                leaving = []
+                for _ in range(3 * MOST):
+                    leaving.append(stack.enter_context(Peer(server.port)))
+                    self.leaves(leaving[-1])
+                now = server.scrape()
+                self.assertLessEqual(now[LINGERING], MOST)
+                self.assertEqual(0, now[OPEN])
+                self.assertLessEqual(server.connections(), MOST + 1)
+                self.assertTrue(until(lambda: self.is_reset(leaving[0]), OVER), "the oldest is open")
+
+    def is_reset(self, peer):
+        """Whether what it sends is refused, as its connection is closed."""
+        try:
+            peer.send(b"j")
+        except ConnectionError:
+            return True
+        return False

@@ -335,12 +335,12 @@ class Metrics(ProgramCase):
         with MetricsServer("--buffer-limit", "1", workers=2) as server, clients(server.port, 4) as peers:
             now = server.scrape()
             self.assertEqual([0, MIB, 0], [now[it] for it in (HELD, BUFFERS, WAITING)])
-            # each worker may hold 448 KiB, and a connection counts for 494,064 bytes, which its block's chunk takes over; what else waits
-            # is one beside each, which holds at most a sixteenth of its block and 16,384 bytes
+            # each worker may hold 448 KiB, and a connection counts for 420,336 bytes: what its block's chunk takes over, less its own 72 KiB;
+            # what else waits is one beside each, which holds at most a sixteenth of its block and 16,384 bytes
             block = b"h" * 400_000
             sent_as_far(peers, b"set held 0 0 400000\r\n" + block[:200_000], 0.5)
             self.assertTrue(until(lambda: server.scrape()[WAITING] == 2, SOON), server.scrape())
-            self.assertTrue(988_128 <= server.scrape()[HELD] <= 988_128 + 2 * 41_384, server.scrape()[HELD])
+            self.assertTrue(840_672 <= server.scrape()[HELD] <= 840_672 + 2 * 41_384, server.scrape()[HELD])
             for peer in peers:
                 peer.close()
             self.assertTrue(until(lambda: [server.scrape()[it] for it in (HELD, WAITING)] == [0, 0], SOON), server.scrape())

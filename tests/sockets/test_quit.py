@@ -28,6 +28,7 @@ GRANTED = [
     b"Host:\t127.255.0.3:80 \r\n",
     b"Host: [::1]\r\n",
     b"HOST: [::1]:9150\r\n",
+    b"Host: localhost:\r\n",
     b"X-Origin: http://example.org\r\nHost: localhost\r\nReferer: http://example.org/\r\n",
 ]
 REFUSED = [
@@ -47,6 +48,11 @@ REFUSED = [
     b"Host: [::2]:9150\r\n",
     b"Host: [::1].example.org\r\n",
     b"Host: ::1\r\n",
+    b"Host: localhost:a\r\n",
+    b"Host: localhost:80.example.org\r\n",
+    b"Host: 127.0.0.1:80@example.org\r\n",
+    b"Host: 127.0.0.1:80:80\r\n",
+    b"Host: [::1]:80a\r\n",
     b"Host: localhost\r\nHost: example.org\r\n",
     b"Host: localhost\r\n" + b"A: b\r\n" * 62 + b"Origin: a\r\n",
 ]

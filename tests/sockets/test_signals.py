@@ -1,4 +1,6 @@
 """Signals that ask it to end, and one that stops it for a while."""
+import os
+import resource
 import signal
 import subprocess
 import threading
@@ -9,10 +11,12 @@ from tests.lib.abuse import ANSWERED
 from tests.lib.case import ProgramCase
 from tests.lib.listening import ENDS
 from tests.lib.peer import Peer
-from tests.lib.server import StillServer
+from tests.lib.server import Server, StillServer
 from tests.lib.wait import until
 
 CLIENTS = 8
+# The bytes that a log may have where files are limited.
+LOG = 512
 
 
 class Counter:
@@ -62,3 +66,14 @@ class Signals(ProgramCase):
             for it in runs:
                 it.result(ANSWERED)
         self.assertTrue(moved, f"some clients had no answer {ANSWERED} s after it went on")
+
+    def test_a_log_at_the_limit_of_files(self):
+        """Started where XFSZ is ignored, it drops the lines for which its log has no room, and goes on."""
+        with Server(args=["-v"], limit=(resource.RLIMIT_FSIZE, LOG, LOG)) as server:
+            for _ in range(20):
+                with Peer(server.port) as peer:
+                    peer.asks(b"get a\r\n", b"END\r\n")
+            self.assertTrue(until(lambda: os.fstat(server.output.fileno()).st_size == LOG, ANSWERED), "the log has room left")
+            with Peer(server.port) as peer:
+                peer.asks(b"get a\r\n", b"END\r\n")
+            self.assertTrue(server.runs())

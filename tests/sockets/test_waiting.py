@@ -3,13 +3,15 @@ import contextlib
 import selectors
 import socket
 import time
+from concurrent.futures import ThreadPoolExecutor
 
 from tests.lib.abuse import GIVEN_BACK, LITTLE, MB, costs, sent_as_far
 from tests.lib.case import ProgramCase
+from tests.lib.lent import Unread, block, setting
 from tests.lib.peer import Peer, clients
 from tests.lib.scrape import MetricsServer
 from tests.lib.server import Server
-from tests.lib.slow import Drips, Honest, TimesOut, readers, uploads
+from tests.lib.slow import Drips, Honest, Sets, TimesOut, readers, uploads
 from tests.lib.wait import until
 
 # An honest request is answered in so many seconds, but for one in a hundred. On a machine that is busy it may take so many times what
@@ -23,6 +25,14 @@ SLOW, PACE, FAST = 100, 400_000, 20
 STILL, UPLOADS = 7, 40
 # What all may hold by default, in bytes.
 HELD = 64 * MB
+# A block that waits while the buffers are full, its first bytes, and its answer.
+BLOCK = b"set waits 0 0 1000000\r\n%s\r\n" % (b"w" * 1_000_000)
+BEGUN = BLOCK[:30_000]
+STORED = b"STORED\r\n"
+# How many send a long line, and how many keep memory that was written over.
+LINES, READERS = 900, 24
+# How many read one item, how many bytes a second each, and how many blocks of so many bytes others set meanwhile.
+MANY, LITTLE_PACE, SETS, SET = 64, 100_000, 30, 200_000
 
 
 class Waiting(ProgramCase):
@@ -97,6 +107,45 @@ class Waiting(ProgramCase):
         print(f"    slow ones got {min(slow):,} to {max(slow):,} bytes, fast ones {sum(it.got for it in made) - sum(slow):,} together")
         self.assertEqual(closed, 0, f"{closed} of {SLOW + FAST} were closed")
 
+    def test_many_read_one_item(self):
+        """Sixty-four clients read one item of 1 MB at 100 KB a second: blocks of others are stored within a second, and none is closed."""
+        with Server() as server:
+            with Peer(server.port) as peer:
+                peer.asks(b"set large 0 0 1000000\r\n%s\r\n" % (b"l" * 1_000_000), STORED)
+            sets = Sets(server.port, SETS, SET)
+            sets.start()
+            made = readers([LITTLE_PACE] * MANY, server.port, len(b"VALUE large 0 1000000\r\n\r\nEND\r\n") + 1_000_000, SECONDS)
+            sets.join(SECONDS)
+        print(f"    {len(sets.times)} blocks, the slowest after {max(sets.times, default=0):.2f} s")
+        self.assertEqual((sets.fault, len(sets.times)), (None, SETS))
+        self.assertLess(max(sets.times), SOON)
+        self.assertEqual(sum(it.is_closed for it in made), 0)
+
+    def test_long_lines_that_do_not_end(self):
+        """Nine hundred clients have sent 54 KB of a line each: blocks of others are stored within a second."""
+        with Server(args=["-c", "2000"]) as server, clients(server.port, LINES) as peers:
+            for it in peers:
+                it.send(b"get " + b"large " * 9_000)
+            sets = Sets(server.port, SETS, SET)
+            sets.start()
+            sets.join(5 * SECONDS)
+            self.assertEqual((sets.fault, len(sets.times)), (None, SETS))
+            self.assertLess(max(sets.times), SOON)
+
+    def test_readers_of_what_has_left(self):
+        """Clients that read nothing keep memory that was written over: beyond the limit the slowest are closed, and a block of another waits for none."""
+        with Server(args=["--buffer-limit", "8"], workers=1) as server, Peer(server.port) as peer, contextlib.ExitStack() as closing:
+            made = []
+            for number in range(READERS):
+                peer.asks(setting(b"large", block(number, 1_000_000)), STORED)
+                made.append(closing.enter_context(Unread(server.port, b"get large\r\n")))
+                self.assertTrue(made[-1].begins())
+            began = time.monotonic()
+            peer.asks(setting(b"other", block(0, SET)), STORED)
+            self.assertLess(time.monotonic() - began, SOON)
+            self.assertTrue(until(lambda: server.connections() <= 10, 5), f"{server.connections()} connections")
+            self.assertGreaterEqual(server.connections(), 5)
+
     def test_a_pause(self):
         """A server stands still for 7 seconds while forty clients send blocks: each block is stored."""
         with Server() as server:
@@ -133,16 +182,23 @@ class Kept(ProgramCase):
         """Answers that were decided come at once, though the next request waits."""
         with self.full() as server, Peer(server.port) as peer:
             began = time.monotonic()
-            peer.asks(b"get small\r\nget small\r\nget large\r\n", b"VALUE small 0 1\r\ns\r\nEND\r\n" * 2)
-            self.assertLess(time.monotonic() - began, 2)  # (the large one waits for 5 s)
-            peer.is_told(b"VALUE large 0 1000000\r\n%s\r\nEND\r\n" % (b"l" * 1_000_000))
+            peer.asks(b"get small\r\nget small\r\n" + BEGUN, b"VALUE small 0 1\r\ns\r\nEND\r\n" * 2)
+            self.assertLess(time.monotonic() - began, 2)  # (the block waits for 5 s)
+            peer.asks(BLOCK[len(BEGUN) :], STORED)
+
+    def test_a_large_answer_waits_for_nobody(self):
+        """An item that is sent from where it lies takes no room."""
+        with self.full() as server, Peer(server.port) as peer:
+            began = time.monotonic()
+            peer.asks(b"get large\r\n", b"VALUE large 0 1000000\r\n%s\r\nEND\r\n" % (b"l" * 1_000_000))
+            self.assertLess(time.monotonic() - began, 2)
 
     def test_one_that_breaks_leaves(self):
         """A connection that is reset while it waits is closed at once."""
         with self.full() as server:
             before = server.connections()
             peer = Peer(server.port)
-            peer.send(b"get large\r\n")
+            peer.send(BEGUN)
             self.assertTrue(until(lambda: server.connections() == before + 1, 2), f"{server.connections()} connections")
             time.sleep(0.3)
             peer.reset()
@@ -151,24 +207,24 @@ class Kept(ProgramCase):
     def test_one_that_is_idle_leaves(self):
         """One that waits ends by --idle-timeout."""
         with self.full("--idle-timeout", "1") as server, Peer(server.port) as peer:
-            peer.send(b"get large\r\n")
+            peer.send(BEGUN)
             self.assertTrue(peer.is_closed())
 
     def test_all_get_through(self):
         """Each of many that wait is served once those that hold much have ended, and none is closed."""
         with self.full() as server, clients(server.port, 40, seconds=30) as peers:
             for peer in peers:
-                peer.send(b"get large\r\n")
-            for peer in peers:
-                peer.is_told(b"VALUE large 0 1000000\r\n%s\r\nEND\r\n" % (b"l" * 1_000_000))
+                peer.send(BEGUN)
+            # all at once, as the newest may be let on before others
+            with ThreadPoolExecutor(len(peers)) as pool:
+                list(pool.map(lambda peer: peer.asks(BLOCK[len(BEGUN) :], STORED), peers))
 
     def test_one_that_sends_no_more(self):
         """One that has shut down its write side and waits has its answers, then the end, and leaves nothing behind."""
-        hit = b"VALUE large 0 1000000\r\n%s\r\nEND\r\n" % (b"l" * 1_000_000)
         with self.full() as server, Peer(server.port, seconds=30) as peer:
-            peer.send(b"get large\r\nget none\r\nget large\r\n")
+            peer.send(BLOCK + b"get none\r\n" + BLOCK)
             peer.socket.shutdown(socket.SHUT_WR)
-            peer.is_told(hit + b"END\r\n" + hit)
+            peer.is_told(STORED + b"END\r\n" + STORED)
             self.assertFalse(peer.more(time.monotonic() + peer.seconds), "more than was asked for")
             for it in self.holders:
                 it.close()
@@ -185,7 +241,7 @@ class Reported(ProgramCase):
             sent_as_far(holders, b"set held 0 0 1000000\r\n" + b"h" * 900_000, 0.5)
             before = server.scrape()
             with Peer(server.port, seconds=30) as peer:
-                peer.asks(b"get large\r\n", b"VALUE large 0 1000000\r\n%s\r\nEND\r\n" % (b"l" * 1_000_000))
+                peer.asks(BLOCK, STORED)
                 grown = server.grown(before)
         found = [it for it in ("hoarding", "idle", "session_over", "read_fault", "write_fault") if reasons % it in grown]
         self.assertEqual(["hoarding"], found, "reasons of connections that were closed")

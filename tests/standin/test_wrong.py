@@ -5,8 +5,10 @@ They are of a small crate of its own, which the toolchain checks. (No part of th
 import contextlib
 import io
 import os
+import shutil
 import subprocess
 import tempfile
+import threading
 import time
 import unittest
 from unittest import mock
@@ -36,7 +38,7 @@ pub fn twice(number: u32) -> u32
 }
 
 /// Returns a number and four.
-pub fn four_more(number: u32) -> u32
+pub const fn four_more(number: u32) -> u32
     requires { number < 1000 }
     ensures { result ≡ number + 4 }
 {
@@ -75,6 +77,19 @@ BODIES = {
     "of_no_function": ("five_more", "    next(behind)", "    next(behind) + 1", "FAILED: there is no function"),
     "in_what_calls_a_wrong_one": ("behind_next", "    let behind = next(number);", "    let it = number; let behind = next(it);", "FAILED: "),
     "of_no_text": ("next", "    number + 7", "    number + 8", "FAILED: an 'old:' text stands in src/lib.rt 0 times"),
+}
+# Changes of the first crate: the file, the text, the new text, and the crates whose wrong bodies aren't judged again.
+CHANGES = {
+    "a body of another function": ("src/lib.rt", "    number + number\n}", "    number * 2\n}", {"mc_sums", "mc_doubles"}),
+    "lines of another body": ("src/lib.rt", "    next(behind)\n", "    let last = next(behind);\n    last\n", {"mc_sums", "mc_doubles"}),
+    "the body that is changed": ("src/lib.rt", "    number + 1\n}", "    1 + number\n}", {"mc_doubles"}),
+    "answers of another function": ("proofs/twice/Answers.antt", "two", "three", {"mc_sums", "mc_doubles"}),
+    "answers of the function": ("proofs/next/Answers.antt", "one", "three", {"mc_doubles"}),
+    "a clause": ("src/lib.rt", "result ≡ number + number", "result ≡ number * 2", set()),
+    "a signature": ("src/lib.rt", "pub fn twice(number: u32)", "pub fn twice(it: u32)", set()),
+    "an item": ("src/lib.rt", "//! Small sums.\n", "//! Small sums.\n\nconst MOST: u32 = 7;\n", set()),
+    "a body of a const fn": ("src/lib.rt", "    number + 4\n}", "    4 + number\n}", set()),
+    "a line of crates.txt": ("../../crates.txt", "mc_sums:", "mc_sums: itoa", set()),
 }
 # A prover that refuses each function that it is asked for. Where a text adds 5 it gives no verdict, and what it starts keeps its output open.
 PROVER = """#!/bin/sh
@@ -170,6 +185,56 @@ class WrongBodies(unittest.TestCase):
                 status = wrong.main(["mc_doubles", "mc_sums", "--anew", "--left"], folder)
         lines = said.getvalue().splitlines()
         self.assertEqual(("2 passed, 0 failed", 0), (lines[-1], status), lines)
+
+    def test_bodies_are_judged_beside_the_gate(self):
+        with tempfile.TemporaryDirectory() as folder, contextlib.ExitStack() as changed:
+            said = changed.enter_context(contextlib.redirect_stdout(io.StringIO()))
+            self.repository(folder, ["one_too_many"])
+            self.put_above(folder)
+            os.makedirs(f"{folder}/aside/mc_sums")
+            shutil.move(f"{folder}/crates/mc_sums/wrong/one_too_many.edit", f"{folder}/aside/mc_sums")
+            heard, line = os.pipe()
+            for patch in (mock.patch.object(wrong.sys, "stdin", changed.enter_context(os.fdopen(heard))), mock.patch.object(os, "nice")):
+                changed.enter_context(patch)
+            ci = subprocess.Popen(["rt", "ci"], cwd=folder, stdin=subprocess.DEVNULL, stdout=subprocess.DEVNULL)
+            threading.Thread(target=lambda: (ci.wait(), os.write(line, b"proved\n"), os.close(line))).start()
+            status = wrong.main(["mc_doubles", "mc_sums", "--anew", "--left", "--edits", "--beside", "aside"], folder)
+        lines = said.getvalue().splitlines()
+        self.assertIn("mc_sums/must-fail/one_too_many: refused: ", "\n".join(lines))
+        self.assertEqual(("2 passed, 0 failed", 0), (lines[-1], status), lines)
+
+    def test_a_refusal_rests_on_what_is_seen(self):
+        with tempfile.TemporaryDirectory() as folder:
+            self.repository(folder, ["one_too_many"])
+            self.put_above(folder)
+            self.answer(folder, "next", "-- one\n")
+            self.answer(folder, "twice", "-- two\n")
+            before = self.keys(folder)
+            for what, (file, old, new, stays) in CHANGES.items():
+                with self.subTest(what):
+                    path = f"{folder}/crates/mc_sums/{file}"
+                    with open(path, encoding="utf-8") as it:
+                        text = it.read()
+                    self.assertIn(old, text)
+                    with open(path, "w", encoding="utf-8") as it:
+                        it.write(text.replace(old, new, 1))
+                    after = self.keys(folder)
+                    self.assertEqual(stays, {crate for crate in before if before[crate] == after[crate]})
+                    with open(path, "w", encoding="utf-8") as it:
+                        it.write(text)
+            self.assertEqual(before, self.keys(folder))
+
+    def keys(self, folder):
+        """The keys by which the refusals of the crates' wrong bodies are kept."""
+        with tempfile.TemporaryDirectory() as room, mock.patch.object(kit, "Limit"):
+            results = kit.Results(kit.Copy(folder, room))
+            crates = [wrong.Crate(it, results.copy) for it in ("mc_sums", "mc_doubles")]
+            return {it.name: [results.key(it, body) for body in it.read(f"{folder}/crates/{it.name}/wrong", None)] for it in crates}
+
+    def answer(self, folder, function, text):
+        os.makedirs(f"{folder}/crates/mc_sums/proofs/{function}")
+        with open(f"{folder}/crates/mc_sums/proofs/{function}/Answers.antt", "w", encoding="utf-8") as it:
+            it.write(text)
 
     def put_above(self, folder):
         """Adds a crate with a wrong body above the first one."""

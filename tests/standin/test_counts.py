@@ -1,0 +1,111 @@
+"""What holds the suite itself: tests that are gone, skipped, without an end, or that die in a thread are failures."""
+import io
+import os
+import subprocess
+import sys
+import tempfile
+import threading
+import unittest
+
+from tests.lib import counts
+from tests.lib.result import Result
+from tests.lib.settings import ROOT
+
+PINNED = {"test_a.py": (5, 0), "test_b.py": (2, 1)}
+# A folder of tests with one that waits for ever.
+ENDLESS = """
+import threading, unittest
+class Waits(unittest.TestCase):
+    def test_for_ever(self):
+        threading.Event().wait()
+"""
+
+
+def ran(case):
+    """Runs the tests of a class, and gives the result."""
+    result = Result(unittest.runner._WritelnDecorator(io.StringIO()), True, 0)
+    unittest.defaultTestLoader.loadTestsFromTestCase(case).run(result)
+    return result
+
+
+class Counts(unittest.TestCase):
+    def found(self, **changed):
+        return list(counts.faults("sockets", {**PINNED, **changed}, PINNED))
+
+    def test_what_is_pinned_has_no_fault(self):
+        self.assertEqual([], self.found())
+
+    def test_a_file_that_is_gone(self):
+        seen = {"test_a.py": (5, 0)}
+        (line,) = counts.faults("sockets", seen, PINNED)
+        self.assertRegex(line, "^sockets/test_b.py: it is gone")
+
+    def test_fewer_parts(self):
+        self.assertRegex(self.found(**{"test_a.py": (4, 0)})[0], "^sockets/test_a.py: 4, where .* has 5$")
+
+    def test_fewer_parts_by_a_skip(self):
+        self.assertRegex(self.found(**{"test_a.py": (4, 1)})[0], "1 more of its tests are skipped$")
+
+    def test_more_parts_want_a_line(self):
+        self.assertRegex(self.found(**{"test_a.py": (6, 0)})[0], "pin it in the same commit$")
+
+    def test_a_new_file_wants_a_line(self):
+        self.assertRegex(self.found(**{"test_c.py": (1, 0)})[0], "^sockets/test_c.py: .* lacks it")
+
+    def test_what_is_written_is_read(self):
+        with tempfile.TemporaryDirectory() as folder:
+            counts.pin("sockets", PINNED, f"{folder}/counts.txt")
+            counts.pin("protocol", {"test_rows.py": (700, 0)}, f"{folder}/counts.txt")
+            self.assertEqual({"sockets": PINNED, "protocol": {"test_rows.py": (700, 0)}}, counts.read(f"{folder}/counts.txt"))
+
+
+    def test_a_wrong_body_and_a_row_that_are_taken_away(self):
+        with tempfile.TemporaryDirectory() as folder:
+            for name in ("crates/mc_x/src", "crates/mc_x/wrong", "tests/rows/one"):
+                os.makedirs(f"{folder}/{name}")
+            for name in ("crates/mc_x/wrong/a.edit", "tests/rows/one/stdin"):
+                open(f"{folder}/{name}", "w").close()
+            before = counts.lying(folder)
+            os.remove(f"{folder}/crates/mc_x/wrong/a.edit")
+            os.remove(f"{folder}/tests/rows/one/stdin")
+            found = [line for kind, seen in counts.lying(folder).items() for line in counts.faults(kind, seen, before[kind])]
+        self.assertEqual(["bodies/mc_x: 0, where tests/counts.txt has 1", "folders/tests/rows: 0, where tests/counts.txt has 1"], found)
+
+
+class Results(unittest.TestCase):
+    def test_what_a_thread_raises_fails_its_test(self):
+        class Dies(unittest.TestCase):
+            def test_it(self):
+                one = threading.Thread(target=lambda: self.fail("an answer is wrong"))
+                one.start()
+                one.join()
+
+        result = ran(Dies)
+        self.assertEqual(1, result.failed)
+        self.assertFalse(result.wasSuccessful())
+
+    def test_parts_and_skips_are_counted(self):
+        class Parts(unittest.TestCase):
+            def test_parts(self):
+                for number in range(3):
+                    with self.subTest(number):
+                        pass
+
+            def test_alone(self):
+                pass
+
+            def test_left_out(self):
+                self.skipTest("it wants something")
+
+        self.assertEqual({"test_counts.py": (4, 1)}, ran(Parts).by_file())
+
+    def test_one_without_an_end_is_ended_by_its_name(self):
+        with tempfile.TemporaryDirectory(dir=f"{ROOT}/tests") as folder:
+            name = os.path.basename(folder)
+            for file, text in (("__init__.py", ""), ("test_endless.py", ENDLESS)):
+                with open(f"{folder}/{file}", "w", encoding="utf-8") as to:
+                    to.write(text)
+            words = [sys.executable, "-c", f"from tests.__main__ import run; run({name!r})"]
+            ended = subprocess.run(words, cwd=ROOT, env={**os.environ, "LONGEST": "1"}, capture_output=True, text=True, timeout=60)
+        self.assertEqual(1, ended.returncode)
+        self.assertIn("test_endless.Waits.test_for_ever: it has no end in 1 s", ended.stdout)
