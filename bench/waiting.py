@@ -3,8 +3,9 @@
 
 For each row a server is started anew, first memcached and then the program, and one process asks it for small items over some
 connections at once, each with one request under way. Beside it other processes do what the row says. What is printed is the
-wait of the polite: the median, the 99th of a hundred, the longest, in milliseconds. It is no test: nothing fails for being slow.
-The status is 1 where an answer was wrong, or a server failed.
+wait of the polite: the median, the 99th of a hundred, the longest, in milliseconds. Nothing of that fails for being slow.
+The rows of judged.py fail where the program answers less, later, or with more memory than it says there.
+The status is 1 where a row failed, an answer was wrong, or a server failed.
 
 The rows drippers, readers and pause print how many requests of others were answered, and how many of them after more than a second,
 how many newcomers were refused, and how many connections were closed; the row unread prints memory.
@@ -27,6 +28,7 @@ from dataclasses import dataclass, field
 HERE = os.path.dirname(os.path.realpath(__file__))
 sys.path.insert(0, os.path.dirname(HERE))
 
+import judged  # noqa: E402
 from tests.lib.abuse import sent_as_far  # noqa: E402
 from tests.lib.peer import Peer, clients  # noqa: E402
 from tests.lib.server import CannotStart, Server  # noqa: E402
@@ -169,6 +171,15 @@ def flushes(port, until):
         answer(link, b"OK\r\n")
 
 
+def flushes_later(port, until, dead):
+    """Flushes after a million seconds, again and again, each time behind so many items that are dead at once."""
+    items = b"".join(b"set dead%d 0 -1 1\r\nx\r\n" % number for number in range(dead))
+    with connect(port) as link:
+        while time.monotonic() < until.value:
+            link.sendall(items + b"flush_all 1000000\r\n")
+            answer(link, b"OK\r\n")
+
+
 def grows(port, until):
     """Stores new keys until the end."""
     first = 100_000_000
@@ -260,6 +271,8 @@ def rows(quick):
         Row("misses", "8 that ask for 6,000 missing keys a line", [(repeats, (long_line, b"END\r\n"))] * 8),
         Row("sets", "8 that set 1 MB", setting * 8),
         Row("flush", f"one flush of {items:,} items", [(flushes, ())], filled, verb="set"),
+        Row("flush-later", f"one that flushes {items:,} items later, again and again", [(flushes_later, (0,))], filled, verb="set"),
+        Row("flush-dead", "the same, each behind 200 items that are dead at once", [(flushes_later, (200,))], filled, verb="set"),
         Row("tidy", f"{items:,} items expire", [], expiring, seconds=15 if quick else 70, verb="set"),
         Row("growth", "one that stores new keys", [(grows, ())], seconds=8, verb="set"),
         Row("joins", "4 that append 50 KB to items of up to 950 KB", joining(50_000), verb="set"),
@@ -496,6 +509,11 @@ def bursts(given):
     }
 
 
+def judges(given):
+    """The rows that may fail: each gives whether it passed."""
+    return {row.name: lambda row=row: judged.judged(row, given.program, fill, Failed) for row in judged.rows(given.quick)}
+
+
 def arguments():
     parser = argparse.ArgumentParser(description=__doc__, formatter_class=argparse.RawDescriptionHelpFormatter)
     parser.add_argument("--program", default=built())
@@ -510,7 +528,7 @@ def main():
     given = arguments()
     signal.signal(signal.SIGTERM, lambda *_: sys.exit(1))
     raise_limits()
-    acts = {row.name: lambda row=row: waits_of(given, row) for row in rows(given.quick)} | bursts(given) | slow(given)
+    acts = {row.name: lambda row=row: waits_of(given, row) for row in rows(given.quick)} | bursts(given) | slow(given) | judges(given)
     if given.list:
         print(*acts, sep="\n")
         return 0
@@ -518,10 +536,11 @@ def main():
         print(f"waiting.py: there is no row {', '.join(sorted(unknown))}", file=sys.stderr)
         return 2
     print(f"{'':14}   median     99 %  longest   waits   (milliseconds; gets or sets of {len(SMALL)} bytes by {POLITE} connections)")
-    for name, act in acts.items():
-        if not given.only or name in given.only:
-            act()
-    return 0
+    chosen = [name for name in acts if not given.only or name in given.only]
+    failed = [name for name in chosen if acts[name]() is False]
+    if failed:
+        print(f"waiting.py: failed: {', '.join(failed)}", file=sys.stderr)
+    return 1 if failed else 0
 
 
 if __name__ == "__main__":
