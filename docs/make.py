@@ -2,7 +2,7 @@
 """Writes the parts of the documents that the sources hold, and checks the rest.
 
   python3 docs/make.py            writes out/docs/CALLS.md and out/docs/DEFINITIONS.md, the regions `<!-- made: KIND -->` of README.md
-                                  and docs/, and docs/tcp.svg
+                                  and docs/, docs/tcp.svg and docs/tcp-all.svg, and in tests/counts.txt what lies in folders
   python3 docs/make.py --check    writes nothing. Prints each stale region, each link, path and name that isn't there, each option that
                                   PROTOCOL.md or the manual page lacks, each wrong body that can't be planted any more, and the counts of
                                   style.py. Last line: 'N passed, M failed'
@@ -20,17 +20,17 @@ ROOT = Path(__file__).resolve().parent.parent
 sys.path[:0] = [str(ROOT), str(ROOT / "bench"), str(ROOT / "docs")]
 import chart  # noqa: E402
 import style  # noqa: E402
-from tests.lib import bodies  # noqa: E402
+from tests.lib import bodies, counts  # noqa: E402
 
-# The run that README.md, docs/BENCHMARKS.md and docs/tcp.svg show.
+# The run that README.md, docs/BENCHMARKS.md and both charts show.
 RUN = "bench/results/2026-12-01-211ab182.json"
-# The workloads that README.md shows.
-SHOWN = ["get", "set", "get of 100 keys", "get, 32 deep", "set, 32 deep",
-         *(f"{verb} of {size}" for size in ("10 KB", "100 KB", "1 MB", "8 MB") for verb in ("get", "set"))]
+# The workloads of README.md's table, and of its chart.
+SHOWN = ["get", "set", "get-32", "set-1m"]
+DRAWN = ["get", "set", "get-32", "set-32", "get-100-keys", "idle-1000", "get-100k", "set-1m"]
 REGION = re.compile(r"(<!-- made: ([^>]+?) -->\n)(.*?)(<!-- end -->)", re.S)
 # A link to a definition, whose line is kept right.
 PLACE = re.compile(r"\[`(\w+)`\]\(([^)#]+)#L\d+\)")
-# What the kit's libraries are for, in the order in which README.md names them.
+# What the kit's libraries are for, in the order in which docs/THEOREM.md names them.
 LIBRARIES = {
     "memchr": "finds line ends and word ends", "itoa": "prints numbers", "byteorder": "reads and writes an item's header",
     "thiserror": "makes error types", "clap": "parses the command line (brings `strsim`)", "mio": "polls sockets",
@@ -163,17 +163,26 @@ def made_libraries():
     return "| Library of the kit | What it does here |\n|---|---|\n" + "".join(uses)
 
 
+def ratio_of(row, figure):
+    it = row["ratios"][figure]
+    return f"{it['median']:.2f} ({it['least']:.2f}-{it['most']:.2f})"
+
+
 def made_tcp(short=""):
-    """The table of the stored run: all of it, or the workloads that README.md shows."""
+    """The table of the stored run: all of it, or the workloads that README.md shows with the figures that a user asks for."""
     it = json.loads(read(RUN))
     text = f"Run of {it['date']}, commit `{it['commit']}`, {it['machine']}, {it['memcached']}:\n`{it['command']}`.\n\n"
+    if short:
+        text += "| Workload | Requests/s, memcached | mcserver | Ratio | Ratio of CPU time a request |\n|---|--:|--:|--:|--:|\n"
+        shown = [next(row for row in it["rows"] if row["name"] == name) for name in SHOWN]
+        return text + "".join(f"| {row['title']} | {row['sides']['memcached']['a_second']:,.0f} | {row['sides']['mcserver']['a_second']:,.0f} | "
+                              f"{ratio_of(row, 'a_second')} | {ratio_of(row, 'us')} |\n" for row in shown)
     text += "| Workload | Requests/s, memcached | mcserver | Ratio | CPU us a request, memcached | mcserver | Ratio | p99 ratio |\n"
     text += "|---|--:|--:|--:|--:|--:|--:|--:|\n"
-    for row in (row for row in it["rows"] if not short or row["title"] in SHOWN):
+    for row in it["rows"]:
         theirs, ours = row["sides"]["memcached"], row["sides"]["mcserver"]
-        shown = {name: f"{ratio['median']:.2f} ({ratio['least']:.2f}-{ratio['most']:.2f})" for name, ratio in row["ratios"].items()}
-        text += (f"| {row['title']} | {theirs['a_second']:,.0f} | {ours['a_second']:,.0f} | {shown['a_second']} | {theirs['us']:.2f} | "
-                 f"{ours['us']:.2f} | {shown['us']} | {shown['p99']} |\n")
+        text += (f"| {row['title']} | {theirs['a_second']:,.0f} | {ours['a_second']:,.0f} | {ratio_of(row, 'a_second')} | {theirs['us']:.2f} | "
+                 f"{ours['us']:.2f} | {ratio_of(row, 'us')} | {ratio_of(row, 'p99')} |\n")
     return text
 
 
@@ -211,7 +220,9 @@ def made_anew():
         new = PLACE.sub(lambda found: f"[`{found[1]}`]({found[2]}#L{line_of(found[1], here / found[2])})", new)
         if "<!-- made: " in text:
             yield path, new
-    yield "docs/tcp.svg", chart.chart(json.loads(read(RUN))["rows"])
+    rows = json.loads(read(RUN))["rows"]
+    yield "docs/tcp.svg", chart.chart(rows, DRAWN)
+    yield "docs/tcp-all.svg", chart.chart(rows)
 
 
 def known_words():
@@ -285,10 +296,16 @@ def unplanted():
                 yield f"{path}: {error}"
 
 
+def miscounted():
+    """Wrong bodies, crates and rows that are gone, or that tests/counts.txt lacks."""
+    pinned = counts.read()
+    return [line for kind, seen in counts.lying().items() for line in counts.faults(kind, seen, pinned.get(kind, {}))]
+
+
 def check():
     passed, faults, words = 0, [], known_words()
     stale = [f"{path}: not what the sources say: make docs" for path, new in made_anew() if read(path) != new]
-    for found in (stale, list(lost_tests()), list(lacking_options()), list(unplanted()), *(list(lost(path, words)) for path in tracked("*.md")), *style.faults(ROOT)):
+    for found in (stale, list(lost_tests()), list(lacking_options()), list(unplanted()), miscounted(), *(list(lost(path, words)) for path in tracked("*.md")), *style.faults(ROOT)):
         faults += found
         passed += not found
     print("\n".join([*faults, f"{passed} passed, {len(faults)} failed"]))
@@ -301,6 +318,8 @@ def main():
     (ROOT / "out/docs").mkdir(parents=True, exist_ok=True)
     for path, text in [("out/docs/CALLS.md", list_calls()), ("out/docs/DEFINITIONS.md", list_definitions()), *made_anew()]:
         (ROOT / path).write_text(text, encoding="utf-8")
+    for kind, seen in counts.lying().items():
+        counts.pin(kind, seen)
     return 0
 
 
