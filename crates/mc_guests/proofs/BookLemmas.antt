@@ -125,10 +125,10 @@ long_swapped : (one other : ℕ) (row later : RowState) → later ≡ swapped on
 long_swapped one other row later is = ap (λ (r : RowState). length r.guests) is ∙ length-swap row.guests one other
 
 -- guests are counted as before where two change places
-pub counts_row_swapped : (one other held waiting large : ℕ) (row later : RowState) → later ≡ swapped one other row → one < length row.guests → other < length row.guests
-    → AreSums held waiting large row.guests → AreSums held waiting large later.guests
-counts_row_swapped one other held waiting large row later is first second counts =
-    subst (λ (r : RowState). AreSums held waiting large r.guests) (sym is) (counts_swapped row.guests one other held waiting large first second counts)
+pub counts_row_swapped : (one other held waiting large left : ℕ) (row later : RowState) → later ≡ swapped one other row → one < length row.guests → other < length row.guests
+    → AreSums held waiting large left row.guests → AreSums held waiting large left later.guests
+counts_row_swapped one other held waiting large left row later is first second counts =
+    subst (λ (r : RowState). AreSums held waiting large left r.guests) (sym is) (counts_swapped row.guests one other held waiting large left first second counts)
 
 -- The guest at a place changes places with the last that is awake, that one with the last of all, and the last goes.
 module _ (at awake end count : ℕ) (row second third fourth : RowState) (within : at < awake) (all : awake ≤ length row.guests)
@@ -140,11 +140,11 @@ module _ (at awake end count : ℕ) (row second third fourth : RowState) (within
   pub some_stand : 0 < length third.guests
   some_stand = let e = all_long in omega arith
 
-  pub counts_moved : (held waiting large : ℕ) → AreSums held waiting large row.guests → AreSums held waiting large third.guests
-  counts_moved held waiting large counts =
+  pub counts_moved : (held waiting large left : ℕ) → AreSums held waiting large left row.guests → AreSums held waiting large left third.guests
+  counts_moved held waiting large left counts =
       let long : length second.guests ≡ length row.guests = long_swapped at (awake - 1) row second swaps in
-      counts_row_swapped (awake - 1) count held waiting large second third swaps_end (omega (arith, within, all, long)) (omega (arith, within, all, long, at_end, is_last))
-      (counts_row_swapped at (awake - 1) held waiting large row second swaps (omega (arith, within, all)) (omega (arith, within, all)) counts)
+      counts_row_swapped (awake - 1) count held waiting large left second third swaps_end (omega (arith, within, all, long)) (omega (arith, within, all, long, at_end, is_last))
+      (counts_row_swapped at (awake - 1) held waiting large left row second swaps (omega (arith, within, all)) (omega (arith, within, all)) counts)
 
   module _ (cuts : fourth ≡ cut (length third.guests - 1) third) where
     pub awake_stand : awake - 1 ≤ length fourth.guests

@@ -10,7 +10,7 @@ use Rattle.std.proofs.lemmas.List.Sums.{sum_by-le, sum_by-set, sum_by_more_le, s
 use Rattle.std.proofs.lemmas.List.Sorted.{sum_by-IsPermutation, IsPermutation-swap}
 use Rattle.mc_guests.specs.Asks.{little, most}
 use Rattle.mc_guests.specs.Guests.{GuestState, RowGuest, newcomer}
-use Rattle.mc_guests.specs.Budgets.{plus, one_if, is_large, uncounted, rest_of, with_left, Recounts, RecountsAll, AreSums, CountsAll, held_by, waiting_of, large_of, fits, is_kept_for_one, IsHeldBack}
+use Rattle.mc_guests.specs.Budgets.{plus, one_if, is_large, uncounted, rest_of, with_left, CountsLeft, Recounts, RecountsAll, AreSums, CountsAll, held_by, waiting_of, large_of, left_by, fits, is_kept_for_one, IsHeldBack}
 use Rattle.mc_guests.specs.declared.budget.Budget.{Budget}
 
 pub at_most_one : (test : Bool) → one_if test ≤ 1
@@ -28,50 +28,58 @@ goes_over others lost gained before mid after one few out puts is =
 -- one that isn't counted any more is counted anew
 pub recounts : (old new : RowGuest) (before mid after : Budget) → mid ≡ uncounted old.counted old.waits before → after.held ≡ mid.held + new.counted
     → after.waiting ≡ plus mid.waiting (one_if new.waits) → after.large ≡ plus mid.large (one_if (is_large new.counted new.waits)) → rest_of after ≡ rest_of mid
-    → Recounts old new before after
-recounts old new before mid after out held waiting large rest = record {
+    → new.left ≡ old.left → after.left ≡ mid.left → Recounts old new before after
+recounts old new before mid after out held waiting large rest same stays = record {
   held = λ others is. (let gone : mid.held ≡ before.held - old.counted = ap (λ (b : Budget). b.held) out in omega (arith, gone, is, held));
   waiting = λ others few is. goes_over others (one_if old.waits) (one_if new.waits) before.waiting mid.waiting after.waiting (at_most_one new.waits) few
       (ap (λ (b : Budget). b.waiting) out) waiting is;
   large = λ others few is. goes_over others (one_if (is_large old.counted old.waits)) (one_if (is_large new.counted new.waits)) before.large mid.large after.large
       (at_most_one (is_large new.counted new.waits)) few (ap (λ (b : Budget). b.large) out) large is;
+  left = λ others is. stays ∙ ap (λ (b : Budget). b.left) out ∙ is ∙ ap (λ (n : ℕ). others + n) (sym same);
   rest = rest ∙ ap rest_of out;
 }
 
 -- one that is counted as it was
-pub recounts_none : (old new : RowGuest) (before after : Budget) → new.counted ≡ old.counted → new.waits ≡ old.waits → after ≡ before → Recounts old new before after
-recounts_none old new before after bytes waits same = record {
+pub recounts_none : (old new : RowGuest) (before after : Budget) → new.counted ≡ old.counted → new.waits ≡ old.waits → new.left ≡ old.left → after ≡ before
+    → Recounts old new before after
+recounts_none old new before after bytes waits lefts same = record {
   held = λ others is. ap (λ (b : Budget). b.held) same ∙ is ∙ ap (λ (n : ℕ). others + n) (sym bytes);
   waiting = λ others few is. ap (λ (b : Budget). b.waiting) same ∙ is ∙ ap (λ (w : Bool). others + one_if w) (sym waits);
   large = λ others few is. ap (λ (b : Budget). b.large) same ∙ is ∙ (λ i. others + one_if (is_large (sym bytes i) (sym waits i)));
+  left = λ others is. ap (λ (b : Budget). b.left) same ∙ is ∙ ap (λ (n : ℕ). others + n) (sym lefts);
   rest = ap rest_of same;
 }
 
 -- one that is counted as it was, but for what it reads that has left
-pub recounts_left : (old new : RowGuest) (before after : Budget) → new.counted ≡ old.counted → new.waits ≡ old.waits → after ≡ with_left after.left before
+pub recounts_left : (old new : RowGuest) (before after : Budget) → new.counted ≡ old.counted → new.waits ≡ old.waits → CountsLeft old.left new.left before after
     → Recounts old new before after
-recounts_left old new before after bytes waits same = record {
-  held = λ others is. ap (λ (b : Budget). b.held) same ∙ is ∙ ap (λ (n : ℕ). others + n) (sym bytes);
-  waiting = λ others few is. ap (λ (b : Budget). b.waiting) same ∙ is ∙ ap (λ (w : Bool). others + one_if w) (sym waits);
-  large = λ others few is. ap (λ (b : Budget). b.large) same ∙ is ∙ (λ i. others + one_if (is_large (sym bytes i) (sym waits i)));
-  rest = ap rest_of same;
+recounts_left old new before after bytes waits counts = record {
+  held = λ others is. ap (λ (b : Budget). b.held) counts.rest ∙ is ∙ ap (λ (n : ℕ). others + n) (sym bytes);
+  waiting = λ others few is. ap (λ (b : Budget). b.waiting) counts.rest ∙ is ∙ ap (λ (w : Bool). others + one_if w) (sym waits);
+  large = λ others few is. ap (λ (b : Budget). b.large) counts.rest ∙ is ∙ (λ i. others + one_if (is_large (sym bytes i) (sym waits i)));
+  left = counts.sum;
+  rest = ap rest_of counts.rest;
 }
 
--- guests are counted as before where what they read that has left changes
-pub counts_left : (before after : Budget) (guests : List RowGuest) → after ≡ with_left after.left before → CountsAll before guests → CountsAll after guests
-counts_left before after guests same counts = record {
-  bytes = ap (λ (b : Budget). b.held) same ∙ counts.bytes;
-  waits = ap (λ (b : Budget). b.waiting) same ∙ counts.waits;
-  larges = ap (λ (b : Budget). b.large) same ∙ counts.larges;
-}
+-- what has left is counted as before, or anew
+pub counts_left_none : (was left : ℕ) (budget : Budget) → left ≡ was → CountsLeft was left budget budget
+counts_left_none was left budget same = record { sum = λ others is. is ∙ ap (λ (n : ℕ). others + n) (sym same); rest = refl }
+
+pub counts_left_anew : (was left : ℕ) (before after : Budget) → after ≡ with_left (before.left - was + left) before → CountsLeft was left before after
+counts_left_anew was left before after same =
+    let put : after.left ≡ before.left - was + left = ap (λ (b : Budget). b.left) same in record {
+      sum = λ others is. omega (arith, put, is);
+      rest = same ∙ ap (λ (n : ℕ). with_left n before) (sym put);
+    }
 
 -- one that is counted anew, and then once more
-pub recounts_again : (old mid again new : RowGuest) (before between after : Budget) → again.counted ≡ mid.counted → again.waits ≡ mid.waits
+pub recounts_again : (old mid again new : RowGuest) (before between after : Budget) → again.counted ≡ mid.counted → again.waits ≡ mid.waits → again.left ≡ mid.left
     → Recounts old mid before between → Recounts again new between after → Recounts old new before after
-recounts_again old mid again new before between after bytes waits first second = record {
+recounts_again old mid again new before between after bytes waits lefts first second = record {
   held = λ others is. second.held others (first.held others is ∙ ap (λ (n : ℕ). others + n) (sym bytes));
   waiting = λ others few is. second.waiting others few (first.waiting others few is ∙ ap (λ (w : Bool). others + one_if w) (sym waits));
   large = λ others few is. second.large others few (first.large others few is ∙ (λ i. others + one_if (is_large (sym bytes i) (sym waits i))));
+  left = λ others is. second.left others (first.left others is ∙ ap (λ (n : ℕ). others + n) (sym lefts));
   rest = second.rest ∙ first.rest;
 }
 
@@ -142,9 +150,12 @@ waits_as guest = one_if guest.waits
 abbrev large_as : RowGuest → ℕ
 large_as guest = one_if (is_large guest.counted guest.waits)
 
+abbrev left_as : RowGuest → ℕ
+left_as guest = guest.left
+
 -- guests are counted as they were
 pub recounts_nobody : (guests : List RowGuest) (budget : Budget) → RecountsAll guests guests budget budget
-recounts_nobody guests budget = record { held = λ others is. is; waiting = λ others few is. is; large = λ others few is. is; rest = refl }
+recounts_nobody guests budget = record { held = λ others is. is; waiting = λ others few is. is; large = λ others few is. is; left = λ others is. is; rest = refl }
 
 -- one guest more is counted anew
 pub recounts_more : (olds mids : List RowGuest) (at : ℕ) (old new : RowGuest) (first before after : Budget) → length mids ≡ length olds → at < length mids → old ≡ get_or mids at old
@@ -159,6 +170,8 @@ recounts_more olds mids at old new first before after long inside is all one = r
       (is_counted large_as mids at old inside is)
       (others_few large_as mids at old inside is (λ guest. at_most_one (is_large guest.counted guest.waits)) (record old { waits = false; counted = 16385 }) refl)
       (omega (arith, few, long)) (is_recounted large_as mids at old inside is new) (all.large others few counts) one.large;
+  left = λ others counts. counts_over others (left_by mids) (left_by (set mids at new)) old.left new.left before.left after.left
+      (is_counted left_as mids at old inside is) (is_recounted left_as mids at old inside is new) (all.left others counts) one.left;
   rest = one.rest ∙ all.rest;
 }
 
@@ -190,32 +203,37 @@ counts_front count olds news before after fits stays all counts = record {
       all.waiting others (let fit = front_fits waits_as count olds news stays (λ guest. at_most_one guest.waits) fits in omega (arith, rest, fit)) is);
   larges = front_over large_as count olds news stays before.large after.large counts.larges (λ others rest is.
       all.large others (let fit = front_fits large_as count olds news stays (λ guest. at_most_one (is_large guest.counted guest.waits)) fits in omega (arith, rest, fit)) is);
+  lefts = front_over left_as count olds news stays before.left after.left counts.lefts (λ others _ is. all.left others is);
 }
 
 -- the last guest of a list is uncounted
 pub counts_popped : (guests : List RowGuest) (last : RowGuest) (before after : Budget) → after.held ≡ before.held - last.counted
-    → after.waiting ≡ before.waiting - one_if last.waits → after.large ≡ before.large - one_if (is_large last.counted last.waits)
+    → after.waiting ≡ before.waiting - one_if last.waits → after.large ≡ before.large - one_if (is_large last.counted last.waits) → after.left ≡ before.left - last.left
     → CountsAll before (guests ++ last ∷ []) → CountsAll after guests
-counts_popped guests last before after held waiting large counts = record {
+counts_popped guests last before after held waiting large left counts = record {
   bytes = let all : held_by (guests ++ last ∷ []) ≡ held_by guests + last.counted = sum_by_push bytes_of guests last in omega (arith, held, all, counts.bytes);
   waits = let all : waiting_of (guests ++ last ∷ []) ≡ waiting_of guests + waits_as last = sum_by_push waits_as guests last in omega (arith, waiting, all, counts.waits);
   larges = let all : large_of (guests ++ last ∷ []) ≡ large_of guests + large_as last = sum_by_push large_as guests last in omega (arith, large, all, counts.larges);
+  lefts = let all : left_by (guests ++ last ∷ []) ≡ left_by guests + left_as last = sum_by_push left_as guests last in omega (arith, left, all, counts.lefts);
 }
 
 -- one that comes isn't counted yet
-pub counts_come : (guests : List RowGuest) (guest : GuestState) (held waiting large : ℕ) → AreSums held waiting large guests → AreSums held waiting large (guests ++ newcomer guest ∷ [])
-counts_come guests guest held waiting large counts = record {
+pub counts_come : (guests : List RowGuest) (guest : GuestState) (held waiting large left : ℕ) → AreSums held waiting large left guests
+    → AreSums held waiting large left (guests ++ newcomer guest ∷ [])
+counts_come guests guest held waiting large left counts = record {
   bytes = let all : held_by (guests ++ newcomer guest ∷ []) ≡ held_by guests + 0 = sum_by_push bytes_of guests (newcomer guest) in omega (arith, all, counts.bytes);
   waits = let all : waiting_of (guests ++ newcomer guest ∷ []) ≡ waiting_of guests + 0 = sum_by_push waits_as guests (newcomer guest) in omega (arith, all, counts.waits);
   larges = let all : large_of (guests ++ newcomer guest ∷ []) ≡ large_of guests + 0 = sum_by_push large_as guests (newcomer guest) in omega (arith, all, counts.larges);
+  lefts = let all : left_by (guests ++ newcomer guest ∷ []) ≡ left_by guests + 0 = sum_by_push left_as guests (newcomer guest) in omega (arith, all, counts.lefts);
 }
 
 -- two that change places are counted as before
-pub counts_swapped : (guests : List RowGuest) (one other held waiting large : ℕ) → one < length guests → other < length guests
-    → AreSums held waiting large guests → AreSums held waiting large (swap guests one other)
-counts_swapped guests one other held waiting large first second counts =
+pub counts_swapped : (guests : List RowGuest) (one other held waiting large left : ℕ) → one < length guests → other < length guests
+    → AreSums held waiting large left guests → AreSums held waiting large left (swap guests one other)
+counts_swapped guests one other held waiting large left first second counts =
     let shuffled : IsPermutation guests (swap guests one other) = IsPermutation-swap guests (swap guests one other) one other first second refl in record {
       bytes = counts.bytes ∙ sym (sum_by-IsPermutation bytes_of guests (swap guests one other) shuffled);
       waits = counts.waits ∙ sym (sum_by-IsPermutation waits_as guests (swap guests one other) shuffled);
       larges = counts.larges ∙ sym (sum_by-IsPermutation large_as guests (swap guests one other) shuffled);
+      lefts = counts.lefts ∙ sym (sum_by-IsPermutation left_as guests (swap guests one other) shuffled);
     }

@@ -8,8 +8,10 @@ pub mod JudgeLemmas
 pub mod RetryLemmas
 pub mod QueueLemmas
 pub mod SwapLemmas
+pub mod LeftLemmas
 pub mod FollowLemmas
 pub mod FairLemmas
+pub mod ArrivalLemmas
 pub mod DoorLemmas
 pub mod TurnLemmas
 pub mod BudgetLemmas

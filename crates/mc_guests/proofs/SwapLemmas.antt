@@ -29,7 +29,7 @@ place_is one other k = elim (eqb_tells k one) [
   ])
 ]
 
-place_one : (one other : ℕ) → place one other one ≡ other
+pub place_one : (one other : ℕ) → place one other one ≡ other
 place_one one other = elim (place_is one other one) [
   | inl a ↦ a.1
   | inr b ↦ elim b [ inl c ↦ absurd (c.0 refl) | inr d ↦ absurd (d.0 refl) ]
@@ -41,7 +41,7 @@ place_other one other = elim (place_is one other other) [
   | inr b ↦ elim b [ inl c ↦ c.2 | inr d ↦ absurd (d.1 refl) ]
 ]
 
-place_back : (one other k : ℕ) → place one other (place one other k) ≡ k
+pub place_back : (one other k : ℕ) → place one other (place one other k) ≡ k
 place_back one other k = elim (place_is one other k) [
   | inl a ↦ ap (place one other) a.1 ∙ place_other one other ∙ sym a.0
   | inr b ↦ elim b [

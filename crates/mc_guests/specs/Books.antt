@@ -1,7 +1,7 @@
 -- The books that a worker has of its guests.
-use Rattle.std.specs.Prelude.{◌≡◌, ◌⊎◌, ◌≤◌, ◌<◌, ◌+◌, ◌-◌, ◌^◌, ◌==◌, ◌&&◌, not, ℕ, zero, suc, List, [], ◌∷◌, ◌++◌, length, take, drop, min, swap, slice_get, Option, Some, Bool, true, false, IsTrue, IsFalse}
-use Rattle.mc_guests.specs.Budgets.{rest_of, may_try, with_left}
-use Rattle.mc_guests.specs.Guests.{GuestState, RowGuest, newcomer, has_ended, is_to_sleep, is_stray, in_line}
+use Rattle.std.specs.Prelude.{◌≡◌, ◌⊎◌, ◌≤◌, ◌<◌, ◌+◌, ◌-◌, ◌^◌, ◌==◌, ◌&&◌, not, ℕ, zero, suc, List, [], ◌∷◌, ◌++◌, length, map, take, drop, min, swap, slice_get, Option, Some, Bool, true, false, IsTrue, IsFalse}
+use Rattle.mc_guests.specs.Budgets.{rest_of, may_try}
+use Rattle.mc_guests.specs.Guests.{GuestState, RowGuest, newcomer, has_ended, is_to_sleep, is_stray, in_line, reads_left}
 use Rattle.mc_time.specs.Chains.{Repeats}
 use Rattle.mc_guests.specs.declared.budget.Budget.{Budget}
 use Rattle.mc_guests.specs.declared.weighed.Line.TheVariants.{Queued}
@@ -23,10 +23,6 @@ nobody = record { guests = []; numbers = [] }
 -- the link of the guest at a place has this number
 abbrev pub HasNumber : RowState → (at number : ℕ) → Type 0
 HasNumber row at number = slice_get row.numbers at ≡ Some number
-
--- the link of one of the guests has this number
-abbrev pub HasLink : RowState → (number : ℕ) → Type 0
-HasLink row number = (at : ℕ) × HasNumber row at number
 
 -- the place of each number that stands in the row is found, and no other place
 pub record TellsPlaces (place_of : ℕ → Option ℕ) (numbers : List ℕ) : Type 0 where
@@ -89,13 +85,19 @@ no_books budget = books nobody 0 (rest_of budget) [] false false
 abbrev pub quiet : BooksState → Bool
 quiet books = books.awake == 0 && not (may_try books.budget)
 
--- guests read this many bytes of memory that has left the store
-abbrev pub reading : (left : ℕ) → BooksState → BooksState
-reading left books = record books { budget = with_left left books.budget }
+-- the same guests, but for what each is counted for that has left the store
+pub record SameButLeft (old new : RowState) : Type 0 where
+  pub guests : map (reads_left 0) new.guests ≡ map (reads_left 0) old.guests
+  pub numbers : new.numbers ≡ old.numbers
 
--- the time is set, in ticks, and guests read this many bytes of memory that has left the store
-abbrev pub at_ticks : (ticks left : ℕ) → BooksState → BooksState
-at_ticks ticks left books = record books { budget = record books.budget { ticks = ticks; left = left } }
+-- the time is set, in ticks, and guests are counted anew for what has left the store
+pub record SetsTicks (ticks : ℕ) (old new : BooksState) : Type 0 where
+  pub row : SameButLeft old.row new.row
+  pub rest : new ≡ record old { row = new.row; budget = record old.budget { ticks = ticks; left = new.budget.left } }
+
+-- readers of what has left the store were ended in this tick
+abbrev pub took_ending : BooksState → BooksState
+took_ending books = record books { budget = record books.budget { ended = books.budget.ticks } }
 
 -- the judgement of slow guests was taken in this tick
 abbrev pub took_judging : BooksState → BooksState

@@ -3,7 +3,7 @@ use Rattle.std.specs.Prelude.{◌≡◌, ◌⊎◌, ◌<◌, ◌≤◌, ℕ, ◌
 use Rattle.std.specs.List.{sum_by}
 use Rattle.mc_session.specs.Turns.{SessionState}
 use Rattle.mc_guests.specs.Asks.{little, most, StaysOrLosesLink}
-use Rattle.mc_guests.specs.Guests.{GuestState, RowGuest, has_ended}
+use Rattle.mc_guests.specs.Guests.{GuestState, RowGuest, has_ended, reads_left}
 use Rattle.mc_guests.specs.declared.budget.Budget.{Budget}
 
 -- a sum, at most the greatest number
@@ -25,6 +25,7 @@ unused share greatest = record {
   ticks = 0;
   tried = 0;
   judged = 0;
+  ended = 0;
 }
 
 -- whether there is room for one more guest that wants this many bytes: for a little always, and for more if so much is
@@ -118,6 +119,22 @@ with_left left budget = record budget { left = left }
 abbrev pub is_over : Budget → Bool
 is_over budget = nat_lt budget.share budget.left
 
+-- how many readers of what has left may be ended now: 16 if that is more than the share, and none if some were in this
+-- tick
+abbrev pub to_end : Budget → ℕ
+to_end budget = if budget.ticks == budget.ended then 0 else (if is_over budget then 16 else 0)
+
+-- beside what a budget counts of others that has left the store it counts this many bytes, in place of those before;
+-- nothing else of it changes
+pub record CountsLeft (was left : ℕ) (before after : Budget) : Type 0 where
+  pub sum : (others : ℕ) → before.left ≡ others + was → after.left ≡ others + left
+  pub rest : after ≡ with_left after.left before
+
+-- a guest is counted for this many bytes that have left the store, in place of those before; nothing else changes
+pub record RecountsLeft (left : ℕ) (old new : RowGuest) (before after : Budget) : Type 0 where
+  pub guest : new ≡ reads_left left old
+  pub budget : CountsLeft old.left left before after
+
 -- what a budget has beside what it counts, and whether memory came back
 abbrev pub rest_of : Budget → Budget
 rest_of budget = record budget { held = 0; left = 0; large = 0; waiting = 0; is_eased = false }
@@ -130,6 +147,7 @@ pub record Recounts (old new : RowGuest) (before after : Budget) : Type 0 where
       → after.waiting ≡ others + one_if new.waits
   pub large : (others : ℕ) → others < most → before.large ≡ others + one_if (is_large old.counted old.waits)
       → after.large ≡ others + one_if (is_large new.counted new.waits)
+  pub left : (others : ℕ) → before.left ≡ others + old.left → after.left ≡ others + new.left
   pub rest : rest_of after ≡ rest_of before
 
 -- the bytes that each guest has as its own: it is counted for what it holds beyond them
@@ -159,15 +177,20 @@ waiting_of guests = sum_by (λ guest. one_if guest.waits) guests
 abbrev pub large_of : List RowGuest → ℕ
 large_of guests = sum_by (λ guest. one_if (is_large guest.counted guest.waits)) guests
 
+-- the bytes that guests are counted for and that have left the store
+abbrev pub left_by : List RowGuest → ℕ
+left_by guests = sum_by (λ guest. guest.left) guests
+
 -- these are the sums over guests
-pub record AreSums (held waiting large : ℕ) (guests : List RowGuest) : Type 0 where
+pub record AreSums (held waiting large left : ℕ) (guests : List RowGuest) : Type 0 where
   pub bytes : held ≡ held_by guests
   pub waits : waiting ≡ waiting_of guests
   pub larges : large ≡ large_of guests
+  pub lefts : left ≡ left_by guests
 
 -- a budget counts these guests, each once, and no others
 abbrev pub CountsAll : Budget → List RowGuest → Type 0
-CountsAll budget guests = AreSums budget.held budget.waiting budget.large guests
+CountsAll budget guests = AreSums budget.held budget.waiting budget.large budget.left guests
 
 -- Guests are counted anew: beside what the budget counts of others it counts them as they are now.
 pub record RecountsAll (olds news : List RowGuest) (before after : Budget) : Type 0 where
@@ -176,4 +199,5 @@ pub record RecountsAll (olds news : List RowGuest) (before after : Budget) : Typ
       → after.waiting ≡ others + waiting_of news
   pub large : (others : ℕ) → others + length olds ≤ most → before.large ≡ others + large_of olds
       → after.large ≡ others + large_of news
+  pub left : (others : ℕ) → before.left ≡ others + left_by olds → after.left ≡ others + left_by news
   pub rest : rest_of after ≡ rest_of before

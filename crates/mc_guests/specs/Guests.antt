@@ -67,7 +67,7 @@ told guest = grown guest.link.taken guest.session.out
 
 -- A guest of a worker: whether it waits for room, and the bytes for which it is counted. Where it stands in the queue of
 -- those that wait, and the bytes that it wanted when it began to wait. How many bytes of its output were lent when it
--- was counted, and the pace of its link.
+-- was counted, for how many that have left the store it is counted, and the pace of its link.
 pub record RowGuest : Type 0 where
   pub guest : GuestState
   pub waits : Bool
@@ -75,16 +75,17 @@ pub record RowGuest : Type 0 where
   pub line : Line
   pub wanted : ℕ
   pub lent : ℕ
+  pub left : ℕ
   pub pace : Pace
 
 -- what contracts see of a guest of a worker with these fields
-abbrev pub row_guest : GuestState → (waits : Bool) → (counted : ℕ) → Line → (wanted : ℕ) → (lent : ℕ) → Pace → RowGuest
-row_guest guest waits counted line wanted lent pace =
-    record { guest = guest; waits = waits; counted = counted; line = line; wanted = wanted; lent = lent; pace = pace }
+abbrev pub row_guest : GuestState → (waits : Bool) → (counted : ℕ) → Line → (wanted lent left : ℕ) → Pace → RowGuest
+row_guest guest waits counted line wanted lent left pace =
+    record { guest = guest; waits = waits; counted = counted; line = line; wanted = wanted; lent = lent; left = left; pace = pace }
 
 -- a guest that just came
 abbrev pub newcomer : GuestState → RowGuest
-newcomer guest = row_guest guest false 0 Out 0 0 (begun 0)
+newcomer guest = row_guest guest false 0 Out 0 0 0 (begun 0)
 
 -- whether a guest that waits is in the queue
 abbrev pub is_in_queue : Line → Bool
@@ -111,6 +112,10 @@ missing guest = guest.wanted - guest.counted
 -- the guest stands there in the queue
 abbrev pub in_line : Line → RowGuest → RowGuest
 in_line line guest = record guest { line = line }
+
+-- a guest is counted for this many bytes that have left the store
+abbrev pub reads_left : (left : ℕ) → RowGuest → RowGuest
+reads_left left guest = record guest { left = left }
 
 -- whether its link gave or took nothing at the last visit
 abbrev pub is_later : Option Visit → Bool

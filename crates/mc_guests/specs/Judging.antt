@@ -1,11 +1,14 @@
--- Which guests that hold much are judged, and closed.
+-- Which guests are judged, as they hold much, and which are ended, as they read much that has left the store.
 use Rattle.std.specs.Prelude.{◌≡◌, ◌<◌, ◌≤◌, ◌&&◌, nat_lt, ℕ, Bool, true, List, length, slice_get, Option, Some, None, if◌then◌else◌}
-use Rattle.mc_guests.specs.Budgets.{plus, own}
-use Rattle.mc_guests.specs.Guests.{RowGuest}
+use Rattle.mc_guests.specs.Budgets.{plus, own, CountsLeft}
+use Rattle.mc_guests.specs.Guests.{RowGuest, reads_left}
 use Rattle.mc_guests.specs.Paces.{begun, asked_again, rate, is_slow, was_asked}
 use Rattle.mc_guests.specs.Books.{RowState, StandsAt, HasNumber, with_guest}
 use Rattle.mc_guests.specs.declared.weighed.Judged.{Judged}
 use Rattle.mc_guests.specs.declared.weighed.Judged.TheVariants.{Asks, Ends}
+use Rattle.mc_guests.specs.declared.budget.Budget.{Budget}
+use Rattle.mc_guests.specs.declared.weighed.Sought.{Sought}
+use Rattle.mc_guests.specs.declared.weighed.Sought.TheVariants.{Hoarder, Reader}
 
 -- whether a guest holds more than its own bytes, and its link is slow for as much as it holds
 abbrev pub is_hoarding : (ticks : ℕ) → RowGuest → Bool
@@ -15,25 +18,36 @@ is_hoarding ticks guest = nat_lt 0 guest.counted && is_slow (plus guest.counted 
 unfoldable pub slowness : (ticks : ℕ) → RowGuest → Option ℕ
 slowness ticks guest = if is_hoarding ticks guest then Some (rate ticks guest.pace) else None
 
--- none of the first `count` guests may be judged
-abbrev pub NoneIsSlow : (ticks count : ℕ) (guests : List RowGuest) → Type 0
-NoneIsSlow ticks count guests = (other : ℕ) (rival : RowGuest) → other < count → slice_get guests other ≡ Some rival
-    → slowness ticks rival ≡ None
+-- the rate of a guest that may be ended for what has left the store: one that is counted for some of it
+unfoldable pub reading_rate : (ticks : ℕ) → RowGuest → Option ℕ
+reading_rate ticks guest = if nat_lt 0 guest.left then Some (rate ticks guest.pace) else None
 
--- of the first `count` guests that may be judged the one at a place has the lowest rate, and is the first that has it
-pub record IsSlowest (ticks count at lowest : ℕ) (guests : List RowGuest) : Type 0 where
-  pub guest : RowGuest
-  pub stands : slice_get guests at ≡ Some guest
-  pub slow : slowness ticks guest ≡ Some lowest
-  pub lower : (other rate : ℕ) (rival : RowGuest) → other < count → slice_get guests other ≡ Some rival
-      → slowness ticks rival ≡ Some rate → lowest ≤ rate
-  pub first : (other rate : ℕ) (rival : RowGuest) → other < at → slice_get guests other ≡ Some rival
-      → slowness ticks rival ≡ Some rate → lowest < rate
+-- the rate of a guest that is sought, by what is sought
+abbrev pub sought_rate : Sought → (ticks : ℕ) → RowGuest → Option ℕ
+sought_rate Hoarder = slowness
+sought_rate Reader = reading_rate
 
--- the place and the rate of the slowest of the first `count` guests, if one may be judged
-abbrev pub FindsSlowest : (ticks count : ℕ) → Option (ℕ × ℕ) → (guests : List RowGuest) → Type 0
-FindsSlowest ticks count None guests = NoneIsSlow ticks count guests
-FindsSlowest ticks count (Some found) guests = IsSlowest ticks count found.0 found.1 guests
+-- Guests are sought that have a rate.
+module _ (rate_of : RowGuest → Option ℕ) where
+  -- none of the first `count` guests is sought
+  abbrev pub NoneIsSought : (count : ℕ) (guests : List RowGuest) → Type 0
+  NoneIsSought count guests = (other : ℕ) (rival : RowGuest) → other < count → slice_get guests other ≡ Some rival
+      → rate_of rival ≡ None
+
+  -- of the first `count` guests that are sought the one at a place has the lowest rate, and is the first that has it
+  pub record IsSlowest (count at lowest : ℕ) (guests : List RowGuest) : Type 0 where
+    pub guest : RowGuest
+    pub stands : slice_get guests at ≡ Some guest
+    pub slow : rate_of guest ≡ Some lowest
+    pub lower : (other rate : ℕ) (rival : RowGuest) → other < count → slice_get guests other ≡ Some rival
+        → rate_of rival ≡ Some rate → lowest ≤ rate
+    pub first : (other rate : ℕ) (rival : RowGuest) → other < at → slice_get guests other ≡ Some rival
+        → rate_of rival ≡ Some rate → lowest < rate
+
+  -- the place and the rate of the slowest of the first `count` guests, if one is sought
+  abbrev pub FindsSlowest : (count : ℕ) → Option (ℕ × ℕ) → (guests : List RowGuest) → Type 0
+  FindsSlowest count None guests = NoneIsSought count guests
+  FindsSlowest count (Some found) guests = IsSlowest count found.0 found.1 guests
 
 -- whether a rate is below that of the slowest guest before, if there is one
 abbrev pub undercuts : (rate : ℕ) → Option (ℕ × ℕ) → Bool
@@ -64,10 +78,32 @@ pub record JudgesAt (ticks at : ℕ) (result : Judged) (old new : RowState) : Ty
 pub record JudgesSlowest (ticks : ℕ) (result : Judged) (old new : RowState) : Type 0 where
   pub at : ℕ
   pub lowest : ℕ
-  pub slowest : IsSlowest ticks (length old.guests) at lowest old.guests
+  pub slowest : IsSlowest (slowness ticks) (length old.guests) at lowest old.guests
   pub judges : JudgesAt ticks at result old new
 
 -- the slowest guest was judged, or none may be and nothing changes
 abbrev pub Judges : (ticks : ℕ) → Option Judged → (old new : RowState) → Type 0
-Judges ticks None old new = NoneIsSlow ticks (length old.guests) old.guests × (new ≡ old)
+Judges ticks None old new = NoneIsSought (slowness ticks) (length old.guests) old.guests × (new ≡ old)
 Judges ticks (Some result) old new = JudgesSlowest ticks result old new
+
+-- the guest at a place is counted for this many bytes that have left the store, in place of those before; nothing else
+-- changes
+pub record RecountsAt (at left : ℕ) (old new : RowState) (before after : Budget) : Type 0 where
+  pub guest : RowGuest
+  pub stands : StandsAt at old guest
+  pub row : new ≡ with_guest (reads_left left) at old
+  pub budget : CountsLeft guest.left left before after
+
+-- the slowest of those that read what has left the store is counted for none of it, and its link has this number
+pub record EndsSlowest (number : ℕ) (old new : RowState) (before after : Budget) : Type 0 where
+  pub at : ℕ
+  pub lowest : ℕ
+  pub slowest : IsSlowest (reading_rate before.ticks) (length old.guests) at lowest old.guests
+  pub has_it : HasNumber old at number
+  pub ends : RecountsAt at 0 old new before after
+
+-- the slowest reader is ended, or nobody reads what has left and nothing changes
+abbrev pub EndsReader : Option ℕ → (old new : RowState) (before after : Budget) → Type 0
+EndsReader None old new before after =
+    NoneIsSought (reading_rate before.ticks) (length old.guests) old.guests × (new ≡ old) × (after ≡ before)
+EndsReader (Some number) old new before after = EndsSlowest number old new before after

@@ -12,3 +12,4 @@ pub mod Outcomes
 pub mod Asks
 pub mod Turns
 pub mod Doors
+pub mod Arrivals

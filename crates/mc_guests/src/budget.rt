@@ -6,7 +6,7 @@ ghost use Rattle.mc_guests.specs.Budgets.{unused, fits, has_left, promised_more,
 ghost use Rattle.mc_guests.specs.Budgets.{is_kept_for_one};
 ghost use Rattle.mc_guests.specs.Budgets.{may_try, is_retry_due, retried, to_judge};
 ghost use Rattle.mc_guests.specs.Budgets.{is_large, one_if, rest_of, uncounted, counted_too};
-ghost use Rattle.mc_guests.specs.Budgets.{is_over, with_left};
+ghost use Rattle.mc_guests.specs.Budgets.{is_over, to_end, with_left};
 
 /// The bytes that a request may always take, whatever others hold.
 pub const LITTLE: usize = 16_384;
@@ -42,6 +42,8 @@ pub struct Budget {
     pub tried: u64,
     /// The tick of the last judgement of slow guests.
     pub judged: u64,
+    /// The tick in which readers of what has left the store were last ended.
+    pub ended: u64,
 }
 
 impl Budget {
@@ -63,6 +65,7 @@ impl Budget {
             ticks: 0,
             tried: 0,
             judged: 0,
+            ended: 0,
         }
     }
 
@@ -161,6 +164,21 @@ impl Budget {
         }
     }
 
+    /// Returns how many readers of what has left the store may be ended now: once a tick 16 if that is
+    /// more than the share, else none.
+    pub(crate) fn takes_turn_to_end(&mut self) -> usize
+        ensures ends { result ≡ to_end self.old }
+        ensures notes { self.new ≡ record self.old { ended = self.old.ticks } }
+    {
+        let is_ended = self.ticks == self.ended;
+        self.ended = self.ticks;
+        if !is_ended && self.is_over() {
+            ENDED
+        } else {
+            0
+        }
+    }
+
     /// Returns whether guests read more of what has left the store than their share.
     pub(crate) fn is_over(&self) -> bool
         ensures { result ≡ is_over self.now }
@@ -219,3 +237,6 @@ fn one_if(test: bool) -> usize
 
 /// The most slow guests that are judged in one tick.
 const JUDGED: usize = 16;
+
+/// The most readers of what has left the store that are ended in one tick.
+const ENDED: usize = 16;

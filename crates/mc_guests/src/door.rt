@@ -5,6 +5,7 @@
 ghost use Rattle.std.specs.Prelude.{◌≡◌, IsTrue, IsFalse};
 ghost use Rattle.mc_guests.specs.Books.{one_more};
 ghost use Rattle.mc_guests.specs.Doors.{shut, counted_in, LetsIn, Opens, OpensForAll};
+ghost use Rattle.mc_guests.specs.Arrivals.{seen_by, came_in, came_between, Brings};
 
 use crate::guests::{Guests, WorkEnd};
 use crate::talk::Talk;
@@ -41,7 +42,8 @@ impl Door {
     ///
     /// So newcomers wait for few rounds, and guests wait for at most 32 newcomers. Only the last
     /// opening rests, if no guest was admitted before it and there is nothing to do. Each opening
-    /// wakes the guests whose links are named, at most 1024. Returns whether more can come.
+    /// wakes the guests whose links are named, at most 1024. Returns whether more can come. The
+    /// links that come are the next ones of those that are to come, if these are known.
     pub fn open_for_all<L: Link + Drop, Q: Links<L>>(
         &mut self,
         alloc: Global,
@@ -49,7 +51,9 @@ impl Door {
         guests: &mut Guests<L>,
         end: &mut WorkEnd,
     ) -> bool
-        ensures { OpensForAll self.old self.new guests.old guests.new end.old end.new result }
+        ensures { (opens : OpensForAll self.old self.new guests.old guests.new end.old end.new
+            result) × Brings (came_between opens) result (seen_by L.shown (Q.coming links.old))
+            (seen_by L.shown (Q.coming links.new)) }
     {
         for _ in 0..LINKS {
             let is_quiet = guests.is_quiet();
@@ -73,7 +77,9 @@ impl Door {
         end: &mut WorkEnd,
         is_quiet: bool,
     ) -> bool
-        ensures { Opens is_quiet self.old self.new guests.old guests.new end.old end.new result }
+        ensures { (opens : Opens is_quiet self.old self.new guests.old guests.new end.old end.new
+            result) × Brings (came_in opens) result (seen_by L.shown (Q.coming links.old))
+            (seen_by L.shown (Q.coming links.new)) }
     {
         self.talk = Talk::new();
         match self.talk.next(links) {
@@ -102,8 +108,8 @@ impl Door {
         guests: &mut Guests<L>,
         end: &mut WorkEnd,
     )
-        ensures lets { LetsIn self.old.greatest self.old.opened guests.old guests.new end.old
-            end.new }
+        ensures lets { (lets : LetsIn self.old.greatest self.old.opened guests.old guests.new
+            end.old end.new) × (lets.link ≡ L.shown link) }
         ensures counts { self.new ≡ counted_in self.old }
     {
         let came = guests.welcome(alloc, link, self.greatest, self.opened);

@@ -2,15 +2,18 @@
 //!
 //! A visit that reads the end of the stream answers `Served` in that visit; a visit of an ended
 //! guest changes nothing, so `visit` has no premise. A guest reads 2048 bytes at first and 16384
-//! once a read filled that, so an idle connection holds little.
+//! once these came, so an idle connection holds little. A read of a line doesn't pass 65536 bytes,
+//! because its queue doubles its memory there: a line takes at most `OWN` bytes.
 ghost use Rattle.std.specs.Prelude.{◌≡◌, ◌↔◌, ◌<◌, ◌≤◌, ◌+◌, ℕ, List, length, option_copied, IfOk, IfSome, Some, None, [], IsTrue, IsFalse};
 ghost use Rattle.mc_protocol.specs.Commands.{longest_key};
 ghost use Rattle.mc_session.specs.Resting.{resting};
 ghost use Rattle.mc_guests.specs.Guests.{welcomed, has_ended, ends, IsWaiting};
+ghost use Rattle.mc_guests.specs.Links.{IsRoom};
 ghost use Rattle.mc_guests.specs.Visits.{Visited, Does, Writes, Reads};
 ghost use Rattle.mc_guests.specs.Asks.{StaysOrLosesLink};
 ghost use Rattle.mc_guests.specs.Outcomes.{too_large};
 
+use crate::budget::LITTLE;
 use crate::measure::Naming;
 use crate::tap::{Tap, Tapped};
 use mc_bytes::{FIRST_PIECE, Spares};
@@ -25,6 +28,9 @@ use std::marker::Model;
 ///
 /// To find that out costs more than to gather a shorter one.
 const LONG: usize = 1024;
+
+/// The bytes of the longest line.
+const LINE: usize = 65_536;
 
 /// What a visit did.
 #[derive(Clone, Copy, Debug, PartialEq, Eq)]
@@ -52,6 +58,8 @@ pub struct Guest<L: Link + Drop> {
     link: L,
     /// The most bytes of the next read.
     longest: usize,
+    /// The most bytes that input fills after the last read: unread ones, and read ones before them.
+    filled: usize,
     /// The bytes that the last read or write moved.
     moved: usize,
     last: Option<Visit>,
@@ -84,6 +92,7 @@ impl<L: Link + Drop> Guest<L> {
             session: SessionOf::with_spares(alloc, greatest, spares),
             link,
             longest: FIRST_PIECE,
+            filled: 0,
             moved: 0,
             last: None,
         }
@@ -339,7 +348,11 @@ impl<L: Link + Drop> Guest<L> {
         ensures does { Does S.Steps now result self.old self.new store.old store.new }
     {
         match self.session.turn(alloc, store, now) {
-            Ok(Turn::Did) => Visit::Turned,
+            Ok(Turn::Did) => {
+                // what is left of the last read is moved to the front, or is the longer part
+                self.filled = self.filled.min(2 * LONGEST_PIECE);
+                Visit::Turned
+            }
             Ok(Turn::Idle) => self.read_piece(),
             Ok(Turn::Closed) => {
                 self.session.close();
@@ -357,16 +370,19 @@ impl<L: Link + Drop> Guest<L> {
         ensures last { self.new.last ≡ self.old.last }
         ensures reads { Reads result self.old self.new }
     {
+        let filled = self.filled_bytes();
+        let room = self.room_behind(filled);
         let mut tap = Tap {
             link: &mut self.link,
         };
-        match self.session.feed_from(&mut tap, self.longest) {
+        match self.session.feed_from(&mut tap, room) {
             Ok(Tapped::Bytes(count)) => {
                 if count == 0 {
                     return Visit::Later;
                 }
                 self.moved = count;
-                self.widen(count);
+                self.filled = filled.saturating_add(count);
+                self.widen(count, room);
                 Visit::Read
             }
             Ok(Tapped::Later) => Visit::Later,
@@ -389,11 +405,41 @@ impl<L: Link + Drop> Guest<L> {
         }
     }
 
-    /// Enlarges the next read if a read was filled.
-    fn widen(&mut self, given: usize)
+    /// Returns the most bytes that input fills: 0 if none is unread.
+    fn filled_bytes(&self) -> usize {
+        if self.session.has_nothing_unread() {
+            0
+        } else {
+            self.filled
+        }
+    }
+
+    /// Returns the room of a read behind so many bytes: up to the end of the first piece or of the
+    /// longest line, or `longest` if a block of more than `LITTLE` bytes is announced.
+    fn room_behind(&self, filled: usize) -> usize
+        ensures { IsRoom result }
+    {
+        let most = self.longest.clamp(1, LONGEST_PIECE);
+        if self.session.announced_bytes() > LITTLE {
+            return most;
+        }
+        let end = if most > FIRST_PIECE {
+            LINE
+        } else {
+            FIRST_PIECE
+        };
+        if filled < end {
+            most.min(end - filled)
+        } else {
+            FIRST_PIECE
+        }
+    }
+
+    /// Enlarges the next read if a read filled its room.
+    fn widen(&mut self, given: usize, room: usize)
         ensures { self.new ≡ self.old }
     {
-        if given == self.longest {
+        if given == room {
             self.longest = LONGEST_PIECE;
         }
     }

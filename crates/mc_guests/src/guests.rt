@@ -3,15 +3,15 @@
 //! A guest that answered `Later` sleeps; a round visits only awake guests. `Links::ready` names the
 //! link that wakes it, at most 1024 names between two rounds. A skipped visit would have changed
 //! nothing.
-ghost use Rattle.std.specs.Prelude.{◌≡◌, ◌↔◌, ◌<◌, ◌≤◌, ◌&&◌, not, length, slice_get, false, Some, None, IfSome, IsTrue, IsFalse};
+ghost use Rattle.std.specs.Prelude.{◌≡◌, ◌↔◌, ◌<◌, ◌≤◌, ◌&&◌, not, length, slice_get, false, Some, None, is_some, IfSome, IsTrue, IsFalse};
 ghost use Rattle.mc_guests.specs.Asks.{MakesRound};
-ghost use Rattle.mc_guests.specs.Budgets.{is_retry_due, is_over as exceeds_share, to_judge};
+ghost use Rattle.mc_guests.specs.Budgets.{is_retry_due, is_over as exceeds_share, to_end, to_judge, with_left};
 ghost use Rattle.mc_guests.specs.Guests.{welcomed, has_ended, is_later, is_left_out};
 ghost use Rattle.mc_guests.specs.Books.{no_books, quiet, woken, put_behind, let_in, counted};
 ghost use Rattle.mc_guests.specs.Books.{SleepsAt, IsFateOf, is_over, is_asleep, is_to_queue};
 ghost use Rattle.mc_guests.specs.Books.{Wakes, LinesUp, LetsGo, Settles, SettlesFrom};
-ghost use Rattle.mc_guests.specs.Books.{at_ticks, reading, took_judging, HasLink};
-ghost use Rattle.mc_guests.specs.Judging.{Judges};
+ghost use Rattle.mc_guests.specs.Books.{SameButLeft, SetsTicks, took_ending, took_judging};
+ghost use Rattle.mc_guests.specs.Judging.{EndsSlowest, Judges};
 ghost use Rattle.mc_guests.specs.Retries.{LetsOn, LetsOnAll, begun_anew, GoInTurn, GoBeside, TakesTurn, EndsTurns};
 ghost use Rattle.mc_guests.specs.Retries.{LooksAtFirst, IsQueuedAt, NoneWaits, PromisesRoom, KeepsRoom};
 ghost use Rattle.mc_guests.specs.Retries.{tried_again, lined, in_turn, struck_out, turn_passed};
@@ -60,8 +60,6 @@ pub struct Guests<L: Link + Drop> {
     has_strays: bool,
     /// The bytes held and the number of waiting guests, as they were last reported.
     reported: (usize, usize),
-    /// The tick in which readers of what has left the store were last ended.
-    ended: u64,
     /// The large buffers of all guests between two requests, if there was memory for them.
     spares: Option<Spares>,
 }
@@ -81,9 +79,6 @@ impl<L: Link + Drop> Model for Guests<L> {
 
 /// The ticks after which unused spares are freed.
 const UNUSED: u64 = 4;
-
-/// The most readers of what has left the store that are ended in one tick.
-const ENDED: usize = 16;
 
 /// The most waiting guests that one retry looks at.
 const LOOKS: usize = 256;
@@ -113,7 +108,6 @@ impl<L: Link + Drop> Guests<L> {
             is_last: false,
             has_strays: false,
             reported: (0, 0),
-            ended: 0,
             spares: Spares::new(alloc).ok(),
         }
     }
@@ -182,7 +176,7 @@ impl<L: Link + Drop> Guests<L> {
     /// they read that has left the store, and spares are freed that, with what guests hold, are more
     /// than the share. Every fourth tick frees unused spares.
     pub fn tick(&mut self, ticks: u64)
-        ensures { self.new ≡ at_ticks ticks self.new.budget.left self.old }
+        ensures { SetsTicks ticks self.old self.new }
     {
         let before = self.budget.ticks;
         if ticks != before {
@@ -207,7 +201,11 @@ impl<L: Link + Drop> Guests<L> {
     /// left the store.
     #[inline(never)]
     fn rest_quiet(&mut self)
-        ensures { self.new ≡ reading self.new.budget.left self.old }
+        ensures row { SameButLeft self.old.row self.new.row }
+        ensures rest { self.new ≡ record self.old {
+          row = self.new.row;
+          budget = with_left self.new.budget.left self.old.budget;
+        } }
     {
         let Guests { row, budget, .. } = self;
         row.rest_quiet(budget);
@@ -461,26 +459,26 @@ impl<L: Link + Drop> Guests<L> {
         self.budget.takes_turn_to_judge()
     }
 
-    /// Returns how many readers of what has left the store may be ended now: once a tick 16 if that
-    /// is more than the share, else none.
+    /// Returns how many readers of what has left the store may be ended now: once a tick 16 if that is
+    /// more than the share, else none.
     pub fn takes_turn_to_end(&mut self) -> usize
-        ensures same { self.new ≡ self.old }
-        ensures within { IsFalse (exceeds_share self.old.budget) → result ≡ 0 }
-        ensures few { result ≤ 16 }
+        ensures ends { result ≡ to_end self.old.budget }
+        ensures notes { self.new ≡ took_ending self.old }
     {
-        if self.ended == self.budget.ticks || !self.budget.is_over() {
-            return 0;
-        }
-        self.ended = self.budget.ticks;
-        ENDED
+        self.budget.takes_turn_to_end()
     }
 
     /// Returns the number of the link of the slowest guest that reads what has left the store, if
     /// that is more than the share. The caller closes the link; the guest is counted no more.
     pub fn end_slowest_reader(&mut self) -> Option<u64>
-        ensures same { self.new ≡ reading self.new.budget.left self.old }
-        ensures number { IfSome result (λ number. HasLink self.old.row number) }
-        ensures over { IfSome result (λ _. IsTrue (exceeds_share self.old.budget)) }
+        ensures over { is_some result ≡ exceeds_share self.old.budget }
+        ensures ends { IfSome result (λ number.
+            EndsSlowest number self.old.row self.new.row self.old.budget self.new.budget) }
+        ensures none { result ≡ None → self.new ≡ self.old }
+        ensures rest { self.new ≡ record self.old {
+          row = self.new.row;
+          budget = self.new.budget;
+        } }
     {
         if !self.budget.is_over() {
             return None;

@@ -8,9 +8,10 @@ ghost use Rattle.mc_guests.specs.Budgets.{CountsAll, RecountsAll, rest_of, with_
 ghost use Rattle.mc_guests.specs.Turns.{HaveTurns};
 ghost use Rattle.mc_guests.specs.Retries.{IsWhole};
 ghost use Rattle.mc_guests.specs.Books.{nobody, swapped, cut, joined, HasNumber, StandsAt};
-ghost use Rattle.mc_guests.specs.Books.{with_guest, HasLink};
+ghost use Rattle.mc_guests.specs.Books.{with_guest, SameButLeft};
 ghost use Rattle.mc_guests.specs.Guests.{newcomer, in_line};
-ghost use Rattle.mc_guests.specs.Judging.{FindsSlowest, Judges, JudgesAt, undercuts};
+ghost use Rattle.mc_guests.specs.Judging.{FindsSlowest, Judges, JudgesAt, EndsReader, RecountsAt};
+ghost use Rattle.mc_guests.specs.Judging.{sought_rate, undercuts};
 
 use crate::budget::Budget;
 use crate::guest::Guest;
@@ -18,7 +19,7 @@ use crate::numbers::NumberList;
 use crate::reports::Reports;
 use crate::rounds::round_within;
 use crate::seat::GuestSeat;
-use crate::weighed::{Judged, Line, Weighed};
+use crate::weighed::{Judged, Line, Sought, Weighed};
 use mc_links::Link;
 use mc_protocol::Steps;
 use mc_time::Moment;
@@ -130,8 +131,10 @@ impl<L: Link + Drop> GuestRow<L> {
     /// Frees the memory that quiet guests keep, and counts guests anew for what they read that has
     /// left the store. It looks at up to 1024 of them, in turn.
     pub fn rest_quiet(&mut self, budget: &mut Budget)
-        ensures same { self.new ≡ self.old }
-        ensures counts { budget.new ≡ with_left budget.new.left budget.old }
+        ensures same { SameButLeft self.old self.new }
+        ensures counts { CountsAll budget.old self.old.guests →
+            CountsAll budget.new self.new.guests }
+        ensures rest { budget.new ≡ with_left budget.new.left budget.old }
     {
         for _ in 0..self.guests.len().min(LOOKS) {
             self.rest_next(budget);
@@ -141,74 +144,64 @@ impl<L: Link + Drop> GuestRow<L> {
     /// Frees the memory that the next guest in turn keeps, if it is quiet, and counts it anew for
     /// what it reads that has left the store.
     fn rest_next(&mut self, budget: &mut Budget)
-        ensures same { self.new ≡ self.old }
-        ensures counts { budget.new ≡ with_left budget.new.left budget.old }
+        ensures same { SameButLeft self.old self.new }
+        ensures counts { CountsAll budget.old self.old.guests →
+            CountsAll budget.new self.new.guests }
+        ensures rest { budget.new ≡ with_left budget.new.left budget.old }
     {
-        if self.next >= self.guests.len() {
-            self.next = 0;
+        let at = self.next_place();
+        self.next = at.wrapping_add(1);
+        if at < self.guests.len() {
+            self.rest_at(at, budget);
         }
-        if let Some(guest) = self.guests.get_mut(self.next) {
-            guest.inner.rest_if_quiet(budget);
+    }
+
+    /// Returns the place of the guest that rests next: the first behind the last.
+    fn next_place(&self) -> usize {
+        if self.next < self.guests.len() {
+            self.next
+        } else {
+            0
         }
-        self.next = self.next.wrapping_add(1);
+    }
+
+    /// Frees the memory that the guest at a place keeps, if it is quiet, and counts it anew for what
+    /// it reads that has left the store.
+    fn rest_at(&mut self, at: usize, budget: &mut Budget)
+        requires { at < length self.old.guests }
+        ensures { (left : ℕ) × RecountsAt at left self.old self.new budget.old budget.new }
+    {
+        self.guests[at].inner.rest_if_quiet(budget);
     }
 
     /// Returns the number of the link of the slowest guest that reads what has left the store, which
     /// is counted no more. Of equal ones it is the first.
     pub fn end_slowest_reader(&mut self, budget: &mut Budget) -> Option<u64>
-        ensures same { self.new ≡ self.old }
-        ensures number { IfSome result (λ number. HasLink self.old number) }
-        ensures counts { budget.new ≡ with_left budget.new.left budget.old }
+        ensures { EndsReader result self.old self.new budget.old budget.new }
     {
-        let (at, _) = self.slowest_reader(budget.ticks)?;
-        let number = self.number_of(at);
-        self.uncount_left_at(at, budget);
-        Some(number)
-    }
-
-    /// Counts the guest at a place no more for what has left the store.
-    fn uncount_left_at(&mut self, at: usize, budget: &mut Budget)
-        ensures same { self.new ≡ self.old }
-        ensures counts { budget.new ≡ with_left budget.new.left budget.old }
-    {
-        if let Some(guest) = self.guests.get_mut(at) {
-            guest.inner.uncount_left(budget);
+        match self.slowest(Sought::Reader, budget.ticks) {
+            Some((at, _)) => Some(self.uncount_left_at(at, budget)),
+            None => None,
         }
     }
 
-    /// Returns the place and the rate of the slowest guest that reads what has left the store.
-    fn slowest_reader(&self, ticks: u64) -> Option<(usize, u64)>
-        ensures { IfSome result (λ found. found.0 < length self.now.guests) }
+    /// Counts the guest at a place no more for what has left the store, and returns the number of its
+    /// link.
+    fn uncount_left_at(&mut self, at: usize, budget: &mut Budget) -> u64
+        requires { at < length self.old.guests }
+        ensures number { HasNumber self.old at result }
+        ensures counts { RecountsAt at 0 self.old self.new budget.old budget.new }
     {
-        let mut found = None;
-        for at in 0..self.guests.len() {
-            found = self.slower_reader(found, at, ticks);
-        }
-        found
-    }
-
-    /// Returns the slowest reader up to a place, if `found` is the slowest before it.
-    fn slower_reader(
-        &self,
-        found: Option<(usize, u64)>,
-        at: usize,
-        ticks: u64,
-    ) -> Option<(usize, u64)>
-        requires stands { at < length self.now.guests }
-        requires found { IfSome found (λ one. one.0 < length self.now.guests) }
-        ensures { IfSome result (λ one. one.0 < length self.now.guests) }
-    {
-        match self.at(at).reading_rate(ticks) {
-            Some(rate) if undercuts(rate, found) => Some((at, rate)),
-            _ => found,
-        }
+        let number = self.numbers.at(at);
+        self.guests[at].inner.uncount_left(budget);
+        number
     }
 
     /// Judges the slowest guest that holds much, if one is slow. Of equal ones it is the first.
     pub fn judge_slowest(&mut self, ticks: u64) -> Option<Judged>
         ensures { Judges ticks result self.old self.new }
     {
-        match self.slowest(ticks) {
+        match self.slowest(Sought::Hoarder, ticks) {
             Some((at, _)) => Some(self.judge_at(at, ticks)),
             None => None,
         }
@@ -223,25 +216,32 @@ impl<L: Link + Drop> GuestRow<L> {
         self.guests[at].inner.judge(number, ticks)
     }
 
-    /// Returns the place and the rate of the slowest guest that holds much, if one is slow.
-    fn slowest(&self, ticks: u64) -> Option<(usize, u64)>
-        ensures { FindsSlowest ticks (length self.now.guests) result self.now.guests }
+    /// Returns the place and the rate of the slowest of the guests that are sought, if there is one.
+    fn slowest(&self, sought: Sought, ticks: u64) -> Option<(usize, u64)>
+        ensures { FindsSlowest (sought_rate sought ticks) (length self.now.guests) result
+            self.now.guests }
     {
         let mut found = None;
         for at in 0..self.guests.len() {
-            found = self.slower(found, at, ticks);
+            found = self.slower(sought, found, at, ticks);
         }
         found
     }
 
     /// Returns the slowest guest up to a place, if `found` is the slowest before it.
-    fn slower(&self, found: Option<(usize, u64)>, at: usize, ticks: u64) -> Option<(usize, u64)>
+    fn slower(
+        &self,
+        sought: Sought,
+        found: Option<(usize, u64)>,
+        at: usize,
+        ticks: u64,
+    ) -> Option<(usize, u64)>
         requires stands { at < length self.now.guests }
-        requires found { FindsSlowest ticks at found self.now.guests }
-        ensures { FindsSlowest ticks (at + 1) result self.now.guests }
+        requires found { FindsSlowest (sought_rate sought ticks) at found self.now.guests }
+        ensures { FindsSlowest (sought_rate sought ticks) (at + 1) result self.now.guests }
     {
         let guest = self.at(at);
-        match guest.slowness(ticks) {
+        match guest.sought_rate(sought, ticks) {
             Some(rate) if undercuts(rate, found) => Some((at, rate)),
             _ => found,
         }

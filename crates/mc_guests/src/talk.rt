@@ -1,10 +1,11 @@
 //! A worker's calls of its links between two rounds.
 //!
-//! Links show nothing to contracts, so the calls are noted in `Talk`: the next link, the names, the
-//! rest. That the notes are true is read in three short functions.
+//! Names and rests show nothing to contracts, so the calls are noted in `Talk`: the next link, the
+//! names, the rest. That the notes are true is read in three short functions.
 ghost use Rattle.std.specs.Prelude.{◌≡◌, ◌↔◌, ◌<◌, ◌&&◌, ◌==◌, Some, IsTrue};
 ghost use Rattle.mc_guests.specs.Doors.{unasked, came, came_of, heard, most_names, WakesAllNamed, ComesNothing};
 ghost use Rattle.mc_guests.specs.declared.talk.Came.TheVariants.{Link as ALink};
+ghost use Rattle.mc_links.specs.Coming.{IsNext};
 
 use crate::guests::Guests;
 use mc_links::{Link, Links, Next};
@@ -50,7 +51,8 @@ impl Talk {
 
     /// Gets the next link.
     pub(crate) fn next<L: Link + Drop, Q: Links<L>>(&mut self, links: &mut Q) -> Next<L>
-        ensures { self.new ≡ came (came_of result) self.old }
+        ensures notes { self.new ≡ came (came_of result) self.old }
+        ensures gives { IsNext (Q.coming links.old) result (Q.coming links.new) }
     {
         match links.next() {
             Next::Link(link) => {
@@ -78,7 +80,8 @@ impl Talk {
     /// Gets the name of a link that may give or take more.
     fn ready<L: Link + Drop, Q: Links<L>>(&mut self, links: &mut Q) -> Option<u64>
         requires { self.old.names < most_names }
-        ensures { self.new ≡ heard result self.old }
+        ensures notes { self.new ≡ heard result self.old }
+        ensures same { Q.coming links.new ≡ Q.coming links.old }
     {
         match links.ready() {
             Some(number) => {
@@ -100,7 +103,8 @@ impl Talk {
         guests: &mut Guests<L>,
     )
         requires { self.old.names ≡ 0 }
-        ensures { WakesAllNamed self.old guests.old self.new guests.new }
+        ensures wakes { WakesAllNamed self.old guests.old self.new guests.new }
+        ensures same { Q.coming links.new ≡ Q.coming links.old }
     {
         for _ in 0..NAMES {
             match self.ready(links) {
@@ -119,7 +123,8 @@ impl Talk {
         is_quiet: bool,
     )
         requires { self.old.names ≡ 0 }
-        ensures { ComesNothing is_quiet self.old guests.old self.new guests.new }
+        ensures nothing { ComesNothing is_quiet self.old guests.old self.new guests.new }
+        ensures same { Q.coming links.new ≡ Q.coming links.old }
     {
         self.wake_named(links, guests);
         if self.rest_if(links, is_quiet) {
@@ -132,6 +137,7 @@ impl Talk {
         ensures rests { result ≡ (is_quiet && self.old.names == 0) }
         ensures notes { self.new ≡ record self.old { has_rested = result } }
         ensures none { IsTrue result → self.new.names ≡ 0 }
+        ensures same { Q.coming links.new ≡ Q.coming links.old }
     {
         let rests = is_quiet && self.names == 0;
         self.has_rested = rests;

@@ -9,16 +9,15 @@
 //!
 //! Memory that has left the store while guests read it is in a sum of its own, for which nobody
 //! waits: if it exceeds the share, the slowest of its readers are closed.
-ghost use Rattle.std.specs.Prelude.{◌≡◌, ◌≢◌, ◌<◌, not, true, false, is_none, IfSome, None};
+ghost use Rattle.std.specs.Prelude.{◌≡◌, ◌≢◌, ◌<◌, ◌-◌, min, not, true, false, is_none, IfSome, None};
 ghost use Rattle.std.specs.Prelude.{IsTrue, IsFalse};
 ghost use Rattle.mc_guests.specs.Asks.{AsksAndVisits, IsKeptWaiting};
 ghost use Rattle.mc_guests.specs.Asks.{little, most, MayAsk, NamesKey};
 ghost use Rattle.mc_guests.specs.Budgets.{uncounted, counted_too, IsHeldBack, GoesOnOrWaits, Recounts};
-ghost use Rattle.mc_guests.specs.Budgets.{Covers, IsCounted, with_left};
+ghost use Rattle.mc_guests.specs.Budgets.{Covers, IsCounted, CountsLeft, RecountsLeft};
 ghost use Rattle.mc_guests.specs.Guests.{newcomer, has_ended, is_in_queue, is_left_out};
 ghost use Rattle.mc_guests.specs.Guests.{is_queued, is_stray, missing, in_line};
-ghost use Rattle.mc_guests.specs.Judging.{is_hoarding, slowness, verdict, judged};
-ghost use Rattle.mc_guests.specs.Paces.{rate as rate_of};
+ghost use Rattle.mc_guests.specs.Judging.{is_hoarding, slowness, reading_rate, sought_rate, verdict, judged};
 ghost use Rattle.mc_guests.specs.Retries.{waits_long};
 ghost use Rattle.mc_guests.specs.Visits.{Visited};
 
@@ -51,9 +50,10 @@ const PARTS: usize = 16;
 /// The ticks after which others wait for a waiting guest.
 const LONG: u64 = 8;
 
-/// A guest, and the memory that it holds. Contracts see the guest, whether it waits for room, the
-/// bytes for which it is counted, its place in the queue, what it wanted when it began to wait, the
-/// bytes of its output that were lent when it was counted, and its link's pace.
+/// A guest, and the memory that it holds. Contracts see the guest, and its link's pace. They see
+/// whether it waits for room, its place in the queue, and what it wanted when it began to wait. They
+/// see the bytes for which it is counted, those of its output that were lent then, and those of what
+/// has left the store.
 #[derive(Drop)]
 pub struct Weighed<L: Link + Drop> {
     guest: Guest<L>,
@@ -100,6 +100,15 @@ enum Weight {
     Reserved,
 }
 
+/// Which guests the slowest is sought of.
+#[derive(Clone, Copy)]
+pub enum Sought {
+    /// Those that are counted for some bytes, and slow for as much as they hold.
+    Hoarder,
+    /// Those that are counted for what has left the store.
+    Reader,
+}
+
 /// What to do with a guest that holds much and is slow, by the number of its link.
 #[derive(Clone, Copy)]
 pub enum Judged {
@@ -115,7 +124,7 @@ impl<L: Link + Drop> Model for Weighed<L> {
     ghost Value = { RowGuest };
 
     ghost view = { λ w.
-        row_guest w.guest w.waits w.counted w.line w.wanted w.lent w.pace };
+        row_guest w.guest w.waits w.counted w.line w.wanted w.lent w.left w.pace };
 }
 
 impl<L: Link + Drop> Weighed<L> {
@@ -194,9 +203,19 @@ impl<L: Link + Drop> Weighed<L> {
         self.waits && self.line.is_left_out()
     }
 
+    /// Returns its rate if it is one of those that are sought.
+    pub fn sought_rate(&self, sought: Sought, ticks: u64) -> Option<u64>
+        ensures { result ≡ sought_rate sought ticks self.now }
+    {
+        match sought {
+            Sought::Hoarder => self.slowness(ticks),
+            Sought::Reader => self.reading_rate(ticks),
+        }
+    }
+
     /// Returns its rate if it is counted for some bytes, and slow for as much as it holds.
     #[tactic(auto, unfolding(crate::specs::Judging::slowness))]
-    pub fn slowness(&self, ticks: u64) -> Option<u64>
+    fn slowness(&self, ticks: u64) -> Option<u64>
         ensures { result ≡ slowness ticks self.now }
     {
         if self.is_hoarding(ticks) {
@@ -215,8 +234,9 @@ impl<L: Link + Drop> Weighed<L> {
     }
 
     /// Returns the rate of its link if it is counted for what has left the store.
-    pub fn reading_rate(&self, ticks: u64) -> Option<u64>
-        ensures { IfSome result (λ rate. rate ≡ rate_of ticks self.now.pace) }
+    #[tactic(auto, unfolding(crate::specs::Judging::reading_rate))]
+    fn reading_rate(&self, ticks: u64) -> Option<u64>
+        ensures { result ≡ reading_rate ticks self.now }
     {
         if self.left > 0 {
             Some(self.pace.rate(ticks))
@@ -227,8 +247,8 @@ impl<L: Link + Drop> Weighed<L> {
 
     /// Counts it no more for what has left the store, because its link is closed.
     pub fn uncount_left(&mut self, budget: &mut Budget)
-        ensures same { self.new ≡ self.old }
-        ensures counts { budget.new ≡ with_left budget.new.left budget.old }
+        ensures counts { RecountsLeft 0 self.old self.new budget.old budget.new }
+        ensures left { budget.new.left ≡ budget.old.left - self.old.left }
     {
         self.left = budget.recount_left(self.left, 0);
     }
@@ -257,12 +277,12 @@ impl<L: Link + Drop> Weighed<L> {
     /// Frees what it holds, and uncounts it.
     pub fn leave(&mut self, budget: &mut Budget)
         ensures { budget.new ≡ record (uncounted self.old.counted self.old.waits budget.old) {
-          left = budget.new.left;
+          left = budget.old.left - self.old.left;
           is_eased = true;
         } }
     {
         self.guest.give_up();
-        self.left = budget.recount_left(self.left, 0);
+        self.uncount_left(budget);
         budget.take_out(self.counted, self.waits);
         budget.is_eased = true;
     }
@@ -381,6 +401,7 @@ impl<L: Link + Drop> Weighed<L> {
     /// Lets it go on with `wanted` bytes, and counts it.
     fn go_on(&mut self, wanted: usize, budget: &mut Budget)
         ensures same { self.new.guest ≡ self.old.guest }
+        ensures left { self.new.left ≡ self.old.left }
         ensures goes { self.new.waits ≡ false }
         ensures counts { budget.new ≡ counted_too self.new.counted false budget.old }
     {
@@ -447,6 +468,7 @@ impl<L: Link + Drop> Weighed<L> {
     /// Makes it wait for `wanted` bytes, and counts it.
     fn keep(&mut self, wanted: usize, budget: &mut Budget)
         ensures same { self.new.guest ≡ self.old.guest }
+        ensures left { self.new.left ≡ self.old.left }
         ensures waits { self.new.waits ≡ true }
         ensures counts { budget.new ≡ record (counted_too self.new.counted true budget.old) {
           is_eased = budget.new.is_eased;
@@ -478,8 +500,12 @@ impl<L: Link + Drop> Weighed<L> {
     /// Returns the bytes that it is to be counted for after a visit with this answer, and notes
     /// what the visit moved.
     fn bytes_after(&mut self, answer: Visit, budget: &mut Budget) -> usize
-        ensures same { self.new ≡ record self.old { pace = self.new.pace; lent = self.new.lent } }
-        ensures counts { budget.new ≡ with_left budget.new.left budget.old }
+        ensures same { self.new ≡ record self.old {
+          pace = self.new.pace;
+          lent = self.new.lent;
+          left = self.new.left;
+        } }
+        ensures counts { CountsLeft self.old.left self.new.left budget.old budget.new }
         ensures covers { answer ≢ Visit.Wrote →
             Covers result self.new.lent self.old.guest.session }
     {
@@ -497,8 +523,12 @@ impl<L: Link + Drop> Weighed<L> {
     /// takes. Notes what is lent to it.
     #[inline]
     fn reserved_bytes(&mut self, budget: &mut Budget) -> usize
-        ensures same { self.new ≡ record self.old { pace = self.new.pace; lent = self.new.lent } }
-        ensures counts { budget.new ≡ with_left budget.new.left budget.old }
+        ensures same { self.new ≡ record self.old {
+          pace = self.new.pace;
+          lent = self.new.lent;
+          left = self.new.left;
+        } }
+        ensures counts { CountsLeft self.old.left self.new.left budget.old budget.new }
         ensures covers { Covers result self.new.lent self.old.guest.session }
     {
         let holding = self.guest.holding();
@@ -514,8 +544,13 @@ impl<L: Link + Drop> Weighed<L> {
     /// Notes how many bytes of its output are lent, and counts it for what of that has left the
     /// store.
     fn note_lent(&mut self, lent: usize, left: usize, budget: &mut Budget)
-        ensures same { self.new ≡ record self.old { pace = self.new.pace; lent = lent } }
-        ensures counts { budget.new ≡ with_left budget.new.left budget.old }
+        ensures same { self.new ≡ record self.old {
+          pace = self.new.pace;
+          lent = lent;
+          left = self.new.left;
+        } }
+        ensures left { self.new.left ≡ min left (most - (budget.old.left - self.old.left)) }
+        ensures counts { CountsLeft self.old.left self.new.left budget.old budget.new }
     {
         if self.lent == 0 && lent > 0 {
             self.pace = Pace::new(budget.ticks);
@@ -581,13 +616,26 @@ impl<L: Link + Drop> Weighed<L> {
     /// Frees the memory that it keeps, if it moved nothing for 1 s or memory is tight. Counts it anew
     /// for what it reads that has left the store.
     pub fn rest_if_quiet(&mut self, budget: &mut Budget)
-        ensures same { self.new ≡ self.old }
-        ensures counts { budget.new ≡ with_left budget.new.left budget.old }
+        ensures { RecountsLeft self.new.left self.old self.new budget.old budget.new }
+    {
+        self.count_left(budget);
+        self.free_if_quiet(budget);
+    }
+
+    /// Counts it anew for what it reads that has left the store.
+    fn count_left(&mut self, budget: &mut Budget)
+        ensures { RecountsLeft self.new.left self.old self.new budget.old budget.new }
     {
         if self.lent > 0 {
             let left = self.guest.holding().left;
             self.left = budget.recount_left(self.left, left);
         }
+    }
+
+    /// Frees the memory that it keeps, if it moved nothing for 1 s or memory is tight.
+    fn free_if_quiet(&mut self, budget: &Budget)
+        ensures { self.new ≡ self.old }
+    {
         if self.keeps && (self.pace.was_quiet(budget.ticks, QUIET) || budget.is_tight()) {
             self.keeps = false;
             let _ = self.guest.rest();
@@ -598,6 +646,7 @@ impl<L: Link + Drop> Weighed<L> {
     fn recount(&mut self, bytes: usize, budget: &mut Budget)
         ensures same { self.new.guest ≡ self.old.guest }
         ensures lent { self.new.lent ≡ self.old.lent }
+        ensures left { self.new.left ≡ self.old.left }
         ensures waits { self.new.waits ≡ self.old.waits }
         ensures counts { Recounts self.old self.new budget.old budget.new }
         ensures whole { budget.new.held < most → self.new.counted ≡ bytes }

@@ -116,6 +116,8 @@ enum Case<'a> {
     Lines(u64),
     /// What guests hold is reported.
     Reports,
+    /// A guest has an input and so many bytes of its line behind it, and what it holds is reported.
+    Line(&'a [u8], usize),
     /// A guest has this input.
     TooLarge(&'a [u8]),
 }
@@ -141,6 +143,7 @@ fn counted_in<'a>(
         Case::Idle(has_left) => waits_beside(alloc, hall, has_left, is_over, goes_on),
         Case::Lines(lines) => let_lines_in(alloc, hall, lines, goes_on),
         Case::Reports => right_reports(alloc, hall, is_over),
+        Case::Line(input, more) => held_of_line(alloc, hall, input, more, goes_on),
         Case::TooLarge(input) => too_large_in(alloc, hall, input, goes_on),
     }
 }
@@ -451,6 +454,38 @@ fn leave_and_are_reported(
 #[test]
 fn what_guests_hold_is_reported_once(rt: HostRuntime) -> Result<(), Fail> {
     counts(&rt, rt.alloc(), (0, 926_272, Case::Reports, (3, 0)))
+}
+
+/// Returns the bytes that are counted of a guest with this input and so many bytes behind it.
+fn held_of_line<'a>(
+    alloc: Global,
+    hall: &mut Hall<'a>,
+    input: &'a [u8],
+    more: usize,
+    goes_on: &'a Cell<bool>,
+) -> Result<Counted, AllocError> {
+    let holdings = Holdings {
+        last: Cell::new((0, 0)),
+        reports: Cell::new(0),
+    };
+    let waiting = hall.let_in(alloc, 0, Quick::giving(input, more, goes_on))?;
+    let ((held, _), _) = holdings.of(hall);
+    Ok((held as u64, waiting))
+}
+
+/// A line that doesn't end is held within a guest's own bytes: alone, behind a request, and up to
+/// the longest.
+static LINES: [Row; 5] = [
+    (1, 1_000_000, Case::Line(b"get a ", 40_000), (0, 0)),
+    (1, 1_000_000, Case::Line(b"get a ", 60_000), (0, 0)),
+    (1, 1_000_000, Case::Line(b"get a ", 65_530), (0, 0)),
+    (1, 1_000_000, Case::Line(b"get b\r\nget a ", 60_000), (0, 0)),
+    (1, 1_000_000, Case::Line(b"get b\r\nget a ", 65_530), (0, 0)),
+];
+
+#[test]
+fn a_line_is_held_within_a_guests_own_bytes(rt: HostRuntime) -> Result<(), Fail> {
+    all_count(&rt, rt.alloc(), &LINES)
 }
 
 /// Returns a line that appends 60000 bytes to `a`, and these.

@@ -269,9 +269,10 @@ fn visits_do_what_is_due(rt: HostRuntime) -> Result<(), Fail> {
     Ok(())
 }
 
-/// A link that fills each piece with unspecified bytes, and notes the length of the last piece.
+/// A link that gives up to `most` unspecified bytes a call, and notes the length of the last piece.
 #[derive(Drop)]
 struct Flood<'a> {
+    most: usize,
     piece: &'a AtomicU64,
     was_read: bool,
     requested: usize,
@@ -286,7 +287,7 @@ impl<'a> Link for Flood<'a> {
         self.was_read = true;
         self.requested = piece.len();
         self.piece.store(piece.len() as u64, Ordering::SeqCst);
-        Ok(Got::Bytes(piece.len()))
+        Ok(Got::Bytes(piece.len().min(self.most)))
     }
 
     fn try_write(&mut self, bytes: &[u8]) -> Result<Took, LinkFault> {
@@ -300,46 +301,61 @@ impl<'a> Link for Flood<'a> {
     }
 }
 
-/// Visits a guest whose link floods it. Returns whether its pieces are longer from the second on.
+/// Visits a guest whose link floods it. Returns whether it is lent pieces of these lengths.
 ///
 /// The link notes in `length`.
-fn pieces_are_longer(
+fn lends_pieces(
     alloc: Global,
     guest: &mut Guest<Flood<'_>>,
     store: &mut Counting,
     length: &AtomicU64,
+    lengths: &[u64],
 ) -> bool {
     let now = Moment::from_seconds_at_most(1000);
-    let lengths: [u64; 3] = [2048, 16384, 16384];
     for wanted in lengths {
         let answer = guest.visit(alloc, store, now);
-        if answer != Visit::Read || length.load(Ordering::SeqCst) != wanted {
+        if answer != Visit::Read || length.load(Ordering::SeqCst) != *wanted {
             return false;
         }
     }
     true
 }
 
-/// Returns the same of a new guest.
-fn pieces_of_a_flood_are_longer(alloc: Global, store: &mut Counting) -> Result<bool, AllocError> {
+/// Returns the same of a new guest, whose link gives up to `most` bytes a call.
+fn new_one_lends_pieces(
+    alloc: Global,
+    store: &mut Counting,
+    most: usize,
+    lengths: &[u64],
+) -> Result<bool, AllocError> {
     let length = AtomicU64::new(0);
     let link = Flood {
+        most,
         piece: &length,
         was_read: false,
         requested: 0,
     };
     let mut guest = Guest::new(alloc, link, 1048576)?;
-    Ok(pieces_are_longer(alloc, &mut guest, store, &length))
+    Ok(lends_pieces(alloc, &mut guest, store, &length, lengths))
 }
 
 /// Returns the same over a new store.
-fn reads_longer_pieces(alloc: Global) -> Result<bool, AllocError> {
+fn reads_pieces(alloc: Global, most: usize, lengths: &[u64]) -> Result<bool, AllocError> {
     let mut store = Counting::new(alloc, false)?;
-    pieces_of_a_flood_are_longer(alloc, &mut store)
+    new_one_lends_pieces(alloc, &mut store, most, lengths)
 }
+
+/// The lengths of pieces that are lent for a line that doesn't end: together at most 65536 bytes,
+/// and one piece more.
+static PIECES: [(usize, &[u64]); 2] = [
+    (16_384, &[2048, 16384, 16384, 16384, 14336, 2048]),
+    (1000, &[2048, 1048, 48, 16384, 16384]),
+];
 
 #[test]
 fn a_read_that_fills_its_piece_makes_the_next_longer(rt: HostRuntime) -> Result<(), Fail> {
-    assert!(rt; reads_longer_pieces(rt.alloc())?);
+    for (most, lengths) in &PIECES {
+        assert!(rt; reads_pieces(rt.alloc(), *most, lengths)?);
+    }
     Ok(())
 }

@@ -8,5 +8,5 @@ invariant_of-self g c =
     let long = judges_long ticks c.judge_slowest.result c.self.inside.row c.judge_slowest.new.self c.judge_slowest.ensures in
     let all = c.self.invariant.0 in (
       omega (arith, long, all),
-      judges_counts ticks _ _ _ c.judge_slowest.result c.self.inside.row c.judge_slowest.new.self c.judge_slowest.ensures c.self.invariant.1,
+      judges_counts ticks _ _ _ _ c.judge_slowest.result c.self.inside.row c.judge_slowest.new.self c.judge_slowest.ensures c.self.invariant.1,
     )

@@ -15,7 +15,7 @@ invariant_of-self g c =
       awake_stand c.args.at c.self.inside.awake c.len-end.result _ c.self.inside.row c.swap.new.self c.swap-2.new.self c.pop.new.self
           within c.self.invariant.0 c.swap.ensures c.len-end.ensures refl c.swap-2.ensures c.pop.ensures.cut,
       c.pop.ensures.counts (counts_moved c.args.at c.self.inside.awake c.len-end.result _ c.self.inside.row c.swap.new.self c.swap-2.new.self
-          c.swap-2.new.self within c.self.invariant.0 c.swap.ensures c.len-end.ensures refl c.swap-2.ensures _ _ _ c.self.invariant.1),
+          c.swap-2.new.self within c.self.invariant.0 c.swap.ensures c.len-end.ensures refl c.swap-2.ensures _ _ _ _ c.self.invariant.1),
     )
 
 pub returns : goal.returns

@@ -10,6 +10,6 @@ invariant_of-self g c =
     let all = c.self.invariant.0 in
     let within : c.args.at < c.self.inside.awake = subst (λ (b : BooksState). c.args.at < b.awake) (sym c.self.view_is) c.requires in (
       omega (arith, long, all),
-      counts_row_swapped c.args.at (c.self.inside.awake - 1) _ _ _ c.self.inside.row c.swap.new.self c.swap.ensures (omega (arith, within, all)) (omega (arith, within, all))
+      counts_row_swapped c.args.at (c.self.inside.awake - 1) _ _ _ _ c.self.inside.row c.swap.new.self c.swap.ensures (omega (arith, within, all)) (omega (arith, within, all))
           c.self.invariant.1,
     )

@@ -11,5 +11,5 @@ invariant_of-self g c =
     let all = c.self.invariant.0 in (
       omega (arith, long, all),
       subst (λ (r : RowState). CountsAll c.self.inside.budget r.guests) (sym c.set_line.ensures)
-          (counts_changed (in_line c.args.line) (λ _. refl) (λ _. refl) c.args.at _ _ _ c.self.inside.row.guests c.self.invariant.1),
+          (counts_changed (in_line c.args.line) (λ _. refl) (λ _. refl) (λ _. refl) c.args.at _ _ _ _ c.self.inside.row.guests c.self.invariant.1),
     )

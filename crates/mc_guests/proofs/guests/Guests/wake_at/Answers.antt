@@ -11,6 +11,6 @@ invariant_of-self g c =
     let stands = c.if-at-len.true in
     let all = c.len.ensures in (
       omega (arith, long, behind, stands, all),
-      counts_row_swapped c.args.at c.self.inside.awake _ _ _ c.self.inside.row c.swap.new.self c.swap.ensures (omega (arith, stands, all)) (omega (arith, behind, stands, all))
+      counts_row_swapped c.args.at c.self.inside.awake _ _ _ _ c.self.inside.row c.swap.new.self c.swap.ensures (omega (arith, stands, all)) (omega (arith, behind, stands, all))
           c.self.invariant.1,
     )

@@ -6,5 +6,5 @@ use Rattle.mc_guests.proofs.weighed.Weighed.visit_guest.Goals as goal
 pub returns-clause-counts : goal.returns-clause-counts
 returns-clause-counts g c =
     recounts_again c.args.self.now c.args.self.now _ c.weigh.new.self c.args.budget.now c.args.budget.now c.weigh.new.budget
-    (ap (λ (w : RowGuest). w.counted) c.self.view_is) (ap (λ (w : RowGuest). w.waits) c.self.view_is)
-    (recounts_none c.args.self.now c.args.self.now c.args.budget.now c.args.budget.now refl refl refl) c.weigh.ensures.counts
+    (ap (λ (w : RowGuest). w.counted) c.self.view_is) (ap (λ (w : RowGuest). w.waits) c.self.view_is) (ap (λ (w : RowGuest). w.left) c.self.view_is)
+    (recounts_none c.args.self.now c.args.self.now c.args.budget.now c.args.budget.now refl refl refl refl) c.weigh.ensures.counts
