@@ -2,6 +2,7 @@
 
 mod absent_tests;
 mod busy_tests;
+mod closing_tests;
 mod flush_tests;
 mod gate_tests;
 mod growth_tests;
