@@ -1,61 +1,87 @@
 -- A worker's rounds, one after another.
 use Rattle.std.specs.Prelude.{nat_lt}
-use Rattle.std.proofs.Common.{◌≡◌, ℕ, ◌+◌, List, Bool, true, false, refl, sym, ap, ◌∙◌, subst}
+use Rattle.std.proofs.Common.{◌≡◌, ℕ, ◌+◌, List, [], Option, Bool, true, false, refl, sym, ap, ◌∙◌, subst}
 use Rattle.mc_shelf.specs.Stores.{StoreState}
 use Rattle.mc_shared.specs.Shown.{CallerState}
 use Rattle.mc_shared.specs.Asking.{AskingState}
 use Rattle.mc_guests.specs.Books.{BooksState, no_books}
 use Rattle.mc_guests.specs.Budgets.{unused}
+use Rattle.mc_guests.specs.Links.{LinkState}
 use Rattle.mc_guests.specs.Doors.{OpensForAll, shut}
+use Rattle.mc_guests.specs.Arrivals.{came_between, ComeFirst, Brings}
+use Rattle.mc_guests.proofs.ArrivalLemmas.{first_none, first_then, first_still}
 use Rattle.mc_workers.specs.Room.{MakesRoom}
 use Rattle.mc_workers.specs.Tending.{TidiesInTurn, asked_by}
+use Rattle.mc_workers.specs.Came.{came_since, all_came}
 use Rattle.mc_workers.specs.Rounds.{MakesRounds}
-use Rattle.mc_workers.specs.Rounds.{WorkState, WorksOnce, WorksOn, begins, WorksSince, WorksToEnd}
-use Rattle.mc_time.specs.Chains.{Repeats, none_yet, one_more}
+use Rattle.mc_workers.specs.Rounds.{WorkState, WorksOnce, WorksSince, WorksToEnd}
+use Rattle.mc_time.specs.Chains.{none_yet, one_more}
 use Rattle.mc_guests.specs.declared.door.Door.{Door}
 use Rattle.mc_guests.specs.declared.guests.WorkEnd.{WorkEnd}
 
+-- which links are to come is what it was before other calls
+pub opens_from : {door later : Door} {old new : BooksState} {before after : WorkEnd} {goes_on : Bool} {coming amid left : Option (List LinkState)} → amid ≡ coming
+    → (opens : OpensForAll door later old new before after goes_on) × Brings (came_between opens) goes_on amid left
+    → (opens : OpensForAll door later old new before after goes_on) × Brings (came_between opens) goes_on coming left
+opens_from {goes_on = goes_on} {left = left} same opens = (opens.0, subst (λ (o : Option (List LinkState)). Brings (came_between opens.0) goes_on o left) same opens.1)
+
+module _ {K : Type 0} (hash_of : K → List ℕ → ℕ) (may_give : ℕ → Type 0) where
+  -- what it does from one opening to the next, and the links that come
+  abbrev pub WorksOnceTo : (old new : WorkState K) (goes_on : Bool) (coming left : Option (List LinkState)) → Type 0
+  WorksOnceTo old new goes_on coming left = (once : WorksOnce hash_of may_give old new goes_on) × Brings (came_between once.opens) goes_on coming left
+
+  -- since its beginning it worked, and these links came
+  abbrev pub WorksSinceTo : (first share : ℕ) (began : StoreState K) (caller : CallerState) (state : WorkState K) (coming left : Option (List LinkState)) → Type 0
+  WorksSinceTo first share began caller state coming left =
+      (since : WorksSince hash_of may_give first share began caller state) × ComeFirst coming (came_since hash_of may_give since.works) left
+
 module _ {K : Type 0} {hash_of : K → List ℕ → ℕ} {may_give : ℕ → Type 0} where
-  -- what it does from one opening to the next, by its calls
-  pub once_so : {old new : WorkState K} {tidied : AskingState K} {settled roomy : BooksState} {counted : WorkEnd} {opened goes_on : Bool} → may_give new.moment
-      → TidiesInTurn hash_of (nat_lt old.moment new.moment) new.moment old.turn new.turn old.asking tidied
-      → MakesRounds hash_of new.moment (tidied, old.books, old.end) (new.asking, settled, counted)
-      → MakesRoom settled roomy → OpensForAll old.door new.door roomy new.books counted new.end opened → opened ≡ goes_on
-      → WorksOnce hash_of may_give old new goes_on
-  once_so {old} {new} {tidied} {settled} {roomy} {counted} given tidies rounds judges opens so =
-      let said = subst (OpensForAll old.door new.door roomy new.books counted new.end) so opens in
-      record { given = given; tidied = tidied; settled = settled; roomy = roomy; counted = counted; tidies = tidies; rounds = rounds; judges = judges; opens = said }
+  pub once_so : {old new : WorkState K} {tidied : AskingState K} {settled roomy : BooksState} {counted : WorkEnd} {opened goes_on : Bool} {coming left : Option (List LinkState)}
+      → may_give new.moment → TidiesInTurn hash_of (nat_lt old.moment new.moment) new.moment old.turn new.turn old.asking tidied
+      → MakesRounds hash_of new.moment (tidied, old.books, old.end) (new.asking, settled, counted) → MakesRoom settled roomy
+      → (opens : OpensForAll old.door new.door roomy new.books counted new.end opened) × Brings (came_between opens) opened coming left → opened ≡ goes_on
+      → WorksOnceTo hash_of may_give old new goes_on coming left
+  once_so {old} {new} {tidied} {settled} {roomy} {counted} {coming = coming} {left = left} given tidies rounds judges opens so =
+      let said = subst (λ (b : Bool). (opens : OpensForAll old.door new.door roomy new.books counted new.end b) × Brings (came_between opens) b coming left) so opens in (
+        record { given = given; tidied = tidied; settled = settled; roomy = roomy; counted = counted; tidies = tidies; rounds = rounds; judges = judges; opens = said.0 },
+        said.1,
+      )
 
 module _ {K : Type 0} {hash_of : K → List ℕ → ℕ} {may_give : ℕ → Type 0} {first share : ℕ} {began : StoreState K} {caller : CallerState} where
-  pub works_from : (moment : ℕ) (asking : AskingState K) (books : BooksState) (door : Door) → may_give moment
+  pub works_from : (moment : ℕ) (asking : AskingState K) (books : BooksState) (door : Door) (coming left : Option (List LinkState)) → may_give moment
       → asking ≡ asked_by began caller → (most : ℕ) → books ≡ no_books (unused share most) → most ≡ began.settings.greatest
-      → (greatest : ℕ) → door ≡ shut greatest → greatest ≡ began.settings.greatest
-      → WorksSince hash_of may_give first share began caller
-      (record { asking = asking; books = books; door = door; end = record { served = 0; broken = 0; refused = 0 }; turn = first; moment = moment })
-  works_from moment asking books door given asks most none so greatest closed is = record {
-    moment = moment;
-    given = given;
-    count = 0;
-    works = subst (λ (s : WorkState K). Repeats (WorksOn hash_of may_give) 0 (begins first share began caller moment) s) (sym (
-        ap (λ (a : AskingState K). record { asking = a; books = books; door = door; end = record { served = 0; broken = 0; refused = 0 }; turn = first; moment = moment }) asks
-        ∙ ap (λ (b : BooksState). record { asking = asked_by began caller; books = b; door = door; end = record { served = 0; broken = 0; refused = 0 }; turn = first; moment = moment })
-        (none ∙ ap (λ (n : ℕ). no_books (unused share n)) so)
-        ∙ ap (λ (d : Door). record {
-          asking = asked_by began caller;
-          books = no_books (unused share began.settings.greatest);
-          door = d;
-          end = record { served = 0; broken = 0; refused = 0 };
-          turn = first;
-          moment = moment;
-        })
-        (closed ∙ ap shut is)
-        )) none_yet;
-  }
+      → (greatest : ℕ) → door ≡ shut greatest → greatest ≡ began.settings.greatest → left ≡ coming
+      → WorksSinceTo hash_of may_give first share began caller (record { asking = asking; books = books; door = door; end = record { served = 0; broken = 0; refused = 0 }; turn = first; moment = moment }) coming left
+  works_from moment asking books door coming left given asks most none so greatest closed is same =
+      subst (λ (s : WorkState K). WorksSinceTo hash_of may_give first share began caller s coming left) (sym (
+      ap (λ (a : AskingState K). record { asking = a; books = books; door = door; end = record { served = 0; broken = 0; refused = 0 }; turn = first; moment = moment }) asks
+      ∙ ap (λ (b : BooksState). record { asking = asked_by began caller; books = b; door = door; end = record { served = 0; broken = 0; refused = 0 }; turn = first; moment = moment })
+      (none ∙ ap (λ (n : ℕ). no_books (unused share n)) so)
+      ∙ ap (λ (d : Door). record {
+        asking = asked_by began caller;
+        books = no_books (unused share began.settings.greatest);
+        door = d;
+        end = record { served = 0; broken = 0; refused = 0 };
+        turn = first;
+        moment = moment;
+      })
+      (closed ∙ ap shut is)
+      )) (record { moment = moment; given = given; count = 0; works = none_yet }, first_still coming coming left [] same (first_none coming))
 
-  pub works_on : {old new : WorkState K} → WorksSince hash_of may_give first share began caller old → WorksOnce hash_of may_give old new true
-      → WorksSince hash_of may_give first share began caller new
-  works_on since once = record { moment = since.moment; given = since.given; count = since.count + 1; works = one_more since.works once }
+  pub works_on : {old new : WorkState K} (coming amid left : Option (List LinkState)) → WorksSinceTo hash_of may_give first share began caller old coming amid
+      → WorksOnceTo hash_of may_give old new true amid left → WorksSinceTo hash_of may_give first share began caller new coming left
+  works_on coming amid left since once = (
+    record { moment = since.0.moment; given = since.0.given; count = since.0.count + 1; works = one_more since.0.works once.0 },
+    first_then coming amid left (came_since hash_of may_give since.0.works) (came_between once.0.opens) since.1 once.1.first,
+  )
 
-  pub works_over : {old new : WorkState K} {back : CallerState} → WorksSince hash_of may_give first share began caller old → WorksOnce hash_of may_give old new false
-      → back.past ≡ new.asking.past → WorksToEnd hash_of may_give first share began caller (back, new.end)
-  works_over {old} {new} since once past = record { last = old; final = new; since = since; ends = once; past = past; end = refl }
+  pub works_over : {old new : WorkState K} {back : CallerState} {coming amid left : Option (List LinkState)} → WorksSinceTo hash_of may_give first share began caller old coming amid
+      → WorksOnceTo hash_of may_give old new false amid left → back.past ≡ new.asking.past
+      → (works : WorksToEnd hash_of may_give first share began caller (back, new.end)) × Brings (all_came hash_of may_give works) false coming left
+  works_over {old} {new} {coming = coming} {amid = amid} {left = left} since once past = (
+    record { last = old; final = new; since = since.0; ends = once.0; past = past; end = refl },
+    record {
+      first = first_then coming amid left (came_since hash_of may_give since.0.works) (came_between once.0.opens) since.1 once.1.first;
+      all = once.1.all;
+    },
+  )

@@ -1,3 +1,4 @@
 pub mod Tending
 pub mod Room
 pub mod Rounds
+pub mod Came

@@ -67,7 +67,7 @@ module _ {K : Type 0} (hash_of : K → List ℕ → ℕ) where
     pub further : Repeats (MakesFurtherRound now) count (64 - old.1.awake, first) (left, new)
 
   -- From one opening of the door to the next, at a moment that the clock may give: dead items are dropped when the clock had
-  -- risen or writes lack chunks, rounds are made, the slowest are judged, and the door is opened for those that wait.
+  -- risen or writes lack chunks, rounds are made, the slowest are ended or judged, and the door is opened for those that wait.
   pub record WorksOnce (may_give : ℕ → Type 0) (old new : WorkState K) (goes_on : Bool) : Type 0 where
     pub given : may_give new.moment
     pub tidied : AskingState K

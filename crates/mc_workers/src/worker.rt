@@ -4,11 +4,12 @@
 //! a round: all workers' clocks rise together, so tidying after visits made three workers wait for
 //! each other. If a write finds no chunk, all shelves are tidied in the worker's next 16 series of
 //! rounds, since dead items may have what it lacks.
-ghost use Rattle.std.specs.Prelude.{◌≡◌, ◌-◌, ◌^◌, nat_lt};
-ghost use Rattle.mc_guests.specs.Books.{reading};
+ghost use Rattle.std.specs.Prelude.{◌≡◌, ◌-◌, ◌^◌, nat_lt, false};
+ghost use Rattle.mc_guests.specs.Arrivals.{seen_by, Brings};
 ghost use Rattle.mc_shared.specs.History.{start_of};
 ghost use Rattle.mc_shared.specs.Steps.{Agrees};
-ghost use Rattle.mc_workers.specs.Room.{MakesRoom, JudgesUpTo};
+ghost use Rattle.mc_workers.specs.Came.{all_came};
+ghost use Rattle.mc_workers.specs.Room.{MakesRoom, EndsUpTo, JudgesUpTo};
 ghost use Rattle.mc_workers.specs.Rounds.{MakesRounds, VisitsAndSettles, WorksToEnd};
 ghost use Rattle.mc_workers.specs.Tending.{GoesFurther, Further, TidiesInTurn};
 
@@ -54,7 +55,8 @@ impl<'a, G: Gate, T: Tally, C: Clock> Worker<'a, G, T, C> {
     ///
     /// The caller is returned with further calls in its past and nothing else, each at a moment
     /// that the clock may give; there is a legal history that keeps this past. A fault of one link,
-    /// or one session's want of memory, ends only that session.
+    /// or one session's want of memory, ends only that session. If the links that are to come are
+    /// known, these came, in order, and all of them.
     pub fn work<R: Wait, K: KeyHash + Drop, L: Link + Drop, Q: Links<L>>(
         &self,
         rt: &R,
@@ -67,8 +69,10 @@ impl<'a, G: Gate, T: Tally, C: Clock> Worker<'a, G, T, C> {
         ensures same { result.0.table ≡ caller.table }
         ensures calls { Further (C.may_give self.now.clock.now) caller.past result.0.past }
         ensures kept { Agrees (start_of K.hash_of shared.now.began) result.0.past }
-        ensures works { WorksToEnd K.hash_of (C.may_give self.now.clock.now) self.now.first
-            self.now.share shared.now.began caller result }
+        ensures works { (works : WorksToEnd K.hash_of (C.may_give self.now.clock.now)
+            self.now.first self.now.share shared.now.began caller result)
+            × Brings (all_came K.hash_of (C.may_give self.now.clock.now) works) false
+            (seen_by L.shown (Q.coming links.old)) (seen_by L.shown (Q.coming links.new)) }
     {
         let tending = Tending::new(rt, shared, caller, self.gate);
         let mut counting = Counting::new(tending, self.tally);
@@ -111,8 +115,10 @@ pub fn work<R: Wait, K: KeyHash + Drop, L: Link + Drop, Q: Links<L>, G: Gate, C:
     ensures same { result.0.table ≡ caller.table }
     ensures calls { Further (C.may_give clock.now) caller.past result.0.past }
     ensures kept { Agrees (start_of K.hash_of shared.now.began) result.0.past }
-    ensures works { WorksToEnd K.hash_of (C.may_give clock.now) 0 (2 ^ 64 - 1) shared.now.began
-        caller result }
+    ensures works { (works : WorksToEnd K.hash_of (C.may_give clock.now) 0 (2 ^ 64 - 1)
+        shared.now.began caller result)
+        × Brings (all_came K.hash_of (C.may_give clock.now) works) false
+        (seen_by L.shown (Q.coming links.old)) (seen_by L.shown (Q.coming links.new)) }
 {
     let worker = Worker {
         gate,
@@ -152,7 +158,9 @@ fn make_rounds<R: Wait, K: KeyHash + Drop, L: Link + Drop, Q: Links<L>, G: Gate,
 }
 
 /// Lets the links look for events if a guest is awake. Otherwise they will rest.
-fn look_if_busy<L: Link + Drop, Q: Links<L>>(guests: &Guests<L>, links: &mut Q) {
+fn look_if_busy<L: Link + Drop, Q: Links<L>>(guests: &Guests<L>, links: &mut Q)
+    ensures { Q.coming links.new ≡ Q.coming links.old }
+{
     if !guests.is_quiet() {
         links.look();
     }
@@ -196,20 +204,22 @@ fn tidy_in_turn<R: Wait, K: KeyHash + Drop, G: Gate, T: Tally>(
 /// Once a tick ends readers of what has left the store, if that is more than the share, and judges
 /// the slowest guests that hold much: as many as wait, at most 16.
 fn make_room<L: Link + Drop, Q: Links<L>>(guests: &mut Guests<L>, links: &mut Q)
-    ensures { MakesRoom guests.old guests.new }
+    ensures room { MakesRoom guests.old guests.new }
+    ensures same { Q.coming links.new ≡ Q.coming links.old }
 {
     guests.tick(links.ticks());
-    end_readers(guests, links);
+    let readers = guests.takes_turn_to_end();
+    end_readers(guests, links, readers);
     let most = guests.takes_turn_to_judge();
     judge_slow(guests, links, most);
 }
 
 /// Closes the links of the slowest readers of what has left the store, until that is within the
-/// share: at most 16 once a tick.
-fn end_readers<L: Link + Drop, Q: Links<L>>(guests: &mut Guests<L>, links: &mut Q)
-    ensures { guests.new ≡ reading guests.new.budget.left guests.old }
+/// share, at most `readers`.
+fn end_readers<L: Link + Drop, Q: Links<L>>(guests: &mut Guests<L>, links: &mut Q, readers: usize)
+    ensures ends { EndsUpTo readers guests.old guests.new }
+    ensures same { Q.coming links.new ≡ Q.coming links.old }
 {
-    let readers = guests.takes_turn_to_end();
     for _ in 0..readers {
         match guests.end_slowest_reader() {
             Some(number) => links.end(number),
@@ -220,7 +230,8 @@ fn end_readers<L: Link + Drop, Q: Links<L>>(guests: &mut Guests<L>, links: &mut 
 
 /// Judges the slowest guests that hold much, at most `most`.
 fn judge_slow<L: Link + Drop, Q: Links<L>>(guests: &mut Guests<L>, links: &mut Q, most: usize)
-    ensures { JudgesUpTo most guests.old guests.new }
+    ensures judges { JudgesUpTo most guests.old guests.new }
+    ensures same { Q.coming links.new ≡ Q.coming links.old }
 {
     for _ in 0..most {
         match guests.judge_slowest() {
@@ -231,7 +242,9 @@ fn judge_slow<L: Link + Drop, Q: Links<L>>(guests: &mut Guests<L>, links: &mut Q
 }
 
 /// Asks the link of a slow guest again, or closes it, as it was judged.
-fn carry_out<L: Link + Drop, Q: Links<L>>(links: &mut Q, judged: Judged) {
+fn carry_out<L: Link + Drop, Q: Links<L>>(links: &mut Q, judged: Judged)
+    ensures { Q.coming links.new ≡ Q.coming links.old }
+{
     match judged {
         Judged::Asks(number) => links.ask_again(number),
         Judged::Ends(number) => links.end(number),

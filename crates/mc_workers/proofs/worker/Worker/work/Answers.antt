@@ -1,4 +1,5 @@
-use Rattle.std.proofs.Common.{sym, ap, ◌∙◌, subst}
+use Rattle.std.proofs.Common.{refl, sym, ap, ◌∙◌, subst}
+use Rattle.mc_guests.specs.Arrivals.{seen_by}
 use Rattle.mc_shared.specs.Asking.{AskingState}
 use Rattle.mc_shared.specs.Past.{Past}
 use Rattle.mc_guests.specs.Books.{BooksState, no_books}
@@ -6,23 +7,25 @@ use Rattle.mc_guests.specs.declared.budget.Budget.{Budget}
 use Rattle.mc_workers.specs.Room.{MakesRoom}
 use Rattle.mc_workers.specs.Tending.{Further}
 use Rattle.mc_workers.proofs.WorkLemmas.{goes_same, goes_both, goes_at}
-use Rattle.mc_workers.proofs.WorksLemmas.{works_from, once_so, works_on, works_over}
+use Rattle.mc_workers.proofs.WorksLemmas.{works_from, opens_from, once_so, works_on, works_over}
 use Rattle.mc_workers.proofs.worker.Worker.work.Goals as goal
 
 pub loop-init : goal.loop-init
 loop-init g c = (
   goes_same _ _ _ (c.new-counting.ensures ∙ c.new-tending.ensures),
-  works_from c.now-before.result c.new-counting.result c.new-guests.result c.new-door.result c.now-before.ensures (c.new-counting.ensures ∙ c.new-tending.ensures)
+  works_from c.now-before.result c.new-counting.result c.new-guests.result c.new-door.result _ _ c.now-before.ensures (c.new-counting.ensures ∙ c.new-tending.ensures)
       c.greatest-2.result (c.new-guests.ensures ∙ ap (λ (b : Budget). no_books b) c.new.ensures) c.greatest-2.ensures
-      c.greatest.result c.new-door.ensures c.greatest.ensures,
+      c.greatest.result c.new-door.ensures c.greatest.ensures refl,
 )
 
 pub loop-preserved : goal.loop-preserved
 loop-preserved g c = (
   goes_both _ _ _ _ (goes_both _ _ _ _ c.loop.invariant.0 (goes_at _ _ c.now-now.ensures _ _ c.tidy_in_turn-turn.ensures.further))
       (goes_at _ _ c.now-now.ensures _ _ c.make_rounds.ensures.further),
-  works_on c.loop.invariant.1 (once_so c.now-now.ensures c.tidy_in_turn-turn.ensures.tidies c.make_rounds.ensures.rounds
-      (subst (λ (b : BooksState). MakesRoom b c.make_room.new.guests) c.report.ensures c.make_room.ensures) c.open_for_all.ensures (cc)),
+  works_on (seen_by g.L.Link.shown (g.Q.Links.coming c.args.links.now)) (seen_by g.L.Link.shown (g.Q.Links.coming c.loop.links))
+      (seen_by g.L.Link.shown (g.Q.Links.coming c.open_for_all.new.links)) c.loop.invariant.1 (once_so c.now-now.ensures c.tidy_in_turn-turn.ensures.tidies c.make_rounds.ensures.rounds
+      (subst (λ (b : BooksState). MakesRoom b c.make_room.new.guests) c.report.ensures c.make_room.ensures.room)
+      (opens_from (ap (seen_by _) (c.make_room.ensures.same ∙ c.look_if_busy.ensures)) c.open_for_all.ensures) (cc)),
 )
 
 pub returns-then-not-open_for_all-clause-calls : goal.returns-then-not-open_for_all-clause-calls
@@ -42,5 +45,6 @@ returns-then-not-open_for_all-clause-works g c =
       turn = c.tidy_in_turn-turn.result;
       moment = c.now-now.result;
     }} c.loop.invariant.1 (once_so c.now-now.ensures c.tidy_in_turn-turn.ensures.tidies c.make_rounds.ensures.rounds
-    (subst (λ (b : BooksState). MakesRoom b c.make_room.new.guests) c.report.ensures c.make_room.ensures) c.open_for_all.ensures (cc))
+    (subst (λ (b : BooksState). MakesRoom b c.make_room.new.guests) c.report.ensures c.make_room.ensures.room)
+    (opens_from (ap (seen_by _) (c.make_room.ensures.same ∙ c.look_if_busy.ensures)) c.open_for_all.ensures) (cc))
     (c.into_caller.ensures.same.1 ∙ ap (λ (s : AskingState g.row.K.Denot). s.past) c.into_steps.ensures)
