@@ -16,7 +16,6 @@ use Rattle.mc_shared.specs.Steps.{entry_of, Agrees}
 use Rattle.mc_guests.specs.Links.{LinkState}
 use Rattle.mc_guests.specs.Guests.{GuestState, welcomed}
 use Rattle.mc_guests.specs.Asks.{MayAsk, NamesKey}
-use Rattle.mc_guests.specs.Books.{changed}
 use Rattle.mc_guests.specs.Visits.{Visited, RefusesTurn, RefusesPiece}
 use Rattle.mc_guests.specs.Telling.{TakenTurn, turns_of}
 use Rattle.mc_guests.specs.declared.guest.Visit.{Visit}

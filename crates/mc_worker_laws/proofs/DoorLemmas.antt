@@ -1,89 +1,145 @@
 -- What becomes of one guest while the door is opened, and who is let in.
-use Rattle.std.specs.Prelude.{◌==◌, ◌&&◌}
-use Rattle.std.proofs.Common.{◌≡◌, ◌⊎◌, inl, inr, ℕ, Bool, true, false, List, [], ◌∷◌, ◌++◌, length, sym, subst, append_assoc, append-nil}
+use Rattle.std.specs.Prelude.{◌==◌, ◌&&◌, if◌then◌else◌}
+use Rattle.std.proofs.Common.{◌≡◌, ◌⊎◌, inl, inr, ℕ, ◌+◌, Bool, true, false, List, [], ◌∷◌, ◌++◌, length, refl, sym, ap, ◌∙◌, subst, arith, append_assoc, append-nil}
 use Rattle.mc_time.specs.Chains.{Repeats, none_yet, one_more}
 use Rattle.mc_shared.specs.Asking.{AskingState}
 use Rattle.mc_guests.specs.Links.{LinkState}
-use Rattle.mc_guests.specs.Guests.{welcomed, newcomer}
-use Rattle.mc_guests.specs.Books.{BooksState, let_in, one_more as one_more_of}
+use Rattle.mc_guests.specs.Guests.{GuestState, welcomed, newcomer}
+use Rattle.mc_guests.specs.Books.{BooksState, let_in as let_in_books, one_more as one_more_of}
 use Rattle.mc_guests.specs.Doors.{Opens, link as of_link, none_now, none_more, over, LinkCame, OpensForAll, as_many, then_none}
 use Rattle.mc_guests.specs.Doors.{WakesOneNamed, WakesAllNamed, WakesAfter, ComesNothing}
 use Rattle.mc_guests.specs.declared.door.Door.{Door}
 use Rattle.mc_guests.specs.declared.talk.Talk.{Talk}
 use Rattle.mc_guests.specs.declared.guests.WorkEnd.{WorkEnd}
-use Rattle.mc_worker_laws.specs.Traces.{one_if_in, link_in, links_in, all_in}
-use Rattle.mc_worker_laws.proofs.CarryLemmas.{Sound, Carries, carries_then, carries_none, carries_to, wakes_carry, let_in_sound, let_in_moves}
+use Rattle.mc_guests.specs.Arrivals.{Arrival, is_first, admitted, turned_away, came_in, all_came_in, came_between}
+use Rattle.mc_worker_laws.specs.Traces.{AreCounted}
+use Rattle.mc_worker_laws.proofs.CountLemmas.{counts_refused}
+use Rattle.mc_worker_laws.proofs.CarryLemmas.{Sound, Carries, carries_then, carries_none, carries_to, wakes_carry, Leaves, counts_none, let_in_sound, let_in_moves}
 use Rattle.mc_worker_laws.proofs.TracedLemmas.{Traced, traced_moved, traced_more}
 
-named_carry : (count : ℕ) (old new : Talk × BooksState) → Repeats WakesOneNamed count old new → Carries old.1 new.1
+named_carry : (count : ℕ) (old new : Talk × BooksState) → Repeats WakesOneNamed count old new → Carries [] old.1 new.1
 named_carry total old new none_yet = carries_none old.1
 named_carry total old new (one_more {count = count} {mid = mid} front last) =
     carries_then old.1 mid.1 new.1 (named_carry count old mid front) (wakes_carry last.number mid.1 new.1 last.wakes)
 
-all_named_carry : (talk : Talk) (old : BooksState) (later : Talk) (new : BooksState) → WakesAllNamed talk old later new → Carries old new
+all_named_carry : (talk : Talk) (old : BooksState) (later : Talk) (new : BooksState) → WakesAllNamed talk old later new → Carries [] old new
 all_named_carry talk old later new w = named_carry w.wakes.0 (talk, old) (w.last, new) w.wakes.1
 
-nothing_carries : (is_quiet : Bool) (talk : Talk) (old : BooksState) (later : Talk) (new : BooksState) → ComesNothing is_quiet talk old later new → Carries old new
+nothing_carries : (is_quiet : Bool) (talk : Talk) (old : BooksState) (later : Talk) (new : BooksState) → ComesNothing is_quiet talk old later new → Carries [] old new
 nothing_carries is_quiet talk old later new none =
     carries_then old none.between new (all_named_carry talk old none.last none.between none.wakes) (after _ none.between (is_quiet && none.last.names == 0) none.rests)
   where
-    after : (mid : Talk) (between : BooksState) (b : Bool) → WakesAfter b mid between later new → Carries between new
+    after : (mid : Talk) (between : BooksState) (b : Bool) → WakesAfter b mid between later new → Carries [] between new
     after mid between true w = all_named_carry mid between later new w
     after mid between false w = carries_to (carries_none between) w.1
 
-module _ {K : Type 0} (hash_of : K → List ℕ → ℕ) (may_give : ℕ → Type 0) (begin : AskingState K) where
-  -- a worker's guests have a trace
-  pub record BooksTraced (links : List (ℕ × LinkState)) (books : BooksState) (a : AskingState K) : Type 0 where
-    pub sound : Sound books
-    pub traced : Traced hash_of may_give begin links books.row.guests a
+-- links came, and more
+put_first : {A : Type 0} (b : Bool) (x : A) (xs ys : List A) → (if b then x ∷ (xs ++ ys) else xs ++ ys) ≡ (if b then x ∷ xs else xs) ++ ys
+put_first true x xs ys = refl
+put_first false x xs ys = refl
 
-  pub traced_carried : (links : List (ℕ × LinkState)) (old new : BooksState) (a : AskingState K) → Carries old new → BooksTraced links old a → BooksTraced links new a
-  traced_carried links old new a c t = record {
-    sound = c.sound t.sound;
-    traced = traced_moved hash_of may_give begin links old.row.guests new.row.guests a (c.moves t.sound) t.traced;
+pub admitted_more : (came more : List Arrival) → admitted (came ++ more) ≡ admitted came ++ admitted more
+admitted_more [] more = refl
+admitted_more (a ∷ came) more =
+    ap (λ (l : List (ℕ × LinkState)). if a.is_admitted then (a.most, a.state) ∷ l else l) (admitted_more came more)
+    ∙ put_first a.is_admitted (a.most, a.state) (admitted came) (admitted more)
+
+away_one : (b : Bool) (x : LinkState) (all xs ys : List LinkState) → length all ≡ length xs + length ys
+    → length (if b then all else x ∷ all) ≡ length (if b then xs else x ∷ xs) + length ys
+away_one true x all xs ys e = e
+away_one false x all xs ys e = omega (arith, e)
+
+pub away_more : (came more : List Arrival) → length (turned_away (came ++ more)) ≡ length (turned_away came) + length (turned_away more)
+away_more [] more = omega arith
+away_more (a ∷ came) more = away_one a.is_admitted a.state (turned_away (came ++ more)) (turned_away came) (turned_away more) (away_more came more)
+
+module _ {K : Type 0} (hash_of : K → List ℕ → ℕ) (may_give : ℕ → Type 0) (begin : AskingState K) where
+  -- a worker's guests have a trace, and what it counts is what became of those that are gone, and of the links that were refused
+  pub record BooksTraced (came : List Arrival) (books : BooksState) (a : AskingState K) (end : WorkEnd) : Type 0 where
+    pub sound : Sound books
+    pub gone : List GuestState
+    pub traced : Traced hash_of may_give begin (admitted came) gone books.row.guests a
+    pub counted : AreCounted gone (length (turned_away came)) end
+
+  pub traced_left : (came : List Arrival) (old new : BooksState) (a : AskingState K) (before after : WorkEnd) → Leaves old new before after
+      → BooksTraced came old a before → BooksTraced came new a after
+  traced_left came old new a before after l t = record {
+    sound = l.1.sound t.sound;
+    gone = t.gone ++ l.0;
+    traced = traced_moved hash_of may_give begin (admitted came) t.gone l.0 old.row.guests new.row.guests a (l.1.moves t.sound) t.traced;
+    counted = l.2 t.gone (length (turned_away came)) t.counted;
   }
 
-  none_more_in : (links : List (ℕ × LinkState)) (books : BooksState) (a : AskingState K) → BooksTraced links books a → BooksTraced (links ++ []) books a
-  none_more_in links books a t = subst (λ (l : List (ℕ × LinkState)). BooksTraced l books a) (sym (append-nil links)) t
+  pub traced_carried : (came : List Arrival) (old new : BooksState) (a : AskingState K) (end : WorkEnd) → Carries [] old new → BooksTraced came old a end → BooksTraced came new a end
+  traced_carried came old new a end c t = traced_left came old new a end end ([], c, counts_none end end refl) t
+
+  -- no link came
+  none_came : (came : List Arrival) (books : BooksState) (a : AskingState K) (end : WorkEnd) → BooksTraced came books a end → BooksTraced (came ++ []) books a end
+  none_came came books a end t = subst (λ (l : List Arrival). BooksTraced l books a end) (sym (append-nil came)) t
 
   module _ (a : AskingState K) where
-    lets_in : (links : List (ℕ × LinkState)) (greatest number : ℕ) (link : LinkState) (old new : BooksState) (before after : WorkEnd)
-        → (e : ((new ≡ let_in (welcomed greatest link) number old) × (after ≡ before)) ⊎ ((new ≡ old) × (after ≡ record before { refused = one_more_of before.refused })))
-        → BooksTraced links old a → BooksTraced (links ++ one_if_in greatest link e) new a
-    lets_in links greatest number link old new before after (inl came) t =
-        subst (λ (b : BooksState). BooksTraced (links ++ (greatest, link) ∷ []) b a) (sym came.0) (record {
+    -- what came of a link
+    abbrev Came : (greatest number : ℕ) (link : LinkState) (old new : BooksState) (before after : WorkEnd) → Type 0
+    Came greatest number link old new before after =
+        ((new ≡ let_in_books (welcomed greatest link) number old) × (after ≡ before)) ⊎ ((new ≡ old) × (after ≡ record before { refused = one_more_of before.refused }))
+
+    abbrev one_came : {A B : Type 0} → (greatest : ℕ) (link : LinkState) → A ⊎ B → List Arrival
+    one_came greatest link e = record { most = greatest; state = link; is_admitted = is_first e } ∷ []
+
+    comes_in : (came : List Arrival) (greatest number : ℕ) (link : LinkState) (old new : BooksState) (before after : WorkEnd)
+        → (e : Came greatest number link old new before after) → BooksTraced came old a before → BooksTraced (came ++ one_came greatest link e) new a after
+    comes_in came greatest number link old new before after (inl is) t =
+        let arrival : Arrival = record { most = greatest; state = link; is_admitted = true } in
+        subst (λ (b : BooksState). BooksTraced (came ++ arrival ∷ []) b a after) (sym is.0) (
+        subst (BooksTraced (came ++ arrival ∷ []) (let_in_books (welcomed greatest link) number old) a) (sym is.1) (record {
           sound = let_in_sound (welcomed greatest link) number old t.sound;
-          traced = traced_moved hash_of may_give begin (links ++ (greatest, link) ∷ []) (old.row.guests ++ newcomer (welcomed greatest link) ∷ [])
-              (let_in (welcomed greatest link) number old).row.guests a (let_in_moves (welcomed greatest link) number old t.sound)
-              (traced_more hash_of may_give begin links old.row.guests a greatest link t.traced);
-        })
-    lets_in links greatest number link old new before after (inr refused) t =
-        none_more_in links new a (subst (λ (b : BooksState). BooksTraced links b a) (sym refused.0) t)
+          gone = t.gone ++ [];
+          traced = subst (λ (l : List (ℕ × LinkState)). Traced hash_of may_give begin l (t.gone ++ []) (let_in_books (welcomed greatest link) number old).row.guests a)
+              (sym (admitted_more came (arrival ∷ [])))
+              (traced_moved hash_of may_give begin (admitted came ++ (greatest, link) ∷ []) t.gone [] (old.row.guests ++ newcomer (welcomed greatest link) ∷ [])
+              (let_in_books (welcomed greatest link) number old).row.guests a (let_in_moves (welcomed greatest link) number old t.sound)
+              (traced_more hash_of may_give begin (admitted came) t.gone old.row.guests a greatest link t.traced));
+          counted =
+              let same : length (turned_away came) ≡ length (turned_away came) + 0 = omega arith in
+              subst (λ (n : ℕ). AreCounted (t.gone ++ []) n before) (sym (away_more came (arrival ∷ [])))
+              (counts_none before before refl t.gone (length (turned_away came) + 0) (subst (λ (n : ℕ). AreCounted t.gone n before) same t.counted));
+        }))
+    comes_in came greatest number link old new before after (inr is) t =
+        let arrival : Arrival = record { most = greatest; state = link; is_admitted = false } in
+        subst (λ (b : BooksState). BooksTraced (came ++ arrival ∷ []) b a after) (sym is.0) (
+        subst (BooksTraced (came ++ arrival ∷ []) old a) (sym is.1) (record {
+          sound = t.sound;
+          gone = t.gone;
+          traced = subst (λ (l : List (ℕ × LinkState)). Traced hash_of may_give begin l t.gone old.row.guests a)
+              (sym (admitted_more came (arrival ∷ []) ∙ append-nil (admitted came))) t.traced;
+          counted = subst (λ (n : ℕ). AreCounted t.gone n (record before { refused = one_more_of before.refused })) (sym (away_more came (arrival ∷ [])))
+              (counts_refused t.gone (length (turned_away came)) before t.counted);
+        }))
 
-    pub opens_traced : {is_quiet goes_on : Bool} {door later : Door} {old new : BooksState} {before after : WorkEnd} (links : List (ℕ × LinkState))
-        → (opens : Opens is_quiet door later old new before after goes_on) → BooksTraced links old a → BooksTraced (links ++ link_in opens) new a
-    opens_traced links (of_link {door = door} {talk = talk} {old = old} {between = between} {new = new} {before = before} {after = after} lets wakes) t =
-        traced_carried _ between new a (all_named_carry _ between talk new wakes) (lets_in links door.greatest door.opened lets.link old between before after lets.either t)
-    opens_traced {is_quiet} {old = old} {new = new} links (none_now {talk = talk} nothing) t =
-        none_more_in links new a (traced_carried links old new a (nothing_carries is_quiet _ old talk new nothing) t)
-    opens_traced {is_quiet} {old = old} {new = new} links (none_more {talk = talk} some nothing) t =
-        none_more_in links new a (traced_carried links old new a (nothing_carries is_quiet _ old talk new nothing) t)
-    opens_traced {old = old} links (over none) t = none_more_in links old a t
+    pub opens_traced : {is_quiet goes_on : Bool} {door later : Door} {old new : BooksState} {before after : WorkEnd} (came : List Arrival)
+        → (opens : Opens is_quiet door later old new before after goes_on) → BooksTraced came old a before → BooksTraced (came ++ came_in opens) new a after
+    opens_traced came (of_link {door = door} {talk = talk} {old = old} {between = between} {new = new} {before = before} {after = after} lets wakes) t =
+        traced_carried _ between new a after (all_named_carry _ between talk new wakes) (comes_in came door.greatest door.opened lets.link old between before after lets.either t)
+    opens_traced {is_quiet} {old = old} {new = new} {after = end} came (none_now {talk = talk} nothing) t =
+        none_came came new a end (traced_carried came old new a end (nothing_carries is_quiet _ old talk new nothing) t)
+    opens_traced {is_quiet} {old = old} {new = new} {after = end} came (none_more {talk = talk} some nothing) t =
+        none_came came new a end (traced_carried came old new a end (nothing_carries is_quiet _ old talk new nothing) t)
+    opens_traced {old = old} {after = end} came (over none) t = none_came came old a end t
 
-    pub came_traced : (count : ℕ) (old new : Door × BooksState × WorkEnd) (links : List (ℕ × LinkState)) → (came : Repeats LinkCame count old new)
-        → BooksTraced links old.1 a → BooksTraced (links ++ links_in came) new.1 a
-    came_traced total old new links none_yet t = none_more_in links old.1 a t
-    came_traced total old new links (one_more {count = count} {mid = mid} front last) t =
-        subst (λ (l : List (ℕ × LinkState)). BooksTraced l new.1 a) (append_assoc links (links_in front) (link_in last.opens))
-        (opens_traced (links ++ links_in front) last.opens (came_traced count old mid links front t))
+    pub came_traced : (count : ℕ) (old new : Door × BooksState × WorkEnd) (came : List Arrival) → (opens : Repeats LinkCame count old new)
+        → BooksTraced came old.1 a old.2 → BooksTraced (came ++ all_came_in opens) new.1 a new.2
+    came_traced total old new came none_yet t = none_came came old.1 a old.2 t
+    came_traced total old new came (one_more {count = count} {mid = mid} front last) t =
+        subst (λ (l : List Arrival). BooksTraced l new.1 a new.2) (append_assoc came (all_came_in front) (came_in last.opens))
+        (opens_traced (came ++ all_came_in front) last.opens (came_traced count old mid came front t))
 
-    pub all_traced : {goes_on : Bool} {door later : Door} {old new : BooksState} {before after : WorkEnd} (links : List (ℕ × LinkState))
-        → (opens : OpensForAll door later old new before after goes_on) → BooksTraced links old a → BooksTraced (links ++ all_in opens) new a
-    all_traced {door = door} {later = later} {old = old} {new = new} {before = before} {after = after} links (as_many came) t =
-        came_traced 32 (door, old, before) (later, new, after) links came t
-    all_traced {door = door} {old = old} {new = new} {before = before} links (then_none {count = count} {last = last} {between = between} {mid = mid} few came opens none) t =
-        subst (λ (l : List (ℕ × LinkState)). BooksTraced l new a) (append_assoc links (links_in came) (link_in opens))
-        (opens_traced (links ++ links_in came) opens (came_traced count (door, old, before) (last, between, mid) links came t))
+    pub all_traced : {goes_on : Bool} {door later : Door} {old new : BooksState} {before after : WorkEnd} (came : List Arrival)
+        → (opens : OpensForAll door later old new before after goes_on) → BooksTraced came old a before → BooksTraced (came ++ came_between opens) new a after
+    all_traced {door = door} {later = later} {old = old} {new = new} {before = before} {after = after} came (as_many opens) t =
+        came_traced 32 (door, old, before) (later, new, after) came opens t
+    all_traced {door = door} {old = old} {new = new} {before = before} {after = after} came (then_none {count = count} {last = last} {between = between} {mid = mid} few opens last_opens none) t =
+        subst (λ (l : List Arrival). BooksTraced l new a after) (append_assoc came (all_came_in opens) (came_in last_opens))
+        (opens_traced (came ++ all_came_in opens) last_opens (came_traced count (door, old, before) (last, between, mid) came opens t))
 
 opens_over : {is_quiet goes_on : Bool} {door later : Door} {old new : BooksState} {before after : WorkEnd}
     → Opens is_quiet door later old new before after goes_on → goes_on ≡ false → length new.row.guests ≡ 0

@@ -1,5 +1,6 @@
 pub mod Lives
 pub mod LifeLemmas
+pub mod CountLemmas
 pub mod RowLemmas
 pub mod TraceLemmas
 pub mod CarryLemmas

@@ -1,46 +1,20 @@
 -- Where a guest stands in the row after others moved.
-use Rattle.std.specs.Prelude.{slice_get, swap, cond}
-use Rattle.std.proofs.Common.{◌≡◌, ◌≢◌, ◌⊎◌, inl, inr, ℕ, zero, suc, ◌+◌, ◌-◌, ◌<◌, Bool, eqb, List, [], ◌∷◌, ◌++◌, length, take, drop, Some, refl, sym, ap, ◌∙◌, arith, IsTrue}
+use Rattle.std.specs.Prelude.{slice_get, swap}
+use Rattle.std.specs.List.{sum_by}
+use Rattle.std.specs.Option.{option_map}
+use Rattle.std.proofs.Common.{◌≡◌, ◌≢◌, ◌⊎◌, inl, inr, ℕ, zero, suc, ◌+◌, ◌-◌, ◌<◌, List, [], ◌∷◌, ◌++◌, length, map, take, drop, Option, Some, None, refl, sym, ap, ◌∙◌, arith, IsTrue}
 use Rattle.std.proofs.lemmas.Bool.{cases_lt}
 use Rattle.std.proofs.lemmas.Bool.Decides.{eqb_tells}
 use Rattle.std.proofs.lemmas.List.{length-take-le}
 use Rattle.std.proofs.lemmas.List.Edits.{length-swap}
-use Rattle.std.proofs.lemmas.Option.{none-some, same_Some, slice_get_within}
-use Rattle.mc_guests.specs.Guests.{GuestState, RowGuest, has_ended}
-use Rattle.mc_guests.specs.Books.{changed}
+use Rattle.std.proofs.lemmas.Option.{none-some, same_Some, slice_get-map, slice_get_within}
+use Rattle.mc_guests.specs.Guests.{GuestState, RowGuest, has_ended, reads_left}
+use Rattle.mc_guests.specs.Books.{RowState, SameButLeft, changed}
 use Rattle.mc_guests.proofs.JudgeLemmas.{length_changed}
-use Rattle.mc_guests.proofs.SwapLemmas.{place, swap_reads, changed_here, changed_other}
-
-place_is : (one other k : ℕ) → ((k ≡ one) × (place one other k ≡ other))
-    ⊎ (((k ≢ one) × (k ≡ other) × (place one other k ≡ one)) ⊎ ((k ≢ one) × (k ≢ other) × (place one other k ≡ k)))
-place_is one other k = elim (eqb_tells k one) [
-  | inl hit ↦ inl (hit.1, ap (λ (b : Bool). cond b other (cond (eqb k other) one k)) hit.0)
-  | inr miss ↦ inr (elim (eqb_tells k other) [
-    | inl hit ↦ inl (miss.1, hit.1, ap (λ (b : Bool). cond b other (cond (eqb k other) one k)) miss.0 ∙ ap (λ (b : Bool). cond b one k) hit.0)
-    | inr off ↦ inr (miss.1, off.1, ap (λ (b : Bool). cond b other (cond (eqb k other) one k)) miss.0 ∙ ap (λ (b : Bool). cond b one k) off.0)
-  ])
-]
-
-place_one : (one other : ℕ) → place one other one ≡ other
-place_one one other = elim (place_is one other one) [
-  | inl a ↦ a.1
-  | inr b ↦ elim b [ inl c ↦ absurd (c.0 refl) | inr d ↦ absurd (d.0 refl) ]
-]
-
-pub place_other : (one other : ℕ) → place one other other ≡ one
-place_other one other = elim (place_is one other other) [
-  | inl a ↦ a.1 ∙ a.0
-  | inr b ↦ elim b [ inl c ↦ c.2 | inr d ↦ absurd (d.1 refl) ]
-]
-
-pub place_back : (one other k : ℕ) → place one other (place one other k) ≡ k
-place_back one other k = elim (place_is one other k) [
-  | inl a ↦ ap (place one other) a.1 ∙ place_other one other ∙ sym a.0
-  | inr b ↦ elim b [
-    | inl c ↦ ap (place one other) c.2 ∙ place_one one other ∙ sym c.1
-    | inr d ↦ ap (place one other) d.2 ∙ d.2
-  ]
-]
+use Rattle.mc_guests.proofs.LeftLemmas.{same_long}
+use Rattle.mc_guests.proofs.SwapLemmas.{place, place_back, place_one, swap_reads, changed_here, changed_other}
+use Rattle.mc_worker_laws.specs.Traces.{how_many}
+use Rattle.mc_worker_laws.proofs.CountLemmas.{Answers, one_of, one_in_row, how_many_stand, sum_kept, sum_mapped, sum_swapped, sum_cut, many_none, many_more, many_one}
 
 module _ {A : Type 0} where
   pub get_left : (xs ys : List A) (i : ℕ) (x : A) → slice_get xs i ≡ Some x → slice_get (xs ++ ys) i ≡ Some x
@@ -85,22 +59,25 @@ module _ {A : Type 0} where
   pub get_swapped : (xs : List A) (one other k : ℕ) (x : A) → one < length xs → other < length xs → slice_get xs k ≡ Some x → slice_get (swap xs one other) (place one other k) ≡ Some x
   get_swapped xs one other k x first second is = swap_reads xs one other (place one other k) first second ∙ ap (slice_get xs) (place_back one other k) ∙ is
 
--- one row of guests became another: whose place in the one each place of the other has, and that each is there or had ended
-pub record Moves (old new : List RowGuest) : Type 0 where
+-- One row of guests became another, and these went: whose place in the one each place of the other has, and that each is there or had ended.
+-- Of those that ended so, as many as before stand or went.
+pub record Moves (went : List GuestState) (old new : List RowGuest) : Type 0 where
   pub from : ℕ → ℕ
   pub came : (k : ℕ) (x : RowGuest) → slice_get new k ≡ Some x → (y : RowGuest) × (slice_get old (from k) ≡ Some y) × (y.guest ≡ x.guest)
   pub one : (j k : ℕ) → j < length new → k < length new → from j ≡ from k → j ≡ k
   pub all : (k : ℕ) (y : RowGuest) → slice_get old k ≡ Some y → ((j : ℕ) × (j < length new) × (from j ≡ k)) ⊎ IsTrue (has_ended y.guest.last)
+  pub many : (ended : Answers) → how_many_stand ended old ≡ how_many_stand ended new + how_many ended went
 
-pub moves_none : (xs : List RowGuest) → Moves xs xs
+pub moves_none : (xs : List RowGuest) → Moves [] xs xs
 moves_none xs = record {
   from = λ k. k;
   came = λ k x is. (x, is, refl);
   one = λ j k a b e. e;
   all = λ k y is. inl (k, slice_get_within xs k y is, refl);
+  many = λ ended. (let z = many_none ended in omega (arith, z));
 }
 
-module _ (a b c : List RowGuest) (f : Moves a b) (g : Moves b c) where
+module _ (went more : List GuestState) (a b c : List RowGuest) (f : Moves went a b) (g : Moves more b c) where
   came_both : (k : ℕ) (x : RowGuest) → slice_get c k ≡ Some x → (y : RowGuest) × (slice_get a (f.from (g.from k)) ≡ Some y) × (y.guest ≡ x.guest)
   came_both k x is = let m = g.came k x is in let o = f.came (g.from k) m.0 m.1 in (o.0, o.1, o.2 ∙ m.2)
 
@@ -123,15 +100,16 @@ module _ (a b c : List RowGuest) (f : Moves a b) (g : Moves b c) where
             | inr ended ↦ inr (ap (λ (r : RowGuest). has_ended r.guest.last) e ∙ ap (λ (s : GuestState). has_ended s.last) o.2 ∙ ended)
           ]
 
-  pub moves_then : Moves a c
+  pub moves_then : Moves (went ++ more) a c
   moves_then = record {
     from = λ k. f.from (g.from k);
     came = came_both;
     one = λ j k p q e. g.one j k p q (f.one (g.from j) (g.from k) (within_mid j p) (within_mid k q) e);
     all = all_both;
+    many = λ ended. (let p = f.many ended in let q = g.many ended in let r = many_more ended went more in omega (arith, p, q, r));
   }
 
-pub moves_changed : (f : RowGuest → RowGuest) → ((x : RowGuest) → (f x).guest ≡ x.guest) → (at : ℕ) (xs : List RowGuest) → Moves xs (changed f at xs)
+pub moves_changed : (f : RowGuest → RowGuest) → ((x : RowGuest) → (f x).guest ≡ x.guest) → (at : ℕ) (xs : List RowGuest) → Moves [] xs (changed f at xs)
 moves_changed f keeps at xs = record {
   from = λ k. k;
   came = λ k x is.
@@ -149,9 +127,31 @@ moves_changed f keeps at xs = record {
       );
   one = λ j k a b e. e;
   all = λ k y is. inl (k, (let long = length_changed f at xs in let w = slice_get_within xs k y is in omega (arith, long, w)), refl);
+  many = λ ended. (let s = sum_kept (one_in_row ended) f (λ x. ap (one_of ended) (keeps x)) at xs in let z = many_none ended in omega (arith, s, z));
 }
 
-pub moves_swapped : (one other : ℕ) (xs : List RowGuest) → one < length xs → other < length xs → Moves xs (swap xs one other)
+-- guests that are counted anew for what has left the store
+left_of : (o : Option RowGuest) (x : RowGuest) → option_map (reads_left 0) o ≡ Some (reads_left 0 x) → (y : RowGuest) × (o ≡ Some y) × (y.guest ≡ x.guest)
+left_of None x is = absurd (none-some (reads_left 0 x) is)
+left_of (Some y) x is = (y, refl, ap (λ (r : RowGuest). r.guest) (same_Some (reads_left 0 y) (reads_left 0 x) is))
+
+pub moves_left : (old new : RowState) → SameButLeft old new → Moves [] old.guests new.guests
+moves_left old new same = record {
+  from = λ k. k;
+  came = λ k x is.
+      left_of (slice_get old.guests k) x
+      (sym (slice_get-map (reads_left 0) old.guests k) ∙ ap (λ (l : List RowGuest). slice_get l k) (sym same.guests) ∙ slice_get-map (reads_left 0) new.guests k ∙ ap (option_map (reads_left 0)) is);
+  one = λ j k a b e. e;
+  all = λ k y is. inl (k, (let long = same_long old new same in let w = slice_get_within old.guests k y is in omega (arith, long, w)), refl);
+  many = λ ended.
+      let w : RowGuest → ℕ = one_in_row ended in
+      let a = sum_mapped w (reads_left 0) (λ x. refl) old.guests in
+      let b = sum_mapped w (reads_left 0) (λ x. refl) new.guests in
+      let e : sum_by w (map (reads_left 0) new.guests) ≡ sum_by w (map (reads_left 0) old.guests) = ap (sum_by w) same.guests in
+      let z = many_none ended in omega (arith, a, b, e, z);
+}
+
+pub moves_swapped : (one other : ℕ) (xs : List RowGuest) → one < length xs → other < length xs → Moves [] xs (swap xs one other)
 moves_swapped one other xs first second = record {
   from = place one other;
   came = λ k x is. (x, sym (swap_reads xs one other k first second) ∙ is, refl);
@@ -161,10 +161,11 @@ moves_swapped one other xs first second = record {
     slice_get_within (swap xs one other) (place one other k) y (get_swapped xs one other k y first second is),
     place_back one other k,
   );
+  many = λ ended. (let s = sum_swapped (one_in_row ended) one other xs first second in let z = many_none ended in omega (arith, s, z));
 }
 
 -- the last is cut off, which had ended
-pub moves_cut : (end : ℕ) (xs : List RowGuest) (it : RowGuest) → length xs ≡ end + 1 → slice_get xs end ≡ Some it → IsTrue (has_ended it.guest.last) → Moves xs (take end xs)
+pub moves_cut : (end : ℕ) (xs : List RowGuest) (it : RowGuest) → length xs ≡ end + 1 → slice_get xs end ≡ Some it → IsTrue (has_ended it.guest.last) → Moves (it.guest ∷ []) xs (take end xs)
 moves_cut end xs it long is ended = record {
   from = λ k. k;
   came = λ k x there.
@@ -182,11 +183,12 @@ moves_cut end xs it long is ended = record {
             let same : it ≡ y = same_Some it y (sym is ∙ ap (slice_get xs) e ∙ there) in
             inr (ap (λ (r : RowGuest). has_ended r.guest.last) (sym same) ∙ ended))
       ];
+  many = λ ended_so. (let s = sum_cut (one_in_row ended_so) end xs it long is in let o = many_one ended_so it.guest in omega (arith, s, o));
 }
 
 -- The guest at a place goes, which had ended: it changes places with the last that is awake, that one with the last of all.
 pub moves_gone : (xs : List RowGuest) (at one : ℕ) (it : RowGuest) → slice_get xs at ≡ Some it → one < length xs → IsTrue (has_ended it.guest.last)
-    → Moves xs (take (length xs - 1) (swap (swap xs at one) one (length xs - 1)))
+    → Moves (it.guest ∷ []) xs (take (length xs - 1) (swap (swap xs at one) one (length xs - 1)))
 moves_gone xs at one it here first ended =
     let end : ℕ = length xs - 1 in
     let within : at < length xs = slice_get_within xs at it here in
@@ -196,6 +198,6 @@ moves_gone xs at one it here first ended =
     let long_too : length (swap ys one end) ≡ length ys = length-swap ys one end in
     let mid : slice_get ys one ≡ Some it = ap (slice_get ys) (sym (place_one at one)) ∙ get_swapped xs at one at it within first here in
     let last : slice_get zs end ≡ Some it = ap (slice_get zs) (sym (place_one one end)) ∙ get_swapped ys one end one it (omega (arith, long, first)) (omega (arith, long, within)) mid in
-    moves_then xs ys (take end zs) (moves_swapped at one xs within first)
-    (moves_then ys zs (take end zs) (moves_swapped one end ys (omega (arith, long, first)) (omega (arith, long, within)))
+    moves_then [] (it.guest ∷ []) xs ys (take end zs) (moves_swapped at one xs within first)
+    (moves_then [] (it.guest ∷ []) ys zs (take end zs) (moves_swapped one end ys (omega (arith, long, first)) (omega (arith, long, within)))
     (moves_cut end zs it (omega (arith, long, long_too, within)) last ended))

@@ -3,6 +3,7 @@ use Rattle.std.specs.Prelude.{slice_get, cond}
 use Rattle.std.proofs.Common.{◌≡◌, ◌≢◌, ◌⊎◌, inl, inr, ℕ, zero, suc, ◌+◌, ◌<◌, ◌≤◌, Bool, true, false, eqb, List, [], ◌∷◌, ◌++◌, length, Some, refl, sym, ap, ◌∙◌, subst, arith, IsTrue, length-append}
 use Rattle.std.proofs.Common.{append_assoc}
 use Rattle.std.proofs.lemmas.Bool.Decides.{eqb_tells}
+use Rattle.std.proofs.lemmas.List.Sums.{sum_by_push}
 use Rattle.std.proofs.lemmas.Option.{same_Some, slice_get_within}
 use Rattle.mc_shared.specs.Asking.{AskingState}
 use Rattle.mc_guests.specs.Links.{LinkState}
@@ -11,9 +12,10 @@ use Rattle.mc_guests.specs.Books.{changed}
 use Rattle.mc_guests.specs.Turns.{HasTurn}
 use Rattle.mc_guests.specs.Visits.{OneByOne}
 use Rattle.mc_guests.specs.declared.budget.Budget.{Budget}
-use Rattle.mc_guests.proofs.SwapLemmas.{changed_here, changed_other}
+use Rattle.mc_guests.proofs.SwapLemmas.{changed_here, changed_other, changed_sum}
 use Rattle.mc_workers.specs.Rounds.{as_caller}
-use Rattle.mc_worker_laws.specs.Traces.{Trace, comes, visits, waits}
+use Rattle.mc_worker_laws.specs.Traces.{how_many, Trace, comes, visits, waits}
+use Rattle.mc_worker_laws.proofs.CountLemmas.{Answers, one_of, one_in_row, how_many_stand, sum_mid, many_more}
 use Rattle.mc_worker_laws.proofs.RowLemmas.{get_left, get_some, get_end, get_last, Moves}
 
 -- a row in whose middle one stands
@@ -33,23 +35,27 @@ module _ {A : Type 0} where
   long_mid (z ∷ front) rest x y = ap (λ (n : ℕ). suc n) (long_mid front rest x y)
 
 module _ {K : Type 0} (hash_of : K → List ℕ → ℕ) (may_give : ℕ → Type 0) (begin : AskingState K) where
-  -- there is a trace, and each guest of the row is one of its guests, each another; those that aren't in the row have ended
-  pub record Traced (links : List (ℕ × LinkState)) (row : List RowGuest) (a : AskingState K) : Type 0 where
+  -- There is a trace, and each guest of the row is one of its guests, each another. Those that aren't in the row have ended. Of those that ended so,
+  -- as many stand in the row or are gone.
+  pub record Traced (links : List (ℕ × LinkState)) (gone : List GuestState) (row : List RowGuest) (a : AskingState K) : Type 0 where
     pub guests : List GuestState
     pub trace : Trace hash_of may_give begin links guests a
     pub id : ℕ → ℕ
     pub here : (k : ℕ) (x : RowGuest) → slice_get row k ≡ Some x → slice_get guests (id k) ≡ Some x.guest
     pub one : (j k : ℕ) → j < length row → k < length row → id j ≡ id k → j ≡ k
     pub all : (i : ℕ) (g : GuestState) → slice_get guests i ≡ Some g → ((k : ℕ) × (k < length row) × (id k ≡ i)) ⊎ IsTrue (has_ended g.last)
+    pub many : (ended : Answers) → how_many ended guests ≡ how_many_stand ended row + how_many ended gone
 
-  pub traced_moved : (links : List (ℕ × LinkState)) (old new : List RowGuest) (a : AskingState K) → Moves old new → Traced links old a → Traced links new a
-  traced_moved links old new a m t = record {
+  pub traced_moved : (links : List (ℕ × LinkState)) (gone went : List GuestState) (old new : List RowGuest) (a : AskingState K) → Moves went old new → Traced links gone old a
+      → Traced links (gone ++ went) new a
+  traced_moved links gone went old new a m t = record {
     guests = t.guests;
     trace = t.trace;
     id = λ k. t.id (m.from k);
     here = λ k x is. (let y = m.came k x is in t.here (m.from k) y.0 y.1 ∙ ap (λ (g : GuestState). Some g) y.2);
     one = λ j k p q e. m.one j k p q (t.one (m.from j) (m.from k) (inside j p) (inside k q) e);
     all = λ i g is. elim (t.all i g is) [ inr ended ↦ inr ended | inl there ↦ all i g is there ];
+    many = λ ended. (let p = t.many ended in let q = m.many ended in let r = many_more ended gone went in omega (arith, p, q, r));
   }
     where
       inside : (k : ℕ) → k < length new → m.from k < length old
@@ -67,16 +73,17 @@ module _ {K : Type 0} (hash_of : K → List ℕ → ℕ) (may_give : ℕ → Typ
           ]
 
   -- the trace went on, and changed at most the guest that stands in the middle
-  module _ (links : List (ℕ × LinkState)) (front rest : List RowGuest) (o n : RowGuest) (a b : AskingState K) (t : Traced links (front ++ o ∷ rest) a)
+  module _ (links : List (ℕ × LinkState)) (gone : List GuestState) (front rest : List RowGuest) (o n : RowGuest) (a b : AskingState K) (t : Traced links gone (front ++ o ∷ rest) a)
       (later : List GuestState) (trace : Trace hash_of may_give begin links later b) (it : slice_get later (t.id (length front)) ≡ Some n.guest)
-      (off : (j : ℕ) → j ≢ t.id (length front) → slice_get later j ≡ slice_get t.guests j) where
+      (off : (j : ℕ) → j ≢ t.id (length front) → slice_get later j ≡ slice_get t.guests j)
+      (one_changed : (ended : Answers) → how_many ended later + one_of ended o.guest ≡ how_many ended t.guests + one_of ended n.guest) where
     place_within : length front < length (front ++ o ∷ rest)
     place_within = slice_get_within (front ++ o ∷ rest) (length front) o (get_mid front rest o)
 
     still : (k : ℕ) → k < length (front ++ n ∷ rest) → k < length (front ++ o ∷ rest)
     still k h = let e = long_mid front rest n o in omega (arith, e, h)
 
-    traced_on : Traced links (front ++ n ∷ rest) b
+    traced_on : Traced links gone (front ++ n ∷ rest) b
     traced_on = record {
       guests = later;
       trace = trace;
@@ -97,12 +104,18 @@ module _ {K : Type 0} (hash_of : K → List ℕ → ℕ) (may_give : ℕ → Typ
           | inr ended ↦ inr ended
         ]
       ];
+      many = λ ended. (
+          let p = t.many ended in
+          let q = one_changed ended in
+          let r = sum_mid (one_in_row ended) front rest o n in
+          omega (arith, p, q, r)
+          );
     }
 
   module _ (now : ℕ) (gives : may_give now) where
-    turn_traced : (links : List (ℕ × LinkState)) (front rest : List RowGuest) (o n : RowGuest) (before after : AskingState K × Budget)
-        → HasTurn (as_caller hash_of) now before (o, n) after → Traced links (front ++ o ∷ rest) before.0 → Traced links (front ++ n ∷ rest) after.0
-    turn_traced links front rest o n before after h t =
+    turn_traced : (links : List (ℕ × LinkState)) (gone : List GuestState) (front rest : List RowGuest) (o n : RowGuest) (before after : AskingState K × Budget)
+        → HasTurn (as_caller hash_of) now before (o, n) after → Traced links gone (front ++ o ∷ rest) before.0 → Traced links gone (front ++ n ∷ rest) after.0
+    turn_traced links gone front rest o n before after h t =
         let at : ℕ = t.id (length front) in
         let here : slice_get t.guests (t.id (length front)) ≡ Some o.guest = t.here (length front) o (get_mid front rest o) in
         elim h.turn [
@@ -110,25 +123,26 @@ module _ {K : Type 0} (hash_of : K → List ℕ → ℕ) (may_give : ℕ → Typ
           | inr w ↦ on (waits at now o.guest n.guest t.trace here gives w.kept)
         ]
       where
-        on : Trace hash_of may_give begin links (changed (λ (_ : GuestState). n.guest) (t.id (length front)) t.guests) after.0 → Traced links (front ++ n ∷ rest) after.0
-        on trace = traced_on links front rest o n before.0 after.0 t (changed (λ (_ : GuestState). n.guest) (t.id (length front)) t.guests) trace
+        on : Trace hash_of may_give begin links (changed (λ (_ : GuestState). n.guest) (t.id (length front)) t.guests) after.0 → Traced links gone (front ++ n ∷ rest) after.0
+        on trace = traced_on links gone front rest o n before.0 after.0 t (changed (λ (_ : GuestState). n.guest) (t.id (length front)) t.guests) trace
             (changed_here (λ (_ : GuestState). n.guest) (t.id (length front)) t.guests o.guest (t.here (length front) o (get_mid front rest o)))
             (λ j apart. changed_other (λ (_ : GuestState). n.guest) (t.id (length front)) j t.guests apart)
+            (λ ended. changed_sum (λ (_ : GuestState). n.guest) (one_of ended) (t.id (length front)) t.guests o.guest (t.here (length front) o (get_mid front rest o)))
 
-    pub turns_traced : (links : List (ℕ × LinkState)) (front olds news rest : List RowGuest) (before after : AskingState K × Budget)
-        → OneByOne (HasTurn (as_caller hash_of) now) olds news before after → Traced links (front ++ (olds ++ rest)) before.0 → Traced links (front ++ (news ++ rest)) after.0
-    turns_traced links front [] [] rest before after (long, same) t =
-        subst (λ (s : AskingState K × Budget). Traced links (front ++ rest) s.0) (sym same) t
-    turns_traced links front [] (n ∷ news) rest before after (long, goes) t = absurd (omega (arith, long))
-    turns_traced links front (o ∷ olds) [] rest before after (long, goes) t = absurd (omega (arith, long))
-    turns_traced links front (o ∷ olds) (n ∷ news) rest before after (long, (mid, step, goes)) t =
-        let once = turn_traced links front (olds ++ rest) o n before mid step t in
-        let moved = subst (λ (l : List RowGuest). Traced links l mid.0) (sym (append_assoc front (n ∷ []) (olds ++ rest))) once in
-        subst (λ (l : List RowGuest). Traced links l after.0) (append_assoc front (n ∷ []) (news ++ rest))
-        (turns_traced links (front ++ n ∷ []) olds news rest mid after (omega (arith, long), goes) moved)
+    pub turns_traced : (links : List (ℕ × LinkState)) (gone : List GuestState) (front olds news rest : List RowGuest) (before after : AskingState K × Budget)
+        → OneByOne (HasTurn (as_caller hash_of) now) olds news before after → Traced links gone (front ++ (olds ++ rest)) before.0 → Traced links gone (front ++ (news ++ rest)) after.0
+    turns_traced links gone front [] [] rest before after (long, same) t =
+        subst (λ (s : AskingState K × Budget). Traced links gone (front ++ rest) s.0) (sym same) t
+    turns_traced links gone front [] (n ∷ news) rest before after (long, goes) t = absurd (omega (arith, long))
+    turns_traced links gone front (o ∷ olds) [] rest before after (long, goes) t = absurd (omega (arith, long))
+    turns_traced links gone front (o ∷ olds) (n ∷ news) rest before after (long, (mid, step, goes)) t =
+        let once = turn_traced links gone front (olds ++ rest) o n before mid step t in
+        let moved = subst (λ (l : List RowGuest). Traced links gone l mid.0) (sym (append_assoc front (n ∷ []) (olds ++ rest))) once in
+        subst (λ (l : List RowGuest). Traced links gone l after.0) (append_assoc front (n ∷ []) (news ++ rest))
+        (turns_traced links gone (front ++ n ∷ []) olds news rest mid after (omega (arith, long), goes) moved)
 
   -- a link came, and its guest stands behind the others
-  module _ (links : List (ℕ × LinkState)) (row : List RowGuest) (a : AskingState K) (greatest : ℕ) (link : LinkState) (t : Traced links row a) where
+  module _ (links : List (ℕ × LinkState)) (gone : List GuestState) (row : List RowGuest) (a : AskingState K) (greatest : ℕ) (link : LinkState) (t : Traced links gone row a) where
     abbrev new_id : ℕ → ℕ
     new_id k = cond (eqb k (length row)) (length t.guests) (t.id k)
 
@@ -211,7 +225,7 @@ module _ {K : Type 0} (hash_of : K → List ℕ → ℕ) (may_give : ℕ → Typ
       ]
     ]
 
-    pub traced_more : Traced (links ++ (greatest, link) ∷ []) (row ++ newcomer (welcomed greatest link) ∷ []) a
+    pub traced_more : Traced (links ++ (greatest, link) ∷ []) gone (row ++ newcomer (welcomed greatest link) ∷ []) a
     traced_more = record {
       guests = more;
       trace = comes greatest link t.trace;
@@ -219,4 +233,10 @@ module _ {K : Type 0} (hash_of : K → List ℕ → ℕ) (may_give : ℕ → Typ
       here = new_here;
       one = new_one;
       all = new_all;
+      many = λ ended. (
+          let p = t.many ended in
+          let q = sum_by_push (one_of ended) t.guests (welcomed greatest link) in
+          let r = sum_by_push (one_in_row ended) row (newcomer (welcomed greatest link)) in
+          omega (arith, p, q, r)
+          );
     }

@@ -11,6 +11,7 @@ use Rattle.mc_shared.specs.Asking.{AskingState}
 use Rattle.mc_shared.specs.History.{Stepped, Purged, HistoryEntry}
 use Rattle.mc_shared.specs.Past.{Past, call}
 use Rattle.mc_shared.specs.Steps.{entry_of}
+use Rattle.mc_laws.specs.Laws.{Has, StandsInLog}
 use Rattle.mc_guests.specs.Links.{LinkState}
 use Rattle.mc_guests.specs.Guests.{GuestState}
 use Rattle.mc_guests.specs.Asks.{MayAsk, NamesKey}
@@ -19,7 +20,7 @@ use Rattle.mc_guests.specs.Telling.{TakenTurn}
 use Rattle.mc_guests.specs.declared.guest.Visit.{Visit}
 use Rattle.mc_guests.specs.declared.guest.Visit.TheVariants.{Turned, Refused}
 use Rattle.mc_workers.specs.Rounds.{as_caller}
-use Rattle.mc_worker_laws.specs.Traces.{Trace, begun, purged, comes, visits, waits, turns_in, GuestTurns, AreAnswered}
+use Rattle.mc_worker_laws.specs.Traces.{Trace, begun, purged, comes, visits, waits, turns_in, AreAnswered}
 
 -- these entries are in a list, in order
 abbrev pub StandInOrder : (calls entries : List HistoryEntry) → Type 0
@@ -151,14 +152,17 @@ module _ {K : Type 0} (hash_of : K → List ℕ → ℕ) where
         calls_in trace ++ measuring at now (NamesKey old.session) before after kept.asks
 
 -- A worker's links are answered within this list of all callers' calls. Each further call of the
--- worker's caller has a purpose; these calls are in the list, in order; and those for turns of a
--- guest are the calls of the turns by which its link is answered.
+-- worker's caller has a purpose, and its caller has no other call that it hadn't before. These calls
+-- are in the list, in order; and those for turns of a guest are the calls of the turns by which its
+-- link is answered.
 pub record AreAnsweredAmong {K : Type 0} (hash_of : K → List ℕ → ℕ) (may_give : ℕ → Type 0)
     (calls : List HistoryEntry) (links : List (ℕ × LinkState)) (begin end : AskingState K) : Type 0
   where
     pub answered : AreAnswered hash_of may_give links begin end
     pub further : end.past ≡ with_entries begin.past
         (entries (calls_in hash_of may_give answered.trace))
+    pub only : (e : HistoryEntry) → Has end.past e → Has begin.past e
+        ⊎ StandsInLog (entries (calls_in hash_of may_give answered.trace)) e
     pub among : StandInOrder calls (entries (calls_in hash_of may_give answered.trace))
     pub own : (at : ℕ) → turn_calls at (calls_in hash_of may_give answered.trace)
         ≡ calls_of hash_of (turns_in hash_of may_give answered.trace at)

@@ -1,67 +1,61 @@
 -- What becomes of the links that a worker lets in.
-use mathlib.Core.Logic.{inl, inr}
-use Rattle.std.specs.Prelude.{◌≡◌, ◌⊎◌, ◌==◌, if◌then◌else◌, ℕ, List, [], ◌∷◌, ◌++◌, length, Some, IsTrue, Bool, slice_get}
+use Rattle.std.specs.Prelude.{◌≡◌, ◌==◌, ◌+◌, ◌-◌, ◌^◌, if◌then◌else◌, min, ℕ, List, [], ◌∷◌, ◌++◌, length, count_by, Option, Some, IsTrue, Bool, true, false, slice_get}
 use Rattle.mc_shelf.specs.Stores.{StoreState}
 use Rattle.mc_shared.specs.Shown.{CallerState}
 use Rattle.mc_shared.specs.Asking.{AskingState, AsksOnce}
 use Rattle.mc_shared.specs.History.{Purged, start_of}
 use Rattle.mc_parse.specs.Units.{ProtocolUnit}
 use Rattle.mc_parse.specs.Streams.{AreUnits}
-use Rattle.mc_time.specs.Chains.{Repeats, none_yet, one_more}
 use Rattle.mc_guests.specs.Links.{LinkState, grown}
 use Rattle.mc_guests.specs.Guests.{GuestState, welcomed, has_ended}
 use Rattle.mc_guests.specs.Asks.{StaysOrLosesLink, AsksAndVisits, IsKeptWaiting}
 use Rattle.mc_guests.specs.Telling.{TakenTurn, Visits, turns_of, bytes_given, bytes_taken, AnswerFirst, AnswerAll}
-use Rattle.mc_guests.specs.Books.{BooksState, changed}
-use Rattle.mc_guests.specs.Doors.{Opens, link as of_link, none_now, none_more, over, LinkCame, OpensForAll, as_many, then_none}
-use Rattle.mc_guests.specs.declared.door.Door.{Door}
+use Rattle.mc_guests.specs.Books.{changed}
+use Rattle.mc_guests.specs.Arrivals.{admitted}
 use Rattle.mc_guests.specs.declared.guests.WorkEnd.{WorkEnd}
 use Rattle.mc_guests.specs.declared.guest.Visit.{Visit}
-use Rattle.mc_guests.specs.declared.guest.Visit.TheVariants.{Served}
+use Rattle.mc_guests.specs.declared.guest.Visit.TheVariants.{Served, Broken, Refused}
 use Rattle.mc_workers.specs.Tending.{GoesFurther}
-use Rattle.mc_workers.specs.Rounds.{as_caller, WorkState, WorksOn, WorksToEnd}
+use Rattle.mc_workers.specs.Came.{all_came}
+use Rattle.mc_workers.specs.Rounds.{as_caller, WorksToEnd}
 
--- the link that came, with the greatest charge of an item; none if it was refused
-abbrev pub one_if_in : {A B : Type 0} → (greatest : ℕ) (link : LinkState) → A ⊎ B
-    → List (ℕ × LinkState)
-one_if_in greatest link (inl came) = (greatest, link) ∷ []
-one_if_in greatest link (inr refused) = []
+-- a counter after so many; it stops at its greatest number
+abbrev pub counter : ℕ → ℕ
+counter many = min many (2 ^ 64 - 1)
 
--- the link that an opening of the door let in, if it let one in
-abbrev pub link_in : {is_quiet goes_on : Bool} {door later : Door} {old new : BooksState}
-    {before after : WorkEnd} → Opens is_quiet door later old new before after goes_on
-    → List (ℕ × LinkState)
-link_in (of_link {door = door} lets wakes) = one_if_in door.greatest lets.link lets.either
-link_in (none_now nothing) = []
-link_in (none_more some nothing) = []
-link_in (over none) = []
+-- whether it was served
+abbrev pub is_served : Option Visit → Bool
+is_served (Some Served) = true
+is_served last = false
 
--- the links that these openings let in, in order
-abbrev pub links_in : {count : ℕ} {old new : Door × BooksState × WorkEnd}
-    → Repeats LinkCame count old new → List (ℕ × LinkState)
-links_in none_yet = []
-links_in (one_more front one) = links_in front ++ link_in one.opens
+-- whether its link failed
+abbrev pub is_broken : Option Visit → Bool
+is_broken (Some Broken) = true
+is_broken last = false
 
--- the links that the openings between two rounds let in
-abbrev pub all_in : {goes_on : Bool} {door later : Door} {old new : BooksState}
-    {before after : WorkEnd} → OpensForAll door later old new before after goes_on
-    → List (ℕ × LinkState)
-all_in (as_many came) = links_in came
-all_in (then_none few came opens none) = links_in came ++ link_in opens
+-- whether memory was refused to it
+abbrev pub is_refused : Option Visit → Bool
+is_refused (Some Refused) = true
+is_refused last = false
+
+-- how many guests ended so, by their last answers
+abbrev pub how_many : (Option Visit → Bool) → List GuestState → ℕ
+how_many ended guests = count_by (λ guest. ended guest.last) guests
+
+-- Of these guests so many were served, and the links of so many failed. So many were refused
+-- memory, beside the links that were refused at the door.
+pub record AreCounted (guests : List GuestState) (at_door : ℕ) (end : WorkEnd) : Type 0 where
+  pub served : end.served ≡ counter (how_many is_served guests)
+  pub broken : end.broken ≡ counter (how_many is_broken guests)
+  pub refused : end.refused ≡ counter (how_many is_refused guests + at_door)
 
 -- The hash of keys, and the moments of the clock.
 module _ {K : Type 0} (hash_of : K → List ℕ → ℕ) (may_give : ℕ → Type 0) where
-  -- the links that these rounds let in
-  abbrev pub links_since : {count : ℕ} {old new : WorkState K}
-      → Repeats (WorksOn hash_of may_give) count old new → List (ℕ × LinkState)
-  links_since none_yet = []
-  links_since (one_more front one) = links_since front ++ all_in one.opens
-
-  -- all links that a worker let in, in order, each with the greatest charge of an item
+  -- all links that a worker admitted, in order, each with the greatest charge of an item
   abbrev pub all_links : {first share : ℕ} {began : StoreState K} {caller : CallerState}
       {back : CallerState × WorkEnd} → WorksToEnd hash_of may_give first share began caller back
       → List (ℕ × LinkState)
-  all_links works = links_since works.since.works ++ all_in works.ends.opens
+  all_links works = admitted (all_came hash_of may_give works)
 
   -- turns of a guest, which a caller took
   abbrev pub GuestTurns : Type 0

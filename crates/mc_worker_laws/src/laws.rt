@@ -1,6 +1,6 @@
 //! Laws of workers, each the contract of a function that does nothing.
 
-ghost use Rattle.std.specs.Prelude.{ℕ, List};
+ghost use Rattle.std.specs.Prelude.{ℕ, List, length};
 ghost use Rattle.mc_protocol.specs.Plain.{Plain};
 ghost use Rattle.mc_shelf.specs.Stores.{StoreState};
 ghost use Rattle.mc_shared.specs.History.{HistoryEntry, start_of};
@@ -11,7 +11,9 @@ ghost use Rattle.mc_laws.specs.Laws.{PastIsWithin};
 ghost use Rattle.mc_laws.specs.Together as Together;
 ghost use Rattle.mc_workers.specs.Rounds.{WorksToEnd};
 ghost use Rattle.mc_workers.specs.Tending.{asked_by};
-ghost use Rattle.mc_worker_laws.specs.Traces.{AreAnswered, all_links};
+ghost use Rattle.mc_guests.specs.Arrivals.{turned_away};
+ghost use Rattle.mc_workers.specs.Came.{all_came};
+ghost use Rattle.mc_worker_laws.specs.Traces.{AreAnswered, AreCounted, all_links};
 ghost use Rattle.mc_worker_laws.specs.Calls.{AreAnsweredAmong};
 
 use mc_guests::WorkEnd;
@@ -19,7 +21,7 @@ use mc_hop::KeyHash;
 use mc_parse::no_spelling_begins_another;
 use mc_time::Clock;
 
-/// States that each link that a worker lets in is answered.
+/// States that each link that a worker admits is answered, and that its counts are right.
 ///
 /// All that the worker did is one trace. Each call of its caller is a purge, or belongs to one
 /// guest: it is the step of a turn, a read that measures its next key's block, or a step whose text
@@ -28,14 +30,18 @@ use mc_time::Clock;
 /// turns of the units of the bytes that the link gave, and of all turns if it was served. These
 /// turns are the guest's own in the trace, and their calls are the caller's, in order.
 ///
-/// A link that was refused at the door has no guest, and isn't among these. The law doesn't state
-/// which links come, nor that a link that is closed to make room fails.
+/// Each link that came was admitted, and has a guest, or was refused at the door. The worker
+/// returns how many guests were served, how many lost their links, and how many were refused memory
+/// or at the door; a counter stops at its greatest number. Which links come is a clause of `work`.
+/// The law doesn't state that a link that is closed to make room fails.
 pub fn a_worker_answers_its_links<K: KeyHash, C: Clock>()
     ensures { (hash_of : K → List ℕ → ℕ) (clock : C) (first share : ℕ) (began : StoreState K)
         (caller : CallerState) (back : CallerState × WorkEnd)
         (works : WorksToEnd hash_of (C.may_give clock) first share began caller back) →
-        AreAnswered hash_of (C.may_give clock) (all_links hash_of (C.may_give clock) works)
-        (asked_by began caller) works.final.asking }
+        (answered : AreAnswered hash_of (C.may_give clock) (all_links hash_of (C.may_give clock)
+        works) (asked_by began caller) works.final.asking)
+        × AreCounted answered.guests
+        (length (turned_away (all_came hash_of (C.may_give clock) works))) back.1 }
 {
     no_spelling_begins_another();
 }
@@ -48,7 +54,8 @@ pub fn a_worker_answers_its_links<K: KeyHash, C: Clock>()
 /// callers are joined it has exactly their calls. The links of each of these workers are answered
 /// within this list: each call of the worker's caller is a purge, a read that measures the block of
 /// a guest's next key, a turn's step, or a step whose text was refused for want of memory. All are
-/// in the list in their order, and those of a link's turns are in the order of its requests.
+/// in the list in their order, and those of a link's turns are in the order of its requests. What
+/// else a worker's caller has it had before the worker began.
 pub fn all_workers_answer_their_links<K: KeyHash, C: Clock>()
     ensures { (hash_of : K → List ℕ → ℕ) (clock : C) (began : StoreState K) (past : Past) →
         Agrees (start_of hash_of began) past → (calls : List HistoryEntry) × (left : Plain)
