@@ -9,7 +9,7 @@ use Rattle.mc_metrics.specs.declared.family.Family.{Family}
 use Rattle.mc_metrics.specs.declared.family.Kind.{Kind}
 use Rattle.mc_metrics.specs.declared.family.Kind.TheVariants.{Counter, Gauge}
 use Rattle.mc_metrics.specs.declared.family.Samples.{Samples}
-use Rattle.mc_metrics.specs.declared.family.Samples.TheVariants.{One, Each, Slabs, Refused, Process, Hundredths}
+use Rattle.mc_metrics.specs.declared.family.Samples.TheVariants.{One, Each, Slabs, Refused, Process, Hundredths, Numbers}
 use Rattle.mc_metrics.specs.declared.reading.PageValues.{PageValues}
 use Rattle.mc_metrics.specs.declared.reading.SlabReading.{SlabReading}
 use Rattle.mc_metrics.specs.declared.reading.TablesReading.{TablesReading}
@@ -66,6 +66,9 @@ figure_of reading figure.Strays = reading.tables.strays
 figure_of reading figure.Held = reading.buffers.held
 figure_of reading figure.Buffers = reading.buffers.limit
 figure_of reading figure.Waiting = reading.buffers.waiting
+figure_of reading figure.Workers = reading.settings.workers
+figure_of reading figure.Greatest = reading.settings.greatest
+figure_of reading figure.IdleTimeout = reading.settings.idle_timeout
 
 -- the sum of two numbers, or the greatest number that 64 bits hold
 abbrev pub sum_in_64_bits : (one other : ℕ) → ℕ
@@ -133,6 +136,18 @@ abbrev pub each_text : PageValues → (name : List ℕ) → List (Bor (List ℕ)
 each_text reading name rows =
     flat_map (λ row. sample_text name row.0.now (figure_of reading row.1)) rows
 
+-- a text and a number
+abbrev pub label_text : (text : List ℕ) → (number : ℕ) → List ℕ
+label_text text number = text ++ decimal number
+
+-- each of these texts, with its number behind it
+abbrev pub labels_text : PageValues → List (Bor (List ℕ) × Figure) → List ℕ
+labels_text reading rows = flat_map (λ row. label_text row.0.now (figure_of reading row.1)) rows
+
+-- the line of a sample that is 1 and has numbers as labels
+abbrev pub numbers_text : PageValues → (name : List ℕ) → List (Bor (List ℕ) × Figure) → List ℕ
+numbers_text reading name rows = name ++ labels_text reading rows ++ codes "\"} 1\n"
+
 -- a line for each of these classes
 abbrev pub slabs_text : SlabFigure → (name : List ℕ) → List SlabReading → List ℕ
 slabs_text told name slabs =
@@ -172,6 +187,7 @@ samples_text reading name (Each rows) = each_text reading name rows.now
 samples_text reading name (Slabs told) = slabs_text told name reading.slabs.items
 samples_text reading name Refused = refused_text name reading.refused.items
 samples_text reading name (Process told) = known_text name (process_figure_of reading.process told)
+samples_text reading name (Numbers rows) = numbers_text reading name rows.now
 samples_text reading name (Hundredths told) = hundredths_text name (process_figure_of reading.process told)
 
 -- a family

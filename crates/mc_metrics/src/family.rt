@@ -24,6 +24,8 @@ pub enum Samples {
     Process(ProcessFigure),
     /// The same in hundredths, as a number with two decimals.
     Hundredths(ProcessFigure),
+    /// One sample that is 1 and has numbers as labels: the text before each, and the number.
+    Numbers(&'static [(&'static str, Figure)]),
 }
 
 /// A family of samples: its kind, its name, its help, and its samples.

@@ -36,7 +36,7 @@ pub use counts::{COUNTED, Counted, Counters, REFUSED, count_at};
 pub use family::{Family, Kind, Samples};
 pub use page::page_of;
 pub use reading::{
-    BuffersReading, Figure, PageValues, ProcessFigure, ProcessReading, RefusedReading, SlabFigure,
-    SlabReading, TablesReading, bytes_of, number_at,
+    BuffersReading, Figure, PageValues, ProcessFigure, ProcessReading, RefusedReading,
+    SettingsReading, SlabFigure, SlabReading, TablesReading, bytes_of, number_at,
 };
 pub use request::read_request;

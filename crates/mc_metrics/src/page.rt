@@ -4,6 +4,7 @@ ghost use Rattle.mc_metrics.specs.Pages.{head_text, sample_text, slab_text, kind
 ghost use Rattle.mc_metrics.specs.Pages.{slabs_text, refused_text, known_text, fraction_text};
 ghost use Rattle.mc_metrics.specs.Pages.{decimals_line, hundredths_line, hundredths_text};
 ghost use Rattle.mc_metrics.specs.Pages.{samples_text, family_text, families_text};
+ghost use Rattle.mc_metrics.specs.Pages.{label_text, labels_text, numbers_text};
 
 use crate::family::{Family, Kind, Samples};
 use crate::reading::{Figure, PageValues, RefusedReading, SlabFigure, SlabReading};
@@ -66,6 +67,7 @@ fn put_samples(
         Samples::Refused => put_refused(page, name, reading.refused.as_slice()),
         Samples::Process(figure) => put_known(page, name, reading.process.figure(figure)),
         Samples::Hundredths(figure) => put_hundredths(page, name, reading.process.figure(figure)),
+        Samples::Numbers(rows) => put_numbers(page, name, rows, reading),
     }
 }
 
@@ -83,6 +85,45 @@ fn put_each(
         put_sample(page, name, row.0, reading.figure(row.1))?;
     }
     Ok(())
+}
+
+/// Appends a sample that is 1 and has these numbers as labels.
+fn put_numbers(
+    page: &mut Vec<u8>,
+    name: &str,
+    rows: &[(&str, Figure)],
+    reading: &PageValues,
+) -> Result<(), AllocError>
+    ensures { OnOk result (page.new.items
+        ≡ page.old.items ++ numbers_text reading.now name.now rows.now) }
+{
+    page.extend_from_slice(name.as_bytes())?;
+    put_labels(page, rows, reading)?;
+    page.extend_from_slice(b"\"} 1\n")
+}
+
+/// Appends each text and the number behind it.
+fn put_labels(
+    page: &mut Vec<u8>,
+    rows: &[(&str, Figure)],
+    reading: &PageValues,
+) -> Result<(), AllocError>
+    ensures { OnOk result (page.new.items
+        ≡ page.old.items ++ labels_text reading.now rows.now) }
+{
+    for row in rows {
+        put_label(page, row.0, reading.figure(row.1))?;
+    }
+    Ok(())
+}
+
+/// Appends a text and a number.
+fn put_label(page: &mut Vec<u8>, text: &str, number: u64) -> Result<(), AllocError>
+    ensures { OnOk result (page.new.items ≡ page.old.items ++ label_text text.now number) }
+{
+    let mut buffer = Buffer::new();
+    page.extend_from_slice(text.as_bytes())?;
+    page.extend_from_slice(buffer.format(number).as_bytes())
 }
 
 /// Appends a sample for each class of chunks.

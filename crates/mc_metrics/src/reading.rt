@@ -32,7 +32,18 @@ pub struct PageValues {
     /// The refused steps of each class.
     pub refused: Vec<RefusedReading>,
     pub buffers: BuffersReading,
+    pub settings: SettingsReading,
     pub process: ProcessReading,
+}
+
+/// The options that have no other number.
+#[derive(Clone, Copy)]
+pub struct SettingsReading {
+    pub workers: u64,
+    /// The largest charge of an item in bytes.
+    pub greatest: u64,
+    /// The idle timeout in seconds; 0 if there is none.
+    pub idle_timeout: u64,
 }
 
 /// The steps refused for want of a chunk of a class.
@@ -148,6 +159,11 @@ pub enum Figure {
     Buffers,
     /// The connections that wait for room.
     Waiting,
+    Workers,
+    /// The largest charge of an item, in bytes.
+    Greatest,
+    /// In seconds; 0 if there is none.
+    IdleTimeout,
 }
 
 /// A number that the system reports of the process.
@@ -203,6 +219,9 @@ impl PageValues {
             Figure::Held => self.buffers.held,
             Figure::Buffers => self.buffers.limit,
             Figure::Waiting => self.buffers.waiting,
+            Figure::Workers => self.settings.workers,
+            Figure::Greatest => self.settings.greatest,
+            Figure::IdleTimeout => self.settings.idle_timeout,
         }
     }
 }
