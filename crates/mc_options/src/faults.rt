@@ -3,6 +3,7 @@
 //! Lines have no name of the program before them: what writes them adds it. So a line of the
 //! program's own and one of `clap` have one form.
 
+use crate::ignored::IGNORED;
 use crate::served::{SERVED, Served, Value};
 use crate::unserved::{UNSERVED, Unserved};
 use clap::{ArgMatches, Error};
@@ -18,6 +19,7 @@ pub fn faults_in(alloc: Global, matches: &ArgMatches<'_>) -> Result<String, Allo
     let mut lines = String::new(alloc);
     note_unserved(&mut lines, matches, &UNSERVED)?;
     note_unfit(&mut lines, matches, &SERVED)?;
+    note_unfit(&mut lines, matches, &IGNORED)?;
     Ok(lines)
 }
 
@@ -45,21 +47,34 @@ fn note_unfit(
     for option in served {
         if let Some(value) = option.takes.value() {
             let texts = matches.get_strs(option.long).unwrap_or(&[]);
-            note_texts(lines, option, value, texts)?;
+            let passes_empty = option.takes.is_list() && has_text(texts);
+            note_texts(lines, option, value, passes_empty, texts)?;
         }
     }
     Ok(())
 }
 
-/// Appends a line for each of these texts that isn't fit as the value of an option.
+/// Returns whether one of these texts isn't empty.
+fn has_text(texts: &[&str]) -> bool {
+    for text in texts {
+        if !text.is_empty() {
+            return true;
+        }
+    }
+    false
+}
+
+/// Appends a line for each of these texts that isn't fit as the value of an option. An empty one
+/// may be passed over: it stands before or behind a comma.
 fn note_texts(
     lines: &mut String,
     option: &Served,
     value: Value,
+    passes_empty: bool,
     texts: &[&str],
 ) -> Result<(), AllocError> {
     for text in texts {
-        if !value.kind.takes(text) {
+        if !(passes_empty && text.is_empty()) && !value.kind.takes(text) {
             push_name(lines, option)?;
             let rule = value.rule;
             write!(lines, " {text:?}: {rule}\n")?;

@@ -1,6 +1,7 @@
 //! The command line of the program.
 //!
-//! Options follow memcached, so that its command lines can be reused. An unsupported option is
+//! Options follow memcached, so that its command lines can be reused. One that would change nothing
+//! here is accepted and named on the first line (`src/ignored.rt`). Any other unsupported option is
 //! refused, and the error names the alternative (`src/unserved.rt`): ignoring it would leave the
 //! operator with less than was requested. The supported options are a table too (`src/served.rt`),
 //! with the values that fit each (`src/value.rt`). `clap` reads the words and makes the help. All
@@ -23,10 +24,12 @@
 
 mod endpoints;
 mod faults;
+mod ignored;
 mod options;
 mod served;
 mod unserved;
 mod value;
 
 pub use endpoints::{AskedAddress, Endpoints, ListenAddress};
+pub use ignored::Ignored;
 pub use options::{AskedPlace, Options, RawOptions, Unfit, parse_options};

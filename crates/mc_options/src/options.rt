@@ -6,6 +6,7 @@ ghost use Rattle.mc_options.specs.Flags.{IsFlagOf};
 
 use crate::endpoints::{AskedAddress, Endpoints, ListenAddress, address_of};
 use crate::faults::{faults_in, mistake_line};
+use crate::ignored::{IGNORED, Ignored, ignored_in, with_ignored};
 use crate::served::{SERVED, with_served};
 use crate::unserved::{UNSERVED, with_unserved};
 use crate::value::{self, place_of};
@@ -121,6 +122,8 @@ pub struct Options {
     pub quit: Option<ListenAddress>,
     /// It logs each connection that opens or closes.
     pub verbose: bool,
+    /// The options of memcached that were given and change nothing.
+    pub ignored: Ignored,
 }
 
 /// Why the command line has no options.
@@ -160,12 +163,18 @@ impl RawOptions {
 }
 
 impl Options {
-    /// Returns the options, given what `clap` found, the settings and the endpoints.
+    /// Returns the options, given what `clap` found, the settings, the endpoints, and what is
+    /// ignored.
     ///
     /// The defaults are 4 workers, 1024 connections, no idle timeout, 64 MiB of connection buffers,
     /// and no scrapes, or scrapes at 127.0.0.1 if only a port is given. A number out of range,
     /// which is refused before, is brought into its range.
-    pub fn new(asked: RawOptions, settings: Settings, endpoints: Endpoints) -> Options
+    pub fn new(
+        asked: RawOptions,
+        settings: Settings,
+        endpoints: Endpoints,
+        ignored: Ignored,
+    ) -> Options
         ensures stdin { result.stdin ≡ asked.stdin }
         ensures now { result.now ≡ option_map (min (2 ^ 62)) asked.now }
         ensures settings { result.settings ≡ settings }
@@ -178,6 +187,7 @@ impl Options {
         ensures may_quit { result.may_quit ≡ asked.may_quit }
         ensures quit { IsScrapePlaceFor asked.quit result.quit }
         ensures verbose { result.verbose ≡ asked.verbose }
+        ensures ignored { result.ignored ≡ ignored }
     {
         Options {
             stdin: asked.stdin,
@@ -192,6 +202,7 @@ impl Options {
             may_quit: asked.may_quit,
             quit: scrape_place(asked.quit),
             verbose: asked.verbose,
+            ignored,
         }
     }
 }
@@ -248,15 +259,18 @@ pub fn parse_options(alloc: Global, words: &[String]) -> Result<Options, Unfit>
     ensures idle_timeout { IfOk result (λ options. options.idle_timeout ≤ 2592000) }
     ensures buffers { IfOk result (λ options. 1 ≤ options.buffers × options.buffers ≤ 65536) }
 {
-    let (asked, endpoints) = read_words(alloc, words)?;
+    let (asked, endpoints, ignored) = read_words(alloc, words)?;
     match asked.settings() {
-        Some(settings) => Ok(Options::new(asked, settings, endpoints)),
+        Some(settings) => Ok(Options::new(asked, settings, endpoints, ignored)),
         None => Err(Unfit::Shelves),
     }
 }
 
-/// Reads what is given and where to listen, from the words of the command line.
-fn read_words(alloc: Global, words: &[String]) -> Result<(RawOptions, Endpoints), Unfit> {
+/// What is given, where to listen, and what is ignored.
+type Given = (RawOptions, Endpoints, Ignored);
+
+/// Reads what is given, where to listen and what is ignored, from the words of the command line.
+fn read_words(alloc: Global, words: &[String]) -> Result<Given, Unfit> {
     let mut command = command(alloc)?;
     match command.try_get_matches_from_mut(words) {
         Ok(matches) => read_matches(alloc, &matches),
@@ -275,14 +289,15 @@ fn unfit_of(alloc: Global, error: Error) -> Unfit {
     }
 }
 
-/// Reads what is given and where to listen, from what `clap` found.
-fn read_matches(alloc: Global, matches: &ArgMatches<'_>) -> Result<(RawOptions, Endpoints), Unfit> {
+/// Reads what is given, where to listen and what is ignored, from what `clap` found.
+fn read_matches(alloc: Global, matches: &ArgMatches<'_>) -> Result<Given, Unfit> {
     let faults = faults_in(alloc, matches)?;
     if !faults.as_str().is_empty() {
         return Err(Unfit::Faults(faults));
     }
     let endpoints = endpoints_in(alloc, matches)?;
-    Ok((asked_of(matches), endpoints))
+    let ignored = ignored_in(alloc, matches, &IGNORED)?;
+    Ok((asked_of(matches), endpoints, ignored))
 }
 
 /// Returns what is given, except where to listen. A value that isn't fit was refused before, and
@@ -333,6 +348,7 @@ fn greatest_in(matches: &ArgMatches<'_>) -> Option<u64> {
 /// Returns the command with all options.
 fn command<'a>(alloc: Global) -> Result<Command<'a>, AllocError> {
     let command = with_served(alloc, described(alloc)?, &SERVED)?;
+    let command = with_ignored(alloc, command, &IGNORED)?;
     with_unserved(alloc, command, &UNSERVED)
 }
 

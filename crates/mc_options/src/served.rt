@@ -2,12 +2,12 @@
 
 use crate::options::{LONGEST_TIMEOUT, MOST_BUFFERS, MOST_CONNECTIONS, MOST_WORKERS};
 use crate::value::ValueKind;
-use clap::{Arg, ArgAction, Command};
+use clap::{Arg, ArgAction, ArgMatches, Command};
 use mc_sizes::Settings;
 use mc_time::Moment;
 use std::alloc::{AllocError, Global};
 
-/// An option that is supported.
+/// An option that is accepted.
 pub struct Served {
     pub short: Option<char>,
     /// Its long name, by which its value is read too.
@@ -54,9 +54,24 @@ impl Operand {
         }
     }
 
+    /// Returns whether values have commas between them.
+    pub fn is_list(&self) -> bool {
+        matches!(self, Operand::Many(_))
+    }
+
     /// Returns whether the option is for tests.
     fn is_for_tests(&self) -> bool {
         matches!(self, Operand::NothingInTests | Operand::OneInTests(_))
+    }
+}
+
+impl Served {
+    /// Returns whether it is on the command line.
+    pub fn is_in(&self, matches: &ArgMatches<'_>) -> bool {
+        match self.takes.value() {
+            Some(_) => matches.contains_id(self.long),
+            None => matches.get_flag(self.long),
+        }
     }
 }
 
@@ -170,7 +185,8 @@ its answer",
             kind: ValueKind::Number(1, Settings::MOST_PAGES as u64),
             rule: "a number of MiB (megabytes) without a unit, 1 to 65536, as in 64",
         }),
-        help: "Keep items in at most this many pages of 1 MiB,{n}1 to 65536 [default: 64]",
+        help: "Keep items in at most this many pages of 1 MiB,{n}1 to 65536; below 40 some sizes find no room{n}\
+[default: 64]",
     },
     Served {
         short: Some('I'),
@@ -240,7 +256,7 @@ pub fn with_served<'a>(
 }
 
 /// Returns the argument of an option.
-fn argument_of<'a>(alloc: Global, option: &Served) -> Result<Arg<'a>, AllocError> {
+pub fn argument_of<'a>(alloc: Global, option: &Served) -> Result<Arg<'a>, AllocError> {
     let argument = Arg::new(alloc, option.long)
         .long(option.long)
         .help(option.help);

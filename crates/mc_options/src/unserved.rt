@@ -18,7 +18,7 @@ pub struct Unserved {
 }
 
 /// The unsupported options.
-pub const UNSERVED: [Unserved; 26] = [
+pub const UNSERVED: [Unserved; 15] = [
     Unserved {
         short: 'u',
         long: "user",
@@ -68,64 +68,16 @@ pub const UNSERVED: [Unserved; 26] = [
         instead: "there is no encryption; put a tunnel before it, as stunnel is one",
     },
     Unserved {
-        short: 'o',
-        long: "extended",
-        takes_value: true,
-        instead: "of these options there is idle_timeout alone, as '--idle-timeout'; leave the others out",
-    },
-    Unserved {
-        short: 'f',
-        long: "slab-growth-factor",
-        takes_value: true,
-        instead: "the sizes of chunks are fixed; leave it out",
-    },
-    Unserved {
-        short: 'n',
-        long: "slab-min-size",
-        takes_value: true,
-        instead: "the sizes of chunks are fixed; leave it out",
-    },
-    Unserved {
         short: 'k',
         long: "lock-memory",
         takes_value: false,
         instead: "let the machine have no swap, or 'MemorySwapMax=0' in the service",
     },
     Unserved {
-        short: 'L',
-        long: "enable-largepages",
-        takes_value: false,
-        instead: "the system decides on large pages; leave it out",
-    },
-    Unserved {
         short: 'r',
         long: "enable-coredumps",
         takes_value: false,
         instead: "'ulimit -c', or 'LimitCORE=' in the service, allows core files",
-    },
-    Unserved {
-        short: 'R',
-        long: "max-reqs-per-event",
-        takes_value: true,
-        instead: "sessions take turns of one command; leave it out",
-    },
-    Unserved {
-        short: 'b',
-        long: "listen-backlog",
-        takes_value: true,
-        instead: "the system's net.core.somaxconn bounds it; leave it out",
-    },
-    Unserved {
-        short: 'B',
-        long: "protocol",
-        takes_value: true,
-        instead: "the text protocol is the only one; leave it out",
-    },
-    Unserved {
-        short: 'C',
-        long: "disable-cas",
-        takes_value: false,
-        instead: "items always have unique numbers; leave it out",
     },
     Unserved {
         short: 'F',
@@ -140,18 +92,6 @@ pub const UNSERVED: [Unserved; 26] = [
         instead: "start it with '--metrics PORT --allow-quit', and end it by 'mcserver --quit PORT'",
     },
     Unserved {
-        short: 'X',
-        long: "disable-dumping",
-        takes_value: false,
-        instead: "no command dumps keys; leave it out",
-    },
-    Unserved {
-        short: 'W',
-        long: "disable-watch",
-        takes_value: false,
-        instead: "no command watches; leave it out",
-    },
-    Unserved {
         short: 'D',
         long: "prefix-delimiter",
         takes_value: true,
@@ -162,12 +102,6 @@ pub const UNSERVED: [Unserved; 26] = [
         long: "memory-file",
         takes_value: true,
         instead: "nothing is kept over a restart; leave it out",
-    },
-    Unserved {
-        short: 'N',
-        long: "napi-ids",
-        takes_value: true,
-        instead: "connections are dealt to the workers turn about; leave it out",
     },
     Unserved {
         short: 'i',

@@ -15,6 +15,12 @@ pub enum ValueKind {
     Address,
     /// A port, alone or behind an IP address.
     Place,
+    /// One of these words.
+    Word(&'static [&'static str]),
+    /// One of these names, alone or before `=` and a value.
+    Setting(&'static [&'static str]),
+    /// Any text.
+    Text,
 }
 
 impl ValueKind {
@@ -28,7 +34,28 @@ impl ValueKind {
             ValueKind::Bytes => greatest_of(text).is_some(),
             ValueKind::Address => AskedAddress::of(text).is_some(),
             ValueKind::Place => place_of(text).is_some(),
+            ValueKind::Word(words) => stands_in(words, text),
+            ValueKind::Setting(names) => stands_in(names, name_of(text)),
+            ValueKind::Text => true,
         }
+    }
+}
+
+/// Returns whether a text is one of these words.
+fn stands_in(words: &[&str], text: &str) -> bool {
+    for word in words {
+        if *word == text {
+            return true;
+        }
+    }
+    false
+}
+
+/// Returns what stands before the first `=`, or all.
+fn name_of(text: &str) -> &str {
+    match text.split_once('=') {
+        Some((name, _value)) => name,
+        None => text,
     }
 }
 
