@@ -250,7 +250,7 @@ impl End {
             End::NotText => (2, "mcserver: a word of the command line isn't UTF-8"),
             End::NotShown => ending(&Err(ServeFault::Write)),
             End::NoMemory => ending(&Err(ServeFault::NoMemory)),
-            End::NoThread => (1, "mcserver: cannot start a thread (ulimit -u)"),
+            End::NoThread => (1, "mcserver: cannot start a thread (ulimit -u, ulimit -v)"),
             End::SmallStack => (1, "mcserver: the stack limit is below 512 KiB (ulimit -s)"),
             End::Denied(_) => (1, "mcserver: --quit"),
         }
