@@ -1,6 +1,7 @@
 pub mod DroppingLemmas
 pub mod OpeningLemmas
 pub mod PlaceLemmas
+pub mod PollLemmas
 pub mod ScreenLemmas
 pub mod SeatLemmas
 pub mod StreamLemmas

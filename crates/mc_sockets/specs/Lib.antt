@@ -2,11 +2,14 @@ pub mod Channels
 pub mod Crowds
 pub mod Dropping
 pub mod Headers
+pub mod IoStreams
+pub mod Offers
 pub mod Openings
 pub mod Partings
 pub mod Phases
 pub mod Places
 pub mod Readiness
+pub mod Registering
 pub mod Remedies
 pub mod Screens
 pub mod Seats

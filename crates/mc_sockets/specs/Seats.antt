@@ -1,5 +1,7 @@
 -- The books of a worker's links.
-use Rattle.std.specs.Prelude.{◌≡◌, ◌≤◌, ◌<◌, ◌+◌, ◌-◌, ℕ, Bool, false, List, [], ◌∷◌, ◌++◌, length, slice_get, slice_set, Option, Some, if◌then◌else◌, MatchBool, MatchOption, vec_len, vec_capacity}
+use Rattle.std.specs.Prelude.{◌≡◌, ◌≤◌, ◌<◌, ◌+◌, ◌-◌, ◌%◌, ◌^◌, ℕ, Bool, false, List, [], ◌∷◌, ◌++◌, length, slice_get, slice_set, option_to_list, Option, Some, None, if◌then◌else◌, MatchBool, MatchOption, vec_len, vec_capacity}
+use Rattle.mc_links.specs.declared.links.Next.{Next}
+use Rattle.mc_links.specs.declared.links.Next.TheVariants.{Link, Later, Closed}
 use Rattle.std.specs.VecDeque.{deque_len, deque_capacity}
 use Rattle.mio.specs.declared.event.event.Event.{Event}
 use Rattle.mio.specs.Event.{event_token}
@@ -7,8 +9,8 @@ use Rattle.std.specs.Duration.{as_nanos}
 use Rattle.std.specs.declared.time.Duration.{Duration}
 use Rattle.std.specs.declared.time.Instant.{Instant}
 use Rattle.mc_time.specs.Chains.{Chain, Repeats}
-use Rattle.mc_sockets.specs.Places.{AsksOrCloses, EndsIfIdle, HappensTo, Notes}
-use Rattle.mc_sockets.specs.Readiness.{Ended, report_of}
+use Rattle.mc_sockets.specs.Places.{AsksOrCloses, EndsIfIdle, HappensIf, HappensTo, Notes}
+use Rattle.mc_sockets.specs.Readiness.{Ended, Happening, report_of}
 use Rattle.mc_sockets.specs.Watches.{due, is_too_soon, turn}
 use Rattle.mc_sockets.specs.declared.connection.Parting.{Parting}
 use Rattle.mc_sockets.specs.declared.idle.Watch.{Watch}
@@ -56,6 +58,11 @@ module _ {F : Type 0} where
   -- that is done at a place, and answered; without a record there nothing is done, and the answer is no
   abbrev pub AnswersAt : (act : Bool → LinkRecord F → LinkRecord F → List ℕ → List ℕ → Type 0) → ℕ → (answer : Bool) → Seats F → Seats F → Type 0
   AnswersAt act at answer old new = MatchOption (slice_get old.places.items at) ((answer ≡ false) × (new ≡ old)) (λ place. Acts (act answer) at place old new)
+
+  -- that happens to the link with this number, and to no other
+  abbrev pub HappensToLink : (known : F → Option Readiness) → Happening → (number : ℕ) → Seats F → Seats F → Type 0
+  HappensToLink known happening number old new =
+      AtEach (λ at mid. ActsAt (HappensIf known happening number (IsFull mid)) at mid) (length old.places.items) old new
 
   -- all connections are ended for this reason, one after another
   abbrev pub EndsAll : (known : F → Option Readiness) → Parting → Seats F → Seats F → Type 0
@@ -116,6 +123,32 @@ module _ {F : Type 0} where
       (before now : Instant) (watch later : Watch) (old new : Seats F) (old_rests new_rests : R) → Type 0
   AsksUnheard known sends nanos before now watch later old new old_rests new_rests =
       (linger : Duration) × ((as_nanos linger ≡ nanos) × LooksInTurn known sends (AskUnheard linger) before now watch later old new old_rests new_rests)
+
+  -- Links are looked at that weren't heard of between two polls: idle ones are ended for this reason, and then
+  -- unheard ones are asked again, each by its watch.
+  pub record LooksAround {R : Type 0} (known : F → Option Readiness) (sends : R → ℕ → R → Type 0) (parting : Parting)
+      (before now : Instant) (idle later_idle unheard later_unheard : Option Watch) (old new : Seats F)
+      (old_rests new_rests : R) : Type 0 where
+    pub mid : Seats F
+    pub rests : R
+    pub ends : ByWatch (LooksInTurn known sends (EndIdle parting) before now) idle later_idle old mid old_rests rests
+    pub asks : ByWatch (AsksUnheard known sends 2_000_000_000 before now) unheard later_unheard mid new rests new_rests
+
+  -- a link that is handed out has the next number, and nothing else counts as one
+  abbrev pub HandsOut : {A : Type 0} → Option A → Seats F → Seats F → Type 0
+  HandsOut None old new = new.given ≡ old.given
+  HandsOut (Some link) old new = new.given ≡ (old.given + 1) % 2 ^ 64
+
+  -- the next link counts if it is one
+  abbrev pub CountsNext : {A : Type 0} → Next A → Seats F → Seats F → Type 0
+  CountsNext (Link link) old new = HandsOut (Some link) old new
+  CountsNext Later old new = new.given ≡ old.given
+  CountsNext Closed old new = new.given ≡ old.given
+
+  -- the oldest name is taken, and nothing else changes
+  pub record Names (name : Option ℕ) (old new : Seats F) : Type 0 where
+    pub names : old.named.items ≡ option_to_list name ++ new.named.items
+    pub same : new ≡ record old { named = new.named }
 
   -- a link gets a place: its record has the next number, and stands there or behind all others
   pub record Settles (at : ℕ) (cell : F) (old new : Seats F) : Type 0 where

@@ -1,12 +1,8 @@
 -- Streams of bytes below connections.
-use Rattle.std.specs.Prelude.{◌≡◌, ◌≢◌, ◌<◌, ◌≤◌, ℕ, List, ◌++◌, length, take, Option, None, option_map, Result, Ok, Err}
-use Rattle.std.specs.IoError.{error_kind}
-use Rattle.std.specs.declared.io.Error.{Error}
-use Rattle.std.specs.declared.io.ErrorKind.TheVariants as io_kind
+use Rattle.std.specs.Prelude.{◌≡◌, ◌≤◌, ℕ, List, ◌++◌, length, take, Option, None, option_map}
 use Rattle.mc_links.specs.Links.{grown}
 use Rattle.mc_time.specs.Chains.{Repeats}
-use Rattle.mc_sockets.specs.declared.stream.Hindrance.{Hindrance}
-use Rattle.mc_sockets.specs.declared.stream.Hindrance.TheVariants.{WouldBlock, Interrupted, Fault}
+use Rattle.mc_sockets.specs.declared.stream.Hindrance.TheVariants.{Interrupted}
 use Rattle.mc_sockets.specs.declared.stream.Received.{Received}
 use Rattle.mc_sockets.specs.declared.stream.Received.TheVariants as received
 use Rattle.mc_sockets.specs.declared.stream.Sent.{Sent}
@@ -69,20 +65,3 @@ IsReadAgain receives piece =
 abbrev pub IsWrittenAgain : {S : Type 0} → (S → List ℕ → Sent → S → Type 0) → List ℕ → S → Sent → S → Type 0
 IsWrittenAgain sends bytes =
     IsRetried (λ old answer new. sends old bytes answer new) (λ old answer new. sends old bytes answer new) (sent.Hindered Interrupted)
-
--- what an error of the system says of a call: that it would block, that a signal interrupted it, or
--- that the stream failed
-pub record IsHindrance (error : Error) (hindrance : Hindrance) : Type 0 where
-  pub waits : error_kind error ≡ io_kind.WouldBlock → hindrance ≡ WouldBlock
-  pub again : error_kind error ≡ io_kind.Interrupted → hindrance ≡ Interrupted
-  pub fails : error_kind error ≢ io_kind.WouldBlock → error_kind error ≢ io_kind.Interrupted → hindrance ≡ Fault
-
--- the answer of the system to a read: no byte is the end of the stream
-abbrev pub IsReceived : Result ℕ Error → Received → Type 0
-IsReceived (Ok n) answer = (n ≡ 0 → answer ≡ received.End) × (0 < n → answer ≡ received.Bytes n)
-IsReceived (Err error) answer = (hindrance : Hindrance) × IsHindrance error hindrance × (answer ≡ received.Hindered hindrance)
-
--- the answer of the system to a write
-abbrev pub IsSent : Result ℕ Error → Sent → Type 0
-IsSent (Ok n) answer = answer ≡ sent.Bytes n
-IsSent (Err error) answer = (hindrance : Hindrance) × IsHindrance error hindrance × (answer ≡ sent.Hindered hindrance)

@@ -1,5 +1,5 @@
 -- Which places are looked at, and when.
-use Rattle.std.specs.Prelude.{ℕ, Bool, ◌+◌, ◌-◌, ◌*◌, ◌/◌, ◌^◌, nat_lt, min, max, if◌then◌else◌, Option, Some, None}
+use Rattle.std.specs.Prelude.{ℕ, Bool, ◌+◌, ◌-◌, ◌*◌, ◌/◌, ◌^◌, nat_lt, min, max, if◌then◌else◌, MatchBool, Option, Some, None}
 use Rattle.std.specs.Time.{instant_nanos}
 use Rattle.std.specs.declared.time.Instant.{Instant}
 
@@ -40,3 +40,9 @@ ticked_after (Some ticked) now = if nat_lt (instant_nanos now - instant_nanos ti
 -- the place in turn, behind the last: the first again behind all
 abbrev pub turn : (at places : ℕ) → ℕ
 turn at places = if nat_lt at places then at else 0
+
+-- That is done behind a poll that reported so many events, if there were no others: it may report more. The first poll has none
+-- before it, and then nothing is done.
+abbrev pub IfAllHeard : (heard most : ℕ) (polled : Option Instant) (done : Instant → Type 0) (nothing : Type 0) → Type 0
+IfAllHeard heard most None done nothing = nothing
+IfAllHeard heard most (Some before) done nothing = MatchBool (nat_lt heard most) (done before) nothing

@@ -1,5 +1,7 @@
 //! Accepts connections, and deals them to the workers.
 
+ghost use Rattle.std.specs.Prelude.{◌≡◌, true, Ok, IfSome};
+
 use crate::arrivals::Arrivals;
 use crate::connection::{Connection, Crowd, Parting};
 use crate::remedy::{Remedy, remedy_for};
@@ -222,10 +224,45 @@ impl ListenerWithSpare {
         stream: std::net::TcpStream,
         peer: SocketAddr,
     ) -> Option<Connection> {
-        stream.set_nonblocking(true).ok()?;
+        let stream = unblocked(stream)?;
         let crowd = self.crowd.clone().ok()?;
         let stream = TcpStream::from_std(stream);
         Some(Connection::new(crowd, stream, peer))
+    }
+}
+
+/// A stream whose calls may wait, or never do.
+trait Blocking {
+    ghost use Rattle.std.specs.Prelude.{Bool, Result};
+    ghost use Rattle.std.specs.declared.io.Error.{Error};
+
+    /// It was set whether its calls never wait, and that was answered.
+    ghost sets: { Self → Bool → Result (Unit {0}) Error → Type 0 };
+
+    /// Sets whether its calls never wait.
+    fn set_nonblocking(&self, is_nonblocking: bool) -> io::Result<()>
+        ensures { sets self.now is_nonblocking result };
+}
+
+/// A socket. What the system sets is unspecified.
+impl Blocking for std::net::TcpStream {
+    ghost use Rattle.std.specs.Prelude.{⊤};
+
+    ghost sets = { λ _ _ _. ⊤ };
+
+    fn set_nonblocking(&self, is_nonblocking: bool) -> io::Result<()> {
+        std::net::TcpStream::set_nonblocking(self, is_nonblocking)
+    }
+}
+
+/// Returns the stream once its calls never wait, or `None` if the system can't set that.
+fn unblocked<S: Blocking + Drop>(stream: S) -> Option<S>
+    ensures { IfSome result (λ set. (set ≡ stream)
+        × (answer : Unit {0}) × S.sets stream true (Ok answer)) }
+{
+    match stream.set_nonblocking(true) {
+        Ok(()) => Some(stream),
+        Err(_) => None,
     }
 }
 

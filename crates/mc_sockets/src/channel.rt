@@ -10,6 +10,7 @@ ghost use Rattle.mc_sockets.specs.Streams.{MovesIn, MovesOut};
 
 use crate::connection::{Parting, Registration};
 use crate::dropping::drop_input;
+use crate::io_stream::IoStream;
 use crate::meter::{Meter, SharedMeter};
 use crate::readiness::{Readiness, ReadinessCell, SharedReadiness};
 use crate::screen::{Peer, Screen};
@@ -51,7 +52,7 @@ struct Calls {
 pub type ScreenedChannel = Screen<SocketChannel>;
 
 /// The channel of a socket, whose readiness and meter its worker shares.
-pub type SocketChannel = Channel<TcpStream, SharedReadiness, SharedMeter>;
+pub type SocketChannel = Channel<IoStream<TcpStream>, SharedReadiness, SharedMeter>;
 
 impl<S: Stream + Drop, F: ReadinessCell + Drop, M: Meter + Drop> Channel<S, F, M> {
     ghost use Rattle.std.specs.Prelude.{◌<◌, ◌-◌, ◌^◌, IsErr};
@@ -248,7 +249,7 @@ impl<S: Stream + Drop, F: ReadinessCell + Drop, M: Meter + Drop> Peer for Channe
     }
 }
 
-impl Channel<TcpStream, SharedReadiness, SharedMeter> {
+impl Channel<IoStream<TcpStream>, SharedReadiness, SharedMeter> {
     /// Shuts down the write side, drops what the client sent, and returns whether that was all.
     ///
     /// A connection that is closed with unread input is reset, and its client may lose answers. It
@@ -264,10 +265,7 @@ impl Channel<TcpStream, SharedReadiness, SharedMeter> {
     /// Notes that the link was dropped: the connection lingers.
     pub fn leave(&self) {
         self.entry.linger();
-        self.readiness.set(Readiness {
-            leaves: true,
-            ..self.readiness.get()
-        });
+        self.readiness.set(self.readiness.get().leaving());
     }
 
     /// Shuts down the write side, unless it was before.
@@ -275,7 +273,7 @@ impl Channel<TcpStream, SharedReadiness, SharedMeter> {
         let known = self.readiness.get();
         if known.dropped.is_none() {
             // if that fails, the next read reports why
-            let _ = self.stream.shutdown(Shutdown::Write);
+            let _ = self.stream.get().shutdown(Shutdown::Write);
             self.readiness.set(Readiness {
                 dropped: Some(0),
                 ..known
@@ -290,7 +288,7 @@ impl Channel<TcpStream, SharedReadiness, SharedMeter> {
             Some(before) => before,
             None => 0,
         };
-        let mut stream = &self.stream;
+        let mut stream = IoStream::new(self.stream.get());
         let dropped = drop_input(&mut stream, before);
         let bytes = dropped.bytes.saturating_sub(before);
         self.meter.add(Counted::Received, bytes);

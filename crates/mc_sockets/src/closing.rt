@@ -3,6 +3,9 @@
 //! While the program ends, idle connections end by the way of `--idle-timeout`, after 1 second.
 //! Workers and links know nothing else of the shutdown.
 
+ghost use Rattle.std.specs.Prelude.{◌≡◌, None};
+ghost use Rattle.mc_sockets.specs.declared.connection.Parting.{Parting as Reason};
+
 use crate::arrivals::Arrivals;
 use crate::link::SocketLink;
 use crate::links::SocketLinks;
@@ -32,18 +35,32 @@ impl<'a, R: Wait + Clock> ClosingLinks<'a, R> {
             is_closing: false,
         }
     }
-}
 
-impl<'a, R: Wait + Clock> Links<SocketLink> for ClosingLinks<'a, R> {
-    fn next(&mut self) -> Next<SocketLink> {
+    /// Closes connections that are idle, from when the program is asked to end.
+    fn heed_end(&mut self)
+        ensures { self.new.links.seats ≡ self.old.links.seats }
+    {
         if !self.is_closing && self.arrivals.is_closing() {
             self.is_closing = true;
             self.links.stop_idle(QUIET);
         }
+    }
+}
+
+impl<'a, R: Wait + Clock> Links<SocketLink> for ClosingLinks<'a, R> {
+    ghost use Rattle.mc_sockets.specs.Seats.{CountsNext, HappensToLink, Names};
+    ghost use Rattle.mc_sockets.specs.Readiness.{AskedAgain, Ended};
+
+    fn next(&mut self) -> Next<SocketLink>
+        ensures { CountsNext result self.old.links.seats self.new.links.seats }
+    {
+        self.heed_end();
         self.links.next()
     }
 
-    fn ready(&mut self) -> Option<u64> {
+    fn ready(&mut self) -> Option<u64>
+        ensures { Names result self.old.links.seats self.new.links.seats }
+    {
         self.links.ready()
     }
 
@@ -51,11 +68,16 @@ impl<'a, R: Wait + Clock> Links<SocketLink> for ClosingLinks<'a, R> {
         self.links.rest()
     }
 
-    fn end(&mut self, number: u64) {
+    fn end(&mut self, number: u64)
+        ensures { HappensToLink (λ _. None) (Ended Reason.Hoarding) number self.old.links.seats
+            self.new.links.seats }
+    {
         self.links.end(number)
     }
 
-    fn ticks(&mut self) -> u64 {
+    fn ticks(&mut self) -> u64
+        ensures { result ≡ self.old.links.ticks }
+    {
         self.links.ticks()
     }
 
@@ -67,7 +89,10 @@ impl<'a, R: Wait + Clock> Links<SocketLink> for ClosingLinks<'a, R> {
         self.links.look()
     }
 
-    fn ask_again(&mut self, number: u64) {
+    fn ask_again(&mut self, number: u64)
+        ensures { HappensToLink (λ _. None) AskedAgain number self.old.links.seats
+            self.new.links.seats }
+    {
         self.links.ask_again(number)
     }
 }

@@ -228,6 +228,9 @@ impl Crowd {
         }
         if let Some(log) = &self.log {
             log.say(LogLine::Closed { number, parting });
+            if matches!(parting, Parting::OutOfMemory | Parting::NoRoom) {
+                log.note_starved();
+            }
         }
     }
 }

@@ -1,11 +1,13 @@
 //! Links over sockets.
 //!
 //! A socket's link shows no bytes to contracts: the system's calls return counts only. Contracts
-//! see how often it failed and whether it is at its end.
+//! see how often it failed, whether it is at its end, and what is gathered for it.
+ghost use Rattle.std.specs.Prelude.{◌≡◌};
+ghost use Rattle.mc_sockets.specs.Offers.{OffersAll};
 
 use crate::channel::{ScreenedChannel, SocketChannel};
 use crate::screen::Screen;
-use crate::yard::SocketYard;
+use crate::yard::{SocketYard, offer_all};
 use mc_links::{Gathering, Got, Link, LinkFault, Took};
 use std::alloc::{AllocFailed, Global};
 use std::cell::RefCell;
@@ -52,7 +54,10 @@ impl SocketLink {
 }
 
 impl Link for SocketLink {
+    ghost use Rattle.std.specs.Prelude.{◌-◌, ◌^◌, OnOk};
     ghost use Rattle.mc_links.specs.Gathered.{whole};
+    ghost use Rattle.mc_links.specs.Links.{Pauses};
+    ghost use Rattle.mc_sockets.specs.Offers.{IsOffered};
 
     ghost shown = { λ s. whole s.parts.value.gathering };
 
@@ -64,7 +69,13 @@ impl Link for SocketLink {
         self.parts.gathering.try_write(bytes)
     }
 
-    fn pause(&mut self) -> Result<(), LinkFault> {
+    /// Sends what is gathered, as far as the system takes it, and pauses its channel.
+    fn pause(&mut self) -> Result<(), LinkFault>
+        ensures pauses { Pauses (whole self.old.parts.value.gathering) result
+            (whole self.new.parts.value.gathering) }
+        ensures offered { (self.old.parts.value.gathering.link.faults ≡ 2 ^ 64 - 1 → ⊥) →
+            OnOk result (IsOffered self.new.parts.value.gathering) }
+    {
         self.parts.gathering.pause()
     }
 
@@ -87,10 +98,7 @@ impl Link for SocketLink {
 
 impl Drop for LinkParts {
     fn drop(mut self) {
-        if self.gathering.faults() == 0 {
-            // if that fails, the client no longer reads
-            let _ = self.gathering.flush();
-        }
+        offer_rest(&mut self.gathering);
         let LinkParts {
             gathering,
             place,
@@ -100,5 +108,15 @@ impl Drop for LinkParts {
             // without memory it is closed
             let _ = yard.take_in(place, gathering);
         }
+    }
+}
+
+/// Offers the link below what is gathered for it, unless it failed.
+fn offer_rest<L: Link + Drop>(gathering: &mut Gathering<L>)
+    ensures offers { gathering.old.link.faults ≡ 0 → OffersAll gathering.old gathering.new }
+    ensures failed { (gathering.old.link.faults ≡ 0 → ⊥) → gathering.new ≡ gathering.old }
+{
+    if gathering.faults() == 0 {
+        offer_all(gathering);
     }
 }

@@ -11,14 +11,16 @@ use crate::arrivals::{Arrivals, Share};
 use crate::channel::Channel;
 use crate::connection::{Connection, Parting};
 use crate::idle::Watch;
+use crate::io_stream::IoStream;
 use crate::link::SocketLink;
 use crate::meter::SharedMeter;
 use crate::readiness::{Readiness, SharedReadiness};
-use crate::seats::{Patrol, Rests, Seats, token_of};
+use crate::registering::register_at;
+use crate::seats::{Patrol, Rests, Seats};
 use crate::yard::SocketYard;
 use mc_links::{Links, Next};
 use mc_metrics::Counters;
-use mio::{Events, Interest, Poll, Token};
+use mio::{Events, Poll, Token};
 use std::alloc::Global;
 use std::cell::{Cell, RefCell};
 use std::mem;
@@ -137,8 +139,10 @@ pub struct SocketLinks<'a, R: Wait + Clock> {
 }
 
 impl<'a, R: Wait + Clock> SocketLinks<'a, R> {
-    ghost use Rattle.mio.specs.Events.{items};
-    ghost use Rattle.mc_sockets.specs.Seats.{AreHeard, AsksUnheard, ByWatch, EndsAll, Hears, LooksInTurn};
+    ghost use Rattle.mio.specs.Events.{items, capacity};
+    ghost use Rattle.mc_sockets.specs.Seats.{AreHeard, AsksUnheard, ByWatch, EndsAll, HandsOut};
+    ghost use Rattle.mc_sockets.specs.Seats.{Hears, LooksAround, LooksInTurn};
+    ghost use Rattle.mc_sockets.specs.Watches.{IfAllHeard};
 
     /// Returns links without a connection, which count what they move. It takes no memory.
     pub fn new(
@@ -174,15 +178,16 @@ impl<'a, R: Wait + Clock> SocketLinks<'a, R> {
     }
 
     /// Closes connections that were idle for `seconds`, because the program was asked to end.
-    pub fn stop_idle(&mut self, seconds: u32) {
+    pub fn stop_idle(&mut self, seconds: u32)
+        ensures { self.new ≡ record self.old { watch = self.new.watch; quiet = Reason.Stopped } }
+    {
         self.watch = Watch::new(seconds);
         self.quiet = Parting::Stopped;
     }
 
     /// Polls the system for events, and waits at most `timeout` for the first.
     ///
-    /// It reads the clock once. The poll reports all events up to the return of the poll before, so
-    /// a link that had none is idle until then.
+    /// It reads the clock once.
     fn wait_for_events(&mut self, timeout: Duration) {
         if let Some(common) = &self.common {
             common.moved.set(0);
@@ -193,15 +198,52 @@ impl<'a, R: Wait + Clock> SocketLinks<'a, R> {
         let Ok(now) = Instant::now(self.rt) else {
             return;
         };
+        self.note_poll(heard, now);
+    }
+
+    /// Notes that a poll returned at `now` and reported `heard` events: it counts ticks, and looks
+    /// at links that weren't heard of.
+    ///
+    /// The poll reports all events up to the return of the poll before, so a link that had none is
+    /// idle until then.
+    fn note_poll(&mut self, heard: usize, now: Instant)
+        ensures ticks { self.new.ticks ≡ ticks_after self.old.ticked self.old.ticks now }
+        ensures ticked { self.new.ticked ≡ Some (ticked_after self.old.ticked now) }
+        ensures polled { self.new.polled ≡ Some now }
+        ensures looks { IfAllHeard heard (capacity self.old.poller.events) self.old.polled
+            (λ before. LooksAround (λ _. None) (λ _ _ _. ⊤) self.old.quiet before now
+            self.old.watch self.new.watch self.old.unheard self.new.unheard
+            self.old.seats self.new.seats self.old.common self.new.common)
+            (self.new ≡ record self.old {
+              ticks = self.new.ticks;
+              ticked = self.new.ticked;
+              polled = self.new.polled;
+            }) }
+    {
         self.count_ticks(now);
         let before = mem::replace(&mut self.polled, Some(now));
         // if there are fewer than one poll may return, there were no others
         if let Some(before) = before
             && heard < self.poller.events.capacity()
         {
-            self.end_idle(before, now);
-            self.ask_unheard(before, now);
+            self.look_around(before, now);
         }
+    }
+
+    /// Looks at links that weren't heard of between two polls, by the watches.
+    fn look_around(&mut self, before: Instant, now: Instant)
+        ensures looks { LooksAround (λ _. None) (λ _ _ _. ⊤) self.old.quiet before now
+            self.old.watch self.new.watch self.old.unheard self.new.unheard
+            self.old.seats self.new.seats self.old.common self.new.common }
+        ensures same { self.new ≡ record self.old {
+          watch = self.new.watch;
+          unheard = self.new.unheard;
+          seats = self.new.seats;
+          common = self.new.common;
+        } }
+    {
+        self.end_idle(before, now);
+        self.ask_unheard(before, now);
     }
 
     /// Polls the system, waits at most `timeout` for the first event, and notes each in the books.
@@ -240,9 +282,14 @@ impl<'a, R: Wait + Clock> SocketLinks<'a, R> {
 
     /// Closes connections in turn that were idle for too long before the last poll.
     fn end_idle(&mut self, before: Instant, now: Instant)
-        ensures { ByWatch (LooksInTurn (λ _. None) (λ _ _ _. ⊤) (Patrol.EndIdle self.old.quiet)
-            before now) self.old.watch self.new.watch self.old.seats self.new.seats
-            self.old.common self.new.common }
+        ensures looks { ByWatch (LooksInTurn (λ _. None) (λ _ _ _. ⊤)
+            (Patrol.EndIdle self.old.quiet) before now) self.old.watch self.new.watch
+            self.old.seats self.new.seats self.old.common self.new.common }
+        ensures same { self.new ≡ record self.old {
+          watch = self.new.watch;
+          seats = self.new.seats;
+          common = self.new.common;
+        } }
     {
         if let Some(watch) = &mut self.watch {
             let patrol = Patrol::EndIdle(self.quiet);
@@ -255,9 +302,14 @@ impl<'a, R: Wait + Clock> SocketLinks<'a, R> {
     ///
     /// It closes those that have lingered for `LINGER`.
     fn ask_unheard(&mut self, before: Instant, now: Instant)
-        ensures { ByWatch (AsksUnheard (λ _. None) (λ _ _ _. ⊤) 2_000_000_000 before now)
+        ensures looks { ByWatch (AsksUnheard (λ _. None) (λ _ _ _. ⊤) 2_000_000_000 before now)
             self.old.unheard self.new.unheard self.old.seats self.new.seats self.old.common
             self.new.common }
+        ensures same { self.new ≡ record self.old {
+          unheard = self.new.unheard;
+          seats = self.new.seats;
+          common = self.new.common;
+        } }
     {
         let patrol = Patrol::AskUnheard(Duration::from_secs(LINGER));
         if let Some(watch) = &mut self.unheard {
@@ -266,9 +318,20 @@ impl<'a, R: Wait + Clock> SocketLinks<'a, R> {
         }
     }
 
-    /// Makes a link of a connection. It is closed if it can't be registered, or if memory is
-    /// refused.
-    fn open(&mut self, connection: Connection) -> Option<SocketLink> {
+    /// Makes a link of a connection, which has the next number. The connection is closed if it
+    /// can't be registered, or if memory is refused.
+    fn open(&mut self, connection: Connection) -> Option<SocketLink>
+        ensures { HandsOut result self.old.seats self.new.seats }
+    {
+        let link = self.link_of(connection)?;
+        self.seats.hand_out();
+        Some(link)
+    }
+
+    /// Makes a link of a connection, which isn't counted yet.
+    fn link_of(&mut self, connection: Connection) -> Option<SocketLink>
+        ensures { self.new.seats.given ≡ self.old.seats.given }
+    {
         let mut connection = connection;
         // an answer is sent at once; if that can't be set, it comes later
         let _ = connection.stream.set_nodelay(true);
@@ -278,10 +341,7 @@ impl<'a, R: Wait + Clock> SocketLinks<'a, R> {
         let LinkContext { yard, moved } = self.shared_parts(lingering)?;
         let meter = SharedMeter::new(moved, counts);
         let at = self.settle(&yard, readiness.clone().ok()?)?;
-        let all = Interest::READABLE | Interest::WRITABLE | Interest::PRIORITY;
-        let token = Token(token_of(at));
-        let stream = &mut connection.stream;
-        let registered = self.poller.poll.registry().register(stream, token, all);
+        let registered = register_at(self.poller.poll.registry(), &mut connection.stream, at);
         if registered.is_ok() {
             connection.entry.note(Parting::SessionOver);
         }
@@ -293,10 +353,9 @@ impl<'a, R: Wait + Clock> SocketLinks<'a, R> {
             });
         }
         let Connection { stream, entry } = connection;
-        let channel = Channel::new(stream, entry, readiness, meter);
+        let channel = Channel::new(IoStream::new(stream), entry, readiness, meter);
         let link = SocketLink::new(self.alloc, channel, at, yard)?;
         registered.ok()?;
-        self.seats.hand_out();
         Some(link)
     }
 
@@ -305,7 +364,9 @@ impl<'a, R: Wait + Clock> SocketLinks<'a, R> {
         &mut self,
         yard: &Rc<RefCell<SocketYard>>,
         readiness: SharedReadiness,
-    ) -> Option<usize> {
+    ) -> Option<usize>
+        ensures { self.new.seats.given ≡ self.old.seats.given }
+    {
         self.seats.reserve().ok()?;
         let mut yard = yard.try_borrow_mut().ok()?;
         let at = yard.take_place()?;
@@ -317,7 +378,9 @@ impl<'a, R: Wait + Clock> SocketLinks<'a, R> {
     }
 
     /// Returns what the links share, and makes it for the first one: this many may linger.
-    fn shared_parts(&mut self, lingering: usize) -> Option<LinkContext> {
+    fn shared_parts(&mut self, lingering: usize) -> Option<LinkContext>
+        ensures { self.new ≡ record self.old { common = self.new.common } }
+    {
         if let Some(common) = &self.common {
             return common.another();
         }
@@ -333,6 +396,7 @@ impl<'a, R: Wait + Clock> SocketLinks<'a, R> {
         ensures later { IsTrue gave → (result ≡ Next.Later) × (self.new ≡ self.old) }
         ensures closed { IsFalse gave → (result ≡ Next.Closed) × (parting : Reason) ×
             EndsAll (λ _. None) parting self.old.seats self.new.seats }
+        ensures given { self.new.seats.given ≡ self.old.seats.given }
     {
         if gave {
             return Next::Later;
@@ -362,7 +426,12 @@ fn ticks_in(time: Duration) -> u64
 }
 
 impl<'a, R: Wait + Clock> Links<SocketLink> for SocketLinks<'a, R> {
-    fn next(&mut self) -> Next<SocketLink> {
+    ghost use Rattle.mc_sockets.specs.Seats.{CountsNext, HappensToLink, Names};
+    ghost use Rattle.mc_sockets.specs.Readiness.{AskedAgain, Ended};
+
+    fn next(&mut self) -> Next<SocketLink>
+        ensures { CountsNext result self.old.seats self.new.seats }
+    {
         let gave = mem::replace(&mut self.gave, false);
         for _one in 0..PASSED {
             let Some(connection) = self.arrivals.pop(self.rt, &mut self.share) else {
@@ -379,7 +448,9 @@ impl<'a, R: Wait + Clock> Links<SocketLink> for SocketLinks<'a, R> {
         Next::Later
     }
 
-    fn ready(&mut self) -> Option<u64> {
+    fn ready(&mut self) -> Option<u64>
+        ensures { Names result self.old.seats self.new.seats }
+    {
         self.seats.ready()
     }
 
@@ -389,11 +460,16 @@ impl<'a, R: Wait + Clock> Links<SocketLink> for SocketLinks<'a, R> {
         self.arrivals.end_rest(&self.share);
     }
 
-    fn end(&mut self, number: u64) {
+    fn end(&mut self, number: u64)
+        ensures { HappensToLink (λ _. None) (Ended Reason.Hoarding) number self.old.seats
+            self.new.seats }
+    {
         self.seats.end(number, Parting::Hoarding);
     }
 
-    fn ticks(&mut self) -> u64 {
+    fn ticks(&mut self) -> u64
+        ensures { result ≡ self.old.ticks }
+    {
         self.ticks
     }
 
@@ -409,7 +485,9 @@ impl<'a, R: Wait + Clock> Links<SocketLink> for SocketLinks<'a, R> {
         self.wait_for_events(Duration::ZERO);
     }
 
-    fn ask_again(&mut self, number: u64) {
+    fn ask_again(&mut self, number: u64)
+        ensures { HappensToLink (λ _. None) AskedAgain number self.old.seats self.new.seats }
+    {
         self.seats.ask_again(number);
     }
 }

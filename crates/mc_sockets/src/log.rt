@@ -5,7 +5,7 @@ use crate::shortage::{Shortage, Wanted};
 use crate::warning::{Warning, Warnings};
 use mc_protocol::KeyStep;
 use std::alloc::{AllocError, Global};
-use std::sync::atomic::{AtomicU32, Ordering};
+use std::sync::atomic::{AtomicBool, AtomicU32, Ordering};
 use std::sync::{Arc, Wait};
 use std::thread::Parker;
 use std::time::{Clock, Duration, Instant};
@@ -26,6 +26,8 @@ pub struct Log {
     tells_connections: bool,
     shortage: Shortage,
     warnings: Warnings,
+    /// Whether a connection was closed for want of memory since the logger last looked.
+    starved: AtomicBool,
     /// The threads that may still write lines.
     speakers: AtomicU32,
     logger: Parker,
@@ -45,6 +47,7 @@ impl Log {
             tells_connections,
             shortage: Shortage::new(),
             warnings: Warnings::new(Instant::now(rt).ok()),
+            starved: AtomicBool::new(false),
             speakers: AtomicU32::new(1),
             logger: Parker::new(),
         };
@@ -81,6 +84,18 @@ impl Log {
         if self.warnings.is_due(rt, warning) {
             self.push(LogLine::Warned(warning));
         }
+    }
+
+    /// Notes a connection that is closed for want of memory, and wakes the logger, which has the
+    /// clock for a warning.
+    pub fn note_starved(&self) {
+        self.starved.store(true, Ordering::SeqCst);
+        self.logger.unpark();
+    }
+
+    /// Returns whether a connection was closed for want of memory since the last call.
+    pub fn take_starved(&self) -> bool {
+        self.starved.swap(false, Ordering::SeqCst)
     }
 
     /// Appends a line, or drops it if too many wait. It never waits.

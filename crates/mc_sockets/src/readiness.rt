@@ -7,7 +7,7 @@
 //!
 //! A link that answers `Later` waits, and the next event names it. By [`no_wake_up_is_lost`] each
 //! change for which a link waits is reported.
-ghost use Rattle.std.specs.Prelude.{◌≡◌};
+ghost use Rattle.std.specs.Prelude.{◌≡◌, true};
 ghost use Rattle.mc_sockets.specs.Readiness.{after, going, report_of, takes_all};
 ghost use Rattle.mc_sockets.specs.Places.{waits_for_client};
 ghost use Rattle.mc_sockets.specs.Readiness.{Read, Wrote, Paused, Reported, AskedAgain, Ended};
@@ -195,6 +195,16 @@ impl Readiness {
             reads: self.reads || asks,
             writes: self.writes || asks,
             waits: false,
+            ..self
+        }
+    }
+
+    /// Returns what is known once its link was dropped: each event then sends what the link left.
+    pub fn leaving(self) -> Readiness
+        ensures { result ≡ record self { leaves = true } }
+    {
+        Readiness {
+            leaves: true,
             ..self
         }
     }

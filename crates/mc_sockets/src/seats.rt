@@ -3,7 +3,7 @@
 //! They are proved for any readiness: each event of a poll is noted once, at the place of its token
 //! and no other, a link is ended by its own number, and a look changes the place alone that it is
 //! at. What the poll reports, and when, is unspecified (`links.rt`).
-ghost use Rattle.std.specs.Prelude.{◌≡◌, ◌<◌, ◌≤◌, ◌+◌, ◌-◌, ◌^◌, ◌++◌, [], length, option_to_list};
+ghost use Rattle.std.specs.Prelude.{◌≡◌, ◌<◌, ◌≤◌, ◌+◌, ◌-◌, ◌^◌, [], length};
 ghost use Rattle.std.specs.Prelude.{IsTrue, IsFalse, MatchBool, OnOk};
 
 use crate::connection::Parting;
@@ -55,9 +55,9 @@ impl<F: ReadinessCell + Drop> Seats<F> {
     ghost use Rattle.mc_sockets.specs.Places.{AsksOrCloses, EndsIfIdle, HappensIf, HappensTo};
     ghost use Rattle.mc_sockets.specs.Places.{Notes};
     ghost use Rattle.mc_sockets.specs.Readiness.{AskedAgain, Ended};
-    ghost use Rattle.mc_sockets.specs.Seats.{ActsAt, AnswersAt, AreHeard, AtEach, HasRoom, Hears};
-    ghost use Rattle.mc_sockets.specs.Seats.{EndsAll, IsFull, LooksAtNext, LooksInTurn, Patrols};
-    ghost use Rattle.mc_sockets.specs.Seats.{Settles, sweep};
+    ghost use Rattle.mc_sockets.specs.Seats.{ActsAt, AnswersAt, AreHeard, HasRoom, Hears};
+    ghost use Rattle.mc_sockets.specs.Seats.{EndsAll, HappensToLink, IsFull, LooksAtNext};
+    ghost use Rattle.mc_sockets.specs.Seats.{LooksInTurn, Names, Patrols, Settles, sweep};
     ghost use Rattle.mio.specs.Events.{items};
 
     /// Makes books without a place. It takes no memory.
@@ -82,8 +82,7 @@ impl<F: ReadinessCell + Drop> Seats<F> {
 
     /// Takes the name of a link that may go on: the oldest.
     pub fn ready(&mut self) -> Option<u64>
-        ensures names { self.old.named.items ≡ option_to_list result ++ self.new.named.items }
-        ensures same { self.new ≡ record self.old { named = self.new.named } }
+        ensures { Names result self.old self.new }
     {
         self.named.pop_front()
     }
@@ -107,6 +106,7 @@ impl<F: ReadinessCell + Drop> Seats<F> {
         ensures settles { IsTrue result → Settles at readiness self.old self.new }
         ensures succeeds { at ≤ length self.old.places.items → HasRoom self.old → IsTrue result }
         ensures refused { IsFalse result → self.new.places.items ≡ self.old.places.items }
+        ensures given { self.new.given ≡ self.old.given }
     {
         let place = LinkRecord::new(self.given, readiness);
         if let Some(one) = self.places.get_mut(at) {
@@ -165,8 +165,7 @@ impl<F: ReadinessCell + Drop> Seats<F> {
 
     /// Ends the link with this number for this reason, and names it if it waits.
     pub fn end(&mut self, number: u64, parting: Parting)
-        ensures { AtEach (λ at mid. ActsAt (HappensIf F.known (Ended parting) number (IsFull mid))
-            at mid) (length self.old.places.items) self.old self.new }
+        ensures { HappensToLink F.known (Ended parting) number self.old self.new }
     {
         for at in 0..self.places.len() {
             self.end_at(at, number, parting);
@@ -186,7 +185,8 @@ impl<F: ReadinessCell + Drop> Seats<F> {
 
     /// Ends all links for this reason, and names those that wait.
     pub fn end_all(&mut self, parting: Parting)
-        ensures { EndsAll F.known parting self.old self.new }
+        ensures ends { EndsAll F.known parting self.old self.new }
+        ensures given { self.new.given ≡ self.old.given }
     {
         for at in 0..self.places.len() {
             self.end_whose(at, parting);
@@ -195,8 +195,9 @@ impl<F: ReadinessCell + Drop> Seats<F> {
 
     /// Ends the link at a place.
     fn end_whose(&mut self, at: usize, parting: Parting)
-        ensures { ActsAt (HappensTo F.known (Ended parting) (IsFull self.old)) at self.old
+        ensures ends { ActsAt (HappensTo F.known (Ended parting) (IsFull self.old)) at self.old
             self.new }
+        ensures given { self.new.given ≡ self.old.given }
     {
         match self.places.get_mut(at) {
             Some(place) => {
@@ -208,8 +209,7 @@ impl<F: ReadinessCell + Drop> Seats<F> {
 
     /// Names the link with this number if it waits, so that it is asked again.
     pub fn ask_again(&mut self, number: u64)
-        ensures { AtEach (λ at mid. ActsAt (HappensIf F.known AskedAgain number (IsFull mid)) at
-            mid) (length self.old.places.items) self.old self.new }
+        ensures { HappensToLink F.known AskedAgain number self.old self.new }
     {
         for at in 0..self.places.len() {
             self.ask_again_at(at, number);

@@ -2,13 +2,9 @@
 //!
 //! A stream reads and writes, or answers that it would block. Contracts see its bytes if they can
 //! be known: those of a socket are unspecified, those of a stream in memory are known. What stands
-//! above is proved for any stream.
-ghost use Rattle.std.specs.Prelude.{◌≡◌, ◌↔◌, ◌+◌, ◌≤◌, ◌++◌, length, IfOk, IsTrue};
+//! above is proved for any stream, and `io_stream.rt` has the stream of a socket.
+ghost use Rattle.std.specs.Prelude.{◌≡◌, ◌↔◌, ◌++◌, IsTrue};
 ghost use Rattle.mc_sockets.specs.Streams.{MovesIn, MovesOut, IsReadAgain, IsWrittenAgain};
-ghost use Rattle.mc_sockets.specs.Streams.{IsHindrance, IsReceived, IsSent};
-
-use mio::net::TcpStream;
-use std::io::{self, ErrorKind, IoSlice, Read, Write};
 
 /// How often a call that a signal interrupts is made again at once.
 const INTERRUPTIONS: u32 = 1000;
@@ -96,95 +92,6 @@ pub trait Stream {
         ensures answers { sends self.old (first.now ++ second.now) result self.new }
         ensures moves { MovesOut (flow self.old) (first.now ++ second.now) result
             (flow self.new) };
-}
-
-/// A socket. Its bytes, and when it answers what, are unspecified.
-impl Stream for TcpStream {
-    ghost use Rattle.std.specs.Prelude.{⊤};
-    ghost use Rattle.mc_sockets.specs.Streams.{unknown};
-
-    ghost flow = { λ _. unknown };
-
-    ghost receives = { λ _ _ _ _. ⊤ };
-
-    ghost sends = { λ _ _ _ _. ⊤ };
-
-    fn receive(&mut self, piece: &mut [u8]) -> Received {
-        received_from(self.read(piece))
-    }
-
-    fn send(&mut self, first: &[u8], second: &[u8]) -> Sent {
-        sent_from(send_both(self, first, second))
-    }
-}
-
-/// A socket that is borrowed.
-impl<'a> Stream for &'a TcpStream {
-    ghost use Rattle.std.specs.Prelude.{⊤};
-    ghost use Rattle.mc_sockets.specs.Streams.{unknown};
-
-    ghost flow = { λ _. unknown };
-
-    ghost receives = { λ _ _ _ _. ⊤ };
-
-    ghost sends = { λ _ _ _ _. ⊤ };
-
-    fn receive(&mut self, piece: &mut [u8]) -> Received {
-        received_from(self.read(piece))
-    }
-
-    fn send(&mut self, first: &[u8], second: &[u8]) -> Sent {
-        sent_from(self.write(if first.is_empty() { second } else { first }))
-    }
-}
-
-/// Returns the answer to a read by what the system answered.
-fn received_from(answer: io::Result<usize>) -> Received
-    ensures { IsReceived answer result }
-{
-    match answer {
-        Ok(0) => Received::End,
-        Ok(count) => Received::Bytes(count),
-        Err(error) => Received::Hindered(hindrance_of(&error)),
-    }
-}
-
-/// Returns the answer to a write by what the system answered.
-fn sent_from(answer: io::Result<usize>) -> Sent
-    ensures { IsSent answer result }
-{
-    match answer {
-        Ok(count) => Sent::Bytes(count),
-        Err(error) => Sent::Hindered(hindrance_of(&error)),
-    }
-}
-
-/// Returns what hindered a call that the system answered with this error.
-fn hindrance_of(error: &io::Error) -> Hindrance
-    ensures { IsHindrance error.now result }
-{
-    if error.kind() == ErrorKind::WouldBlock {
-        return Hindrance::WouldBlock;
-    }
-    if error.kind() == ErrorKind::Interrupted {
-        return Hindrance::Interrupted;
-    }
-    Hindrance::Fault
-}
-
-/// Sends two texts by one system call, and returns how many bytes it took.
-fn send_both(stream: &mut TcpStream, first: &[u8], second: &[u8]) -> io::Result<usize>
-    ensures { IfOk result (λ count. count ≤ length first.now + length second.now) }
-{
-    if first.is_empty() {
-        return stream.write(second);
-    }
-    if second.is_empty() {
-        return stream.write(first);
-    }
-    let parts = [IoSlice::new(first), IoSlice::new(second)];
-    // the trait of this name makes a call for each text
-    TcpStream::write_vectored(stream, &parts)
 }
 
 /// Reads from a stream, and again if a signal interrupts the call.

@@ -13,10 +13,12 @@ pub enum Warning {
     NoDescriptor,
     /// The system has no memory for a connection.
     NoMemory,
+    /// A connection was closed because the system refused memory for it.
+    OutOfMemory,
 }
 
 /// The number of kinds of warnings.
-const WARNINGS: usize = 3;
+const WARNINGS: usize = 4;
 
 /// The seconds for which a warning isn't written again.
 const QUIET: u64 = 60;
@@ -29,6 +31,7 @@ impl Warning {
             Warning::NoDescriptor =>
                 "a connection waits or was closed, as no descriptor is left (ulimit -n)",
             Warning::NoMemory => "a connection waits, as the system has no memory for it",
+            Warning::OutOfMemory => "a connection was closed, as the system has no memory for it",
         }
     }
 }

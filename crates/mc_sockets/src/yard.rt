@@ -10,9 +10,10 @@
 //! may linger.
 ghost use Rattle.std.specs.Prelude.{◌≡◌, ◌↔◌, IfSome, IsTrue, Some};
 ghost use Rattle.slab.specs.Slab.{get, with_value};
+ghost use Rattle.mc_sockets.specs.Offers.{OffersAll};
 
 use crate::channel::ScreenedChannel;
-use mc_links::Gathering;
+use mc_links::{Gathering, Link};
 use slab::Slab;
 use std::alloc::{AllocError, Global};
 
@@ -42,15 +43,13 @@ pub trait Lingering {
         ensures { leaves self.old self.new };
 }
 
-/// Output that a link gathered. What its channel answers is unspecified.
+/// Output that a link gathered. Whether its channel has anything left to do is unspecified.
 impl Lingering for Gathering<ScreenedChannel> {
-    ghost use Rattle.std.specs.Prelude.{⊤};
+    ghost looks = { λ old _ new. new ≡ old };
 
-    ghost looks = { λ _ _ _. ⊤ };
+    ghost sends = { λ old _ new. OffersAll old new };
 
-    ghost sends = { λ _ _ _. ⊤ };
-
-    ghost leaves = { λ _ _. ⊤ };
+    ghost leaves = { λ old new. new ≡ old };
 
     /// Returns whether nothing is left to do: all was sent and the client sends no more, or the
     /// channel failed or is to end.
@@ -60,13 +59,21 @@ impl Lingering for Gathering<ScreenedChannel> {
     }
 
     fn send_rest(&mut self) -> bool {
-        let _ = self.flush();
+        offer_all(self);
         self.is_done()
     }
 
     fn leave(&mut self) {
         self.link().link().leave();
     }
+}
+
+/// Offers all that is gathered for a link to it.
+pub(crate) fn offer_all<L: Link + Drop>(gathering: &mut Gathering<L>)
+    ensures { OffersAll gathering.old gathering.new }
+{
+    // if that fails, the client no longer reads
+    let _ = gathering.flush();
 }
 
 /// A place that isn't free.
