@@ -1,5 +1,5 @@
 -- The name of each number of the page.
-use Rattle.std.specs.Prelude.{ℕ, Bool, true, ◌==◌, List, [], ◌∷◌, ◌++◌, codes, if◌then◌else◌}
+use Rattle.std.specs.Prelude.{ℕ, Bool, true, ◌&&◌, ◌==◌, List, [], ◌∷◌, ◌++◌, codes, if◌then◌else◌}
 use Rattle.std.specs.Borrow.{Bor}
 use Rattle.std.specs.Str.{bytes_eq}
 use Rattle.std.specs.List.{list_all}
@@ -58,6 +58,24 @@ name_of figure.Strays = codes "mcserver_stray_entries"
 name_of figure.Held = codes "mcserver_buffer_bytes"
 name_of figure.Buffers = codes "mcserver_buffer_limit_bytes"
 name_of figure.Waiting = codes "mcserver_waiting_connections"
+name_of figure.Workers = []
+name_of figure.Greatest = []
+name_of figure.IdleTimeout = []
+
+-- the text before a number among the settings: the first stands behind a brace
+abbrev pub setting_text : Figure → List ℕ
+setting_text figure.Workers = codes "{threads=\""
+setting_text figure.Most = codes "\",conn_limit=\""
+setting_text figure.IdleTimeout = codes "\",idle_timeout_seconds=\""
+setting_text figure.Buffers = codes "\",buffer_limit_bytes=\""
+setting_text figure.Limit = codes "\",memory_limit_bytes=\""
+setting_text figure.Greatest = codes "\",max_item_size_bytes=\""
+setting_text figure.Shelves = codes "\",shelves=\""
+setting_text other = []
+
+-- whether a setting has the text of its number
+abbrev pub is_setting : Bor (List ℕ) × Figure → Bool
+is_setting (text, told) = bytes_eq text.now (setting_text told)
 
 -- the name of a number of each class of chunks
 abbrev pub slab_name : SlabFigure → List ℕ
@@ -125,6 +143,8 @@ is_name_of name (samples.Slabs told) = bytes_eq name (slab_name told)
 is_name_of name samples.Refused = bytes_eq name (codes "memcached_slab_items_outofmemory_total")
 is_name_of name (samples.Process told) = bytes_eq name (process_name told)
 is_name_of name (samples.Hundredths told) = bytes_eq name (process_name told)
+is_name_of name (samples.Numbers rows) =
+    bytes_eq name (codes "mcserver_settings_info") && list_all is_setting rows.now
 
 -- whether a family has its numbers' name
 abbrev pub is_named : Family → Bool

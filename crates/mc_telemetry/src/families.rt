@@ -4,12 +4,23 @@
 use Counted as C;
 use Figure::{Closed, Count};
 use Kind::{Counter, Gauge};
-use Samples::{Each, Hundredths, One, Process, Refused, Slabs};
+use Samples::{Each, Hundredths, Numbers, One, Process, Refused, Slabs};
 use mc_metrics::{Counted, Family, Figure, Kind, ProcessFigure, Samples, SlabFigure};
 use mc_sockets::Parting;
 
 /// The program's own version, as `--version` prints it.
 const VERSION: &[(&str, Figure)] = &[(r#"{version="0.9.0"}"#, Figure::One)];
+
+/// The settings, each behind the text of its label.
+const SETTINGS: &[(&str, Figure)] = &[
+    (r#"{threads=""#, Figure::Workers),
+    (r#"",conn_limit=""#, Figure::Most),
+    (r#"",idle_timeout_seconds=""#, Figure::IdleTimeout),
+    (r#"",buffer_limit_bytes=""#, Figure::Buffers),
+    (r#"",memory_limit_bytes=""#, Figure::Limit),
+    (r#"",max_item_size_bytes=""#, Figure::Greatest),
+    (r#"",shelves=""#, Figure::Shelves),
+];
 
 /// The commands, as the exporter counts them: of a `get` of several keys each key is one, `gat` is
 /// one of `touch`, and `set` stands for each storage command but `cas`.
@@ -80,7 +91,7 @@ const REASONS: &[(&str, Figure)] = &[
 ];
 
 /// The metrics of a page, in this order.
-pub const FAMILIES: [Family; 43] = [
+pub const FAMILIES: [Family; 44] = [
     Family(
         Gauge,
         "memcached_up",
@@ -302,6 +313,12 @@ pub const FAMILIES: [Family; 43] = [
         "mcserver_connections_closed_total",
         "Closed client connections, by reason.",
         Each(REASONS),
+    ),
+    Family(
+        Gauge,
+        "mcserver_settings_info",
+        "The options of the server, as labels.",
+        Numbers(SETTINGS),
     ),
     Family(
         Gauge,

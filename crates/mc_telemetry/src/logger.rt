@@ -8,8 +8,8 @@ use crate::outlet::Outlet;
 use crate::stats::StoreStats;
 use mc_host::{Diagnostics, Level};
 use mc_options::{Endpoints, Options};
-use mc_sizes::need_of;
-use mc_sockets::{Log, LogLine, WaitingLine, Wanted};
+use mc_sizes::{CLASSES, need_of};
+use mc_sockets::{Log, LogLine, WaitingLine, Wanted, Warning};
 use std::io::{self, Stderr};
 use std::net::IpAddr;
 use std::sync::Wait;
@@ -62,6 +62,7 @@ pub fn write_lines<R: Wait + Clock, S: StoreStats>(
             has_begun = true;
         }
         logger.tell_full(rt, stats);
+        logger.warn_of_memory(rt);
         if logger.write_next() {
             continue;
         }
@@ -127,6 +128,14 @@ impl Logger<'_> {
         };
         let (stderr, level) = at_level(self.diagnostics, Level::Warning);
         let _ = eprintln!(stderr; "{level}mcserver: full: {full} (told once a minute)");
+    }
+
+    /// Adds a warning to the log, at most once a minute, if a connection was closed for want of
+    /// memory.
+    fn warn_of_memory<R: Clock>(&self, rt: &R) {
+        if self.log.take_starved() {
+            self.log.warn(rt, Warning::OutOfMemory);
+        }
     }
 
     /// Sleeps until there may be a line, or a full store may be reported again.
@@ -218,12 +227,14 @@ fn say(notice: Notice<'_>) {
     let workers = options.workers;
     let pages = options.settings.pages;
     let places = &options.endpoints;
+    let ignored = &options.ignored;
     let (stderr, level) = at_level(diagnostics, Level::Info);
     // if standard error is closed the server runs all the same
     let _ = eprintln!(stderr;
-        "{level}mcserver: listening on {places}, {pages} pages, {workers} workers"
+        "{level}mcserver: listening on {places}, {pages} pages, {workers} workers{ignored}"
     );
     warn_all(diagnostics, places);
+    warn_of_pages(diagnostics, pages);
     if let Some(endpoint) = options.scrapes {
         let _ = eprintln!(stderr; "{level}mcserver: metrics at http://{endpoint}/metrics");
     }
@@ -238,6 +249,16 @@ fn warn_all(diagnostics: Diagnostics, endpoints: &Endpoints) {
     warn(diagnostics, first.address);
     for other in others {
         warn(diagnostics, other.address);
+    }
+}
+
+/// Writes a warning if there are fewer pages than sizes of chunks.
+fn warn_of_pages(diagnostics: Diagnostics, pages: u32) {
+    if pages < u32::from(CLASSES) {
+        let (stderr, level) = at_level(diagnostics, Level::Warning);
+        let _ = eprintln!(stderr;
+            "{level}mcserver: warning: with -m {pages} only {pages} of the {CLASSES} sizes of chunks find a page"
+        );
     }
 }
 

@@ -4,7 +4,7 @@ use crate::process::process_now;
 use crate::stats::StoreStats;
 use mc_metrics::{
     BuffersReading, COUNTED, Counters, PageValues, ProcessReading, REFUSED, RefusedReading,
-    SlabReading,
+    SettingsReading, SlabReading,
 };
 use mc_sizes::{PAGE_SIZE, class_of};
 use mc_sockets::{Crowd, PARTINGS};
@@ -30,6 +30,7 @@ pub struct Observer {
     pub pages: u32,
     /// The limit of bytes of buffers that connections hold.
     pub buffers: u64,
+    pub settings: SettingsReading,
     /// When the server began; nothing if there was no clock.
     pub since: Option<Instant>,
     /// The start of the process in seconds since 1970, if it is known.
@@ -64,6 +65,7 @@ impl Observer {
             slabs,
             refused: self.refused_counts(alloc)?,
             buffers: self.sum_buffers(),
+            settings: self.settings,
             process: ProcessReading {
                 started: self.started,
                 most_fds: self.most_fds,
