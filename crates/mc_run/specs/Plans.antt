@@ -1,6 +1,7 @@
 -- What a server is to serve with, by its options, before its first thread starts.
 use Rattle.std.specs.Prelude.{◌≡◌, ◌≤◌, ℕ, ◌*◌, ◌/◌, max, List, length, sum_by, All, Option, Some, None}
 use Rattle.std.specs.Arc.{arc_value}
+use Rattle.mc_metrics.specs.declared.reading.SettingsReading.{SettingsReading}
 use Rattle.mc_options.specs.declared.options.Options.{Options}
 use Rattle.mc_sockets.specs.Crowds.{most_of}
 use Rattle.mc_sockets.specs.declared.connection.Crowd.{Crowd}
@@ -17,6 +18,14 @@ mib = 1048576
 -- how many bytes the connections of a worker may hold: its part of seven eighths of the limit of buffers
 abbrev pub held_of : Options → ℕ
 held_of options = ((((options.buffers * mib) / 8) * 7) / (max options.workers 1))
+
+-- the settings that the page of metrics has
+abbrev pub settings_of : Options → SettingsReading
+settings_of options = record {
+  workers = options.workers;
+  greatest = options.settings.greatest;
+  idle_timeout = options.idle_timeout;
+}
 
 -- a worker has the moment of a clock that stands and the idle timeout of the options, and its part of the limit of buffers
 pub record IsWorkerOf (options : Options) (plan : WorkerPlan) : Type 0 where

@@ -6,13 +6,14 @@
 ghost use Rattle.std.specs.Prelude.{◌≡◌, ◌+◌, length, IfOk, OnOk, All};
 ghost use Rattle.std.specs.Arc.{arc_value};
 ghost use Rattle.mc_sockets.specs.Crowds.{most_of};
-ghost use Rattle.mc_run.specs.Plans.{IsPlanOf, IsWorkerOf, IsOneAcceptor, ArePlansOf, held_of};
+ghost use Rattle.mc_run.specs.Plans.{IsPlanOf, IsWorkerOf, IsOneAcceptor, ArePlansOf};
+ghost use Rattle.mc_run.specs.Plans.{held_of, settings_of};
 
 use mc_host::{
     Diagnostics, Listeners, ScrapeListener, Wanting, look_for_descriptors, most_descriptors,
     sockets_of,
 };
-use mc_metrics::Counters;
+use mc_metrics::{Counters, SettingsReading};
 use mc_options::Options;
 use mc_sockets::{Arrivals, Crowd, EVENTS, Inbox, Log, Share, WAKER};
 use mc_telemetry::{MetricsServer, Notice, Observer, Outlet, process_start};
@@ -223,12 +224,24 @@ fn make_metrics<R: AllocGlobal + Files + Clock>(
         counts,
         pages: notice.options.settings.pages,
         buffers: u64::from(notice.options.buffers).saturating_mul(MIB as u64),
+        settings: settings_of(notice.options),
         since: Instant::now(rt).ok(),
         started: process_start(rt),
         most_fds: notice.descriptors,
     };
     let server = MetricsServer::new(rt.alloc(), door, observer, notice.options.may_quit);
     Ok(Some(server))
+}
+
+/// Returns the settings that the page of metrics has.
+fn settings_of(options: &Options) -> SettingsReading
+    ensures { result ≡ settings_of options.entry.now }
+{
+    SettingsReading {
+        workers: u64::from(options.workers),
+        greatest: options.settings.greatest,
+        idle_timeout: u64::from(options.idle_timeout),
+    }
 }
 
 /// Returns the workers that the options ask for. It fails if memory is refused, or a descriptor.
