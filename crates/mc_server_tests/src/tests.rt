@@ -1,6 +1,7 @@
 //! The tests, a module of each subject.
 
 mod idle_tests;
+mod io_stream_tests;
 mod lines_tests;
 mod quit_tests;
 mod screen_tests;

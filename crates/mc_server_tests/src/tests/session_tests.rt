@@ -3,7 +3,7 @@
 use crate::settings::one_page;
 use mc_hop::Fnv;
 use mc_host::{AskedClock, End};
-use mc_options::{Endpoints, Options, RawOptions};
+use mc_options::{Endpoints, Ignored, Options, RawOptions};
 use mc_session::ServeFault;
 use mc_testing::{Drip, Sip};
 use mc_time::{Clock, Fixed, Moment};
@@ -46,7 +46,10 @@ fn served(
         verbose: false,
     };
     let endpoints = Endpoints::new(alloc, &[], None)?;
-    let options = Options::new(asked, one_page(), endpoints);
+    let ignored = Ignored {
+        letters: Vec::new(alloc),
+    };
+    let options = Options::new(asked, one_page(), endpoints, ignored);
     let clock = AskedClock {
         asked: options.now,
         system: Fixed(Moment::from_seconds_at_most(SYSTEM)),

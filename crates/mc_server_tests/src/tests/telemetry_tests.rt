@@ -1,6 +1,6 @@
 //! What a scrape reads of a store, of connections and of workers.
 
-use mc_metrics::{Counted, Counters, Figure, TablesReading, number_at};
+use mc_metrics::{Counted, Counters, Figure, SettingsReading, TablesReading, number_at};
 use mc_slab::{Account, Class};
 use mc_sockets::{Crowd, PARTINGS};
 use mc_telemetry::{Observer, StoreStats};
@@ -33,6 +33,13 @@ impl StoreStats for FixedStats {
     }
 }
 
+/// The settings of each observer.
+const SETTINGS: SettingsReading = SettingsReading {
+    workers: 2,
+    greatest: 1_048_576,
+    idle_timeout: 300,
+};
+
 /// Returns an observer of two workers. Each refused one step of class 40, and found one too large.
 fn observer_of_two(alloc: Global) -> Result<Observer, AllocError> {
     let mut counts = Vec::new(alloc);
@@ -49,6 +56,7 @@ fn observer_of_two(alloc: Global) -> Result<Observer, AllocError> {
         counts,
         pages: 64,
         buffers: 4096,
+        settings: SETTINGS,
         since: None,
         started: Some(7),
         most_fds: Some(9),
@@ -70,6 +78,9 @@ fn a_scrape_adds_up_workers(rt: HostRuntime) -> Result<(), Fail> {
     let found = (reading.limit, reading.shelves, reading.tables.items);
     assert!(rt; found == (67_108_864, 4, 5));
     assert!(rt; reading.uptime == 0);
+    let settings = reading.settings;
+    let found = (settings.workers, settings.greatest, settings.idle_timeout);
+    assert!(rt; found == (2, 1_048_576, 300));
     let process = reading.process;
     assert!(rt; (process.started, process.most_fds) == (Some(7), Some(9)));
     // what Linux reports of this process: it has standard streams, and is in memory
@@ -93,6 +104,7 @@ fn a_scrape_has_the_classes_with_a_page(rt: HostRuntime) -> Result<(), Fail> {
         counts: Vec::new(alloc),
         pages: 1,
         buffers: 0,
+        settings: SETTINGS,
         since: None,
         started: None,
         most_fds: None,
