@@ -1,11 +1,12 @@
 """Runs the tests of one kind, which is a folder here:
 
     python3 -m tests protocol|sockets|history|refusals|interop|standin [-k WORD] [-p FILE] [-f]
-    python3 -m tests KIND --pin
+    python3 -m tests KIND [-p FILE] --pin
+    python3 -m tests rows --list
 
 The options are those of `python3 -m unittest discover`, which runs the same tests: -k takes those in whose name the word is, -p the
 files of a name, -f ends at the first failure. Without options the parts of each file are compared with tests/counts.txt, if it has the
-kind; --pin writes them there. What the environment may change is in lib/settings.py. The last line is `N passed, N failed, N skipped`;
+kind; --pin writes them there, of all files or of those that were run. The last form tells where each worked example of tests/examples.txt is tested. What the environment may change is in lib/settings.py. The last line is `N passed, N failed, N skipped`;
 the status is 0 where something passed and nothing failed.
 """
 import os
@@ -13,7 +14,7 @@ import signal
 import sys
 import unittest
 
-from tests.lib import counts
+from tests.lib import counts, examples, settings
 from tests.lib.result import Runner, name_of
 from tests.lib.settings import NAMES, ROOT
 
@@ -38,14 +39,19 @@ def compared(kind, result):
 
 
 def main(words):
+    if words == ["rows", "--list"]:
+        return examples.show()
     if not words or words[0] not in KINDS:
         print(__doc__, end="")
         return 2
     os.chdir(ROOT)
     kind, options = words[0], words[1:]
+    settings.is_whole = options in ([], ["--pin"])
     result = run(kind, [it for it in options if it != "--pin"])
     if "--pin" in options and result.wasSuccessful():
-        counts.pin(kind, result.by_file())
+        # (of a run of some files the lines of the others stay)
+        others = counts.read().get(kind, {}) if options != ["--pin"] else {}
+        counts.pin(kind, {**others, **result.by_file()})
     # another program or other numbers have other parts
     is_whole = not options and not any(os.environ.get(name) for name in NAMES if name != "LONGEST")
     failed = result.failed + (compared(kind, result) if is_whole else 0)

@@ -7,16 +7,16 @@ import tempfile
 from concurrent.futures import ThreadPoolExecutor
 
 from tests.history.recording import RecordingCase, judged
-from tests.lib.settings import number
+from tests.lib.settings import number, seed
 
 
 class Recorded(RecordingCase):
     def test_an_order_explains_each_run(self):
-        first, calls = number("FIRST"), number("CALLS")
+        first, calls = seed("FIRST"), number("CALLS")
         seeds = range(first, first + number("SEEDS"))
         with tempfile.TemporaryDirectory() as room, ThreadPoolExecutor(number("JOBS")) as pool:
-            records = [self.record(room, seed, calls) for seed in seeds]
+            records = [self.record(room, it, calls) for it in seeds]
             verdicts = [pool.submit(judged, path) for path in records]
-            for seed, path, verdict in zip(seeds, records, verdicts):
-                with self.subTest(seed=seed, calls=calls):
+            for it, path, verdict in zip(seeds, records, verdicts):
+                with self.subTest(seed=it, calls=calls):
                     self.is_judged("explained", path, verdict.result())

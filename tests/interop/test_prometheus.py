@@ -99,7 +99,7 @@ def compared():
     found = {}
     for name, expression in re.findall(r"- alert: (\w+)\n +expr: (?:>-\n)?((?:.*\n)+?) +(?:for|labels):", rules()):
         for part in re.split(r"\bor\b", " ".join(expression.split())):
-            found.setdefault(name, []).append(re.split(r" (?:>=?|==) ", part)[0])
+            found.setdefault(name, []).append(re.split(r" (?:[<>]=?|==) ", part)[0])
     return found
 
 
@@ -197,7 +197,7 @@ class Scraped(ProgramCase):
     def test_each_query_and_rule_has_data(self):
         """Of a server that is used; and nothing fires, as all is well."""
         asked = [*queries(), *formulas(), *((name, part) for name, parts in compared().items() for part in parts)]
-        self.assertEqual((26, 4, 12), (len([*queries()]), len(formulas()), sum(map(len, compared().values()))))
+        self.assertEqual((26, 4, 13), (len([*queries()]), len(formulas()), sum(map(len, compared().values()))))
         with MetricsServer() as server, self.prometheus(server) as answers:
 
             def without_data():

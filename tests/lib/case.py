@@ -2,6 +2,7 @@
 import os
 import re
 import unittest
+from concurrent.futures import ThreadPoolExecutor
 from functools import partialmethod
 
 from tests.lib import settings
@@ -33,3 +34,21 @@ def tests_of(items, name_of):
         return made
 
     return add
+
+
+def side_by_side(made):
+    """Lets the tests of a class run beside one another if a whole kind is run: all begin with the first. It is for tests without parts that mostly sleep."""
+    names, running = unittest.defaultTestLoader.getTestCaseNames(made), {}
+    tests = {name: getattr(made, name) for name in names}
+
+    def outcome(self, name):
+        if not settings.is_whole:
+            return tests[name](self)
+        if not running:
+            pool = ThreadPoolExecutor(len(names))
+            running.update((it, pool.submit(tests[it], made(it))) for it in names)
+        return running.pop(name).result()
+
+    for name in names:
+        setattr(made, name, partialmethod(outcome, name))
+    return made

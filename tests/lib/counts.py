@@ -6,6 +6,7 @@ A file with fewer parts than it says, or with more skipped tests, has failed; on
 import glob
 import os
 
+from tests.lib import examples
 from tests.lib.settings import ROOT
 
 FILE = f"{ROOT}/tests/counts.txt"
@@ -36,12 +37,20 @@ def pin(kind, seen, file=FILE):
 
 
 def lying(root=ROOT):
-    """What lies in folders: the wrong bodies of each crate, those that `rt must-fail` tries too, the crates, and the rows of inputs and outputs."""
+    """What lies in folders: the wrong bodies of each crate, those that `rt must-fail` tries too, the crates, and the rows of inputs and outputs;
+    and the worked examples with the names of their tests."""
     crates = sorted(os.path.basename(os.path.dirname(it)) for it in glob.glob(f"{root}/crates/*/src"))
     return {
         "bodies": {it: (len(glob.glob(f"{root}/crates/{it}/wrong/*.edit")), len(glob.glob(f"{root}/crates/{it}/must-fail/*.edit"))) for it in crates},
-        "folders": {"crates": (len(crates),), "tests/rows": (len(glob.glob(f"{root}/tests/rows/*/stdin")),)},
+        "folders": {"crates": (len(crates),), "tests/rows": (len(glob.glob(f"{root}/tests/rows/*/stdin")),), **worked(root)},
     }
+
+
+def worked(root):
+    """The worked examples, and the names of their tests."""
+    file = f"{root}/tests/examples.txt"
+    found = examples.read(file) if os.path.exists(file) else {}
+    return {"tests/examples.txt": (len(found), sum(map(len, found.values())))} if found else {}
 
 
 def faults(kind, seen, pinned):

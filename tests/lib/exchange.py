@@ -3,7 +3,7 @@ import selectors
 import socket
 import time
 
-from tests.lib.peer import PIECE, SECONDS
+from tests.lib.answers import PIECE, SECONDS
 from tests.lib.server import HOST
 
 

@@ -2,8 +2,9 @@
 //
 // What fails is read from the file that FAULTS names, which stays mapped: a test changes it while the program runs. It holds 64-bit
 // words: the seconds that are added to the system's clock, whether each peer seems to be another machine's, the seconds that are added to
-// the monotonic clock, five that nobody reads, and then a row of 16 for each call of CALLS in that order: each Kth call fails (0: none), how many may fail still (negative: no end), how
-// many calls there were, how many failed, how many errors follow, and the errors in turn. An error 0 stands for an answer of 0, as of a
+// the monotonic clock, the millisecond after 1970 at which both clocks stand (0: they go on), four that nobody reads, and then a row of 16 for
+// each call of CALLS in that order: each Kth call fails (0: none), how many may fail still (negative: no end), how many calls there were, how
+// many failed, how many errors follow, and the errors in turn. An error 0 stands for an answer of 0, as of a
 // send that takes nothing; 1000 and more for a call that is made after so many milliseconds less 1000; 1000000 and more for an epoll_wait
 // whose answer comes so many milliseconds less 1000000 later. A call that fails isn't made, but for close, whose descriptor is gone on Linux
 // whatever it answers.
@@ -27,7 +28,9 @@
 
 enum call { ACCEPT4, RECV, SEND, SENDMSG, EPOLL_WAIT, EPOLL_CTL, CLOSE, WRITE, PTHREAD_CREATE, STDIN, STDOUT, CALLS };
 enum column { EVERY, LEFT, MADE, FAILED, ERRORS, FIRST, WIDTH = 16 };
-enum { CLOCK, ELSEWHERE, MONOTONIC, FRONT = 8, DELAY = 1000, LATE = 1000000 };
+enum { CLOCK, ELSEWHERE, MONOTONIC, STILL, FRONT = 8, DELAY = 1000, LATE = 1000000 };
+// By so many milliseconds a clock that stands is ahead of the monotonic one; they are no whole seconds.
+#define AHEAD 1600000000123LL
 
 typedef _Atomic int64_t word;
 
@@ -156,6 +159,12 @@ int pthread_create(pthread_t *thread, const pthread_attr_t *how, void *(*run)(vo
 int clock_gettime(clockid_t clock, struct timespec *time) {
     NEXT(clock_gettime);
     int answer = next(clock, time);
+    int64_t still = told[STILL];
+    if (answer == 0 && still && (clock == CLOCK_REALTIME || clock == CLOCK_MONOTONIC)) {
+        int64_t millis = clock == CLOCK_REALTIME ? still : still - AHEAD;
+        time->tv_sec = millis / 1000;
+        time->tv_nsec = millis % 1000 * 1000000L;
+    }
     if (answer == 0 && clock == CLOCK_REALTIME)
         time->tv_sec += told[CLOCK];
     if (answer == 0 && clock == CLOCK_MONOTONIC)

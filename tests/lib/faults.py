@@ -8,6 +8,7 @@
         faults.end()
         faults.set_clock_back(3600)
     faults.pass_seconds(60)
+    faults.stand_at(1_700_000_000_999)                  # both clocks stand at this millisecond, until they are set again
 
 faults.c is compiled once in a run, by cc or what the environment's CC names, and preloaded to the program.
 """
@@ -17,13 +18,16 @@ import os
 import struct
 import subprocess
 import tempfile
+import threading
 
 HERE = os.path.dirname(os.path.realpath(__file__))
 # As in faults.c: write is that of standard error, stdin a read of standard input, stdout a write of standard output.
 CALLS = ["accept4", "recv", "send", "sendmsg", "epoll_wait", "epoll_ctl", "close", "write", "pthread_create", "stdin", "stdout"]
-CLOCK, ELSEWHERE, MONOTONIC, FRONT, WIDTH, WORD, DELAY, LATE = 0, 1, 2, 8, 16, 8, 1000, 1_000_000
+CLOCK, ELSEWHERE, MONOTONIC, STILL, FRONT, WIDTH, WORD, DELAY, LATE = 0, 1, 2, 3, 8, 16, 8, 1000, 1_000_000
 EVERY, LEFT, MADE, FAILED, ERRORS, FIRST = range(6)
 MOST = WIDTH - FIRST
+# Held while the library is compiled.
+compiling = threading.Lock()
 
 
 def delay(milliseconds):
@@ -36,9 +40,15 @@ def late(milliseconds):
     return LATE + milliseconds
 
 
-@functools.cache
 def library():
-    """Compiles the library that makes calls fail; it lies in a folder that ends with this process."""
+    """The library that makes calls fail, compiled once."""
+    with compiling:
+        return compiled()
+
+
+@functools.cache
+def compiled():
+    """Compiles it; it lies in a folder that ends with this process."""
     room = tempfile.TemporaryDirectory()
     path, compiler = f"{room.name}/faults.so", os.environ.get("CC", "cc")
     try:
@@ -46,7 +56,7 @@ def library():
         subprocess.run(words, stdin=subprocess.DEVNULL, check=True)
     except FileNotFoundError:
         raise AssertionError(f"{compiler}: a C compiler is needed, as cc or as the environment's CC names it") from None
-    library.room = room
+    compiled.room = room
     return path
 
 
@@ -95,6 +105,10 @@ class Faults:
     def pass_seconds(self, seconds):
         """Sets the monotonic clock forward, as the program sees it, by so many seconds in all."""
         self._set(MONOTONIC, seconds)
+
+    def stand_at(self, milliseconds):
+        """Lets both clocks stand, as the program sees them, at so many milliseconds after 1970."""
+        self._set(STILL, milliseconds)
 
     def move_peers(self):
         """Lets each peer that is accepted from now on seem to be on another machine, at 192.0.2.1."""

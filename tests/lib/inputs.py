@@ -38,6 +38,9 @@ class Source:
     def key(self):
         return self.pick(KEYS[:4], KEYS + BAD_KEYS)
 
+    def exptime(self):
+        return self.pick(EXPTIMES[:11], EXPTIMES)
+
     def keys(self):
         return [self.key() for _ in range(self.random.choice([1, 1, 1, 2, 3, 9]))]
 
@@ -57,7 +60,7 @@ class Source:
         is_large = self.pages < 64 and self.random.random() < 0.02
         block = self.random.choice(LARGE_BLOCKS if is_large else BLOCKS)
         length = self.pick([b"%d" % len(block)], [*LENGTHS, b"%d" % (len(block) + 1), b"%d" % max(len(block) - 1, 0)])
-        words = [verb, self.key(), self.pick(FLAGS[:5], FLAGS), self.pick(EXPTIMES[:11], EXPTIMES), length]
+        words = [verb, self.key(), self.pick(FLAGS[:5], FLAGS), self.exptime(), length]
         if verb == b"cas":
             words.append(self.pick(UNIQUES[1:6], UNIQUES))
         return self.line(words, True) + block + self.pick([b"\r\n"], ENDS)
@@ -65,18 +68,18 @@ class Source:
     def retrieval(self):
         if self.random.random() < 0.7:
             return self.line([self.random.choice([b"get", b"gets"]), *self.keys()], False)
-        return self.line([self.random.choice([b"gat", b"gats"]), self.pick(EXPTIMES[:11], EXPTIMES), *self.keys()], False)
+        return self.line([self.random.choice([b"gat", b"gats"]), self.exptime(), *self.keys()], False)
 
     def other(self):
         kind = self.random.randrange(7)
         if kind == 0:
-            return self.line([b"touch", self.key(), self.pick(EXPTIMES[:11], EXPTIMES)], True)
+            return self.line([b"touch", self.key(), self.exptime()], True)
         if kind == 1:
             return self.line([b"delete", self.key(), *self.random.choice([[], [], [b"0"]])], True)
         if kind in (2, 3, 4):
             return self.line([self.random.choice([b"incr", b"decr"]), self.key(), self.pick(DELTAS[:6], DELTAS)], True)
         if kind == 5 and self.random.random() < 0.3:
-            return self.line([b"flush_all", *self.random.choice([[], [self.pick(EXPTIMES[:11], EXPTIMES)]])], True)
+            return self.line([b"flush_all", *self.random.choice([[], [self.exptime()]])], True)
         return self.line([b"quit" if self.random.random() < self.faulty / 5 else b"version"], False)
 
     def noise(self):

@@ -16,7 +16,7 @@ import json
 import os
 
 from tests.lib.compare import same, shown
-from tests.lib.settings import ROOT
+from tests.lib.settings import ROOT, keep
 
 ROWS = f"{ROOT}/tests/rows"
 # The pages of a store where no option says how many, and the greatest charge of its items.
@@ -84,3 +84,20 @@ class Row:
 
 def all_rows():
     return [Row(name) for name in sorted(os.listdir(ROWS)) if os.path.isdir(f"{ROWS}/{name}")]
+
+
+def written(data):
+    """Bytes as the lines of stdin.parts: a line of JSON for each line of them."""
+    return "".join(json.dumps(line.decode("latin-1")) + "\n" for line in data.splitlines(keepends=True))
+
+
+def kept(name, args, stdin, stdout):
+    """Writes an input that failed as a row, with the output that is wanted. Returns what it is, and how it is taken among the rows."""
+    folder = os.path.join(keep(), name)
+    os.makedirs(folder, exist_ok=True)
+    files = {"args": "".join(f"{it}\n" for it in args), "stdin.parts": written(stdin), "stdout.parts": written(stdout)}
+    for file, text in files.items():
+        with open(f"{folder}/{file}", "w", encoding="utf-8") as to:
+            to.write(text)
+    told = "".join(f"{file}:\n{text[:3000]}" for file, text in files.items())
+    return f"{told}It is a row: mv {folder} tests/rows/NAME, where NAME is what it shows"

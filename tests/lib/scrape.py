@@ -10,7 +10,7 @@ SECONDS = 10
 GET = b"GET /metrics HTTP/1.1\r\nHost: mcserver\r\n\r\n"
 TEXT = "text/plain; version=0.0.4; charset=utf-8"
 HEAD = re.compile(r"# HELP (\w+) (.+)\n# TYPE (\w+) (counter|gauge)")
-SAMPLE = re.compile(r'([a-z_]+)(\{[a-z]+="[^"\\]*"(?:,[a-z]+="[^"\\]*")*\})? (\d+(?:\.\d\d)?)')
+SAMPLE = re.compile(r'([a-z_]+)(\{[a-z_]+="[^"\\]*"(?:,[a-z_]+="[^"\\]*")*\})? (\d+(?:\.\d\d)?)')
 # What the system counts of the process grows by itself.
 PROCESS = "process_"
 

@@ -85,8 +85,8 @@ def die_with_parent():
 class Started:
     """A process that takes connections on a port, with what it writes in a file."""
 
-    def __init__(self, words, port, environment=None):
-        self.port, self.address = port, (HOST, port)
+    def __init__(self, words, port, environment=None, host=HOST):
+        self.port, self.address = port, (host, port)
         self.output = tempfile.TemporaryFile()
         streams = {"stdin": subprocess.DEVNULL, "stdout": self.output, "stderr": self.output}
         try:
@@ -199,16 +199,16 @@ class Server(Started):
     """A running server. Without a port it takes one that is free; `args` are further words of its command line.
 
     A limit is a kind, how much of it the server has, and how much it may be given later. With `faults` (lib/faults.py) its calls
-    of the system fail when a test says so."""
+    of the system fail when a test says so. It listens at 127.0.0.1, or at the host that is named."""
 
-    def __init__(self, program=None, port=None, pages=64, workers=4, args=(), limit=None, faults=None):
+    def __init__(self, program=None, port=None, pages=64, workers=4, args=(), limit=None, faults=None, host=HOST):
         program = program or settings.program()
         wrapped = [sys.executable, "-I", "-S", "-c", LIMITED, *map(str, limit)] if limit else []
         for last in [*[False] * (TRIES - 1), True]:
-            chosen = port or free_port()
+            chosen = port or free_port(host)
             try:
-                words = [*wrapped, *command(program, chosen, pages, workers, args)]
-                return super().__init__(words, chosen, faults.environment if faults else None)
+                words = [*wrapped, *command(program, chosen, pages, workers, args), *(["-l", host] if host != HOST else [])]
+                return super().__init__(words, chosen, faults.environment if faults else None, host)
             except CannotStart:
                 if port or limit or last:  # (a port may be taken by another between the look and the start)
                     raise
@@ -219,8 +219,8 @@ class StillServer(Server):
 
     With `buffers` its connections may hold so many MiB together."""
 
-    def __init__(self, now=MOMENT, connections=MOST, greatest=GREATEST, buffers=None, **options):
+    def __init__(self, now=MOMENT, connections=MOST, greatest=GREATEST, buffers=None, args=(), **options):
         clock = [] if is_memcached(settings.program()) else ["--now", str(now)]
         largest = [] if greatest == GREATEST else ["-I", str(greatest)]
         held = ["--buffer-limit", str(buffers)] if buffers else []
-        super().__init__(args=["-c", str(connections), *largest, *held, *clock], **options)
+        super().__init__(args=["-c", str(connections), *largest, *held, *clock, *args], **options)

@@ -6,14 +6,22 @@ close, by a reset, in the middle of a command, with a line that is too long, wit
 for a while. The memory (VmRSS), the descriptors and the threads of the server are printed each minute. The last line is the
 verdict; the status is 0 where nothing grows and every answer was right. Of less than two minutes memory isn't judged.
 
-    python3 -m tests.soak [--program PATH] [--minutes N] [--callers N] [--pages N] [--workers N]
+With --large items have up to 8 MiB, and the callers' blocks several pages. With --scrapes the metrics are scraped twice a second, and no number of what
+was done falls. With --faults calls of the system are interrupted, fail for a moment, or come late, none of which a client may see.
+
+    python3 -m tests.soak [--program PATH] [--minutes N] [--callers N] [--pages N] [--workers N] [--large] [--scrapes] [--faults]
 """
 import argparse
+import contextlib
+import errno
 import sys
 import threading
 import time
 
-from tests.lib.server import CannotStart, Server, is_memcached
+from tests.lib.faults import Faults, delay
+from tests.lib.rows import GREATEST
+from tests.lib.scrape import scrape
+from tests.lib.server import CannotStart, Server, free_port, is_memcached
 from tests.lib.settings import program
 from tests.soak.callers import Caller, Shared
 from tests.soak.link import SECONDS, Link, Wrong, value_line
@@ -23,6 +31,13 @@ from tests.soak.watch import Ended, Watch
 PAGES = 256
 # A shorter run doesn't tell whether memory grows, as buffers are still being made.
 LEAST_MINUTES = 2
+# With --large items have at most so many bytes.
+LARGEST = 8 * 2**20
+# With --faults each Kth call of these fails so. A client sees none of it: what is interrupted is made again, and what is refused for now too.
+FAULTS = [
+    ("recv", 97, [errno.EINTR]), ("send", 89, [errno.EINTR, errno.EAGAIN]), ("sendmsg", 53, [errno.EINTR, delay(5)]),
+    ("accept4", 41, [errno.EINTR, errno.ECONNABORTED, errno.EMFILE]), ("epoll_wait", 31, [errno.EINTR, delay(20)]), ("close", 37, [errno.EINTR]),
+]
 
 
 def flushed(shared):
@@ -45,8 +60,52 @@ def begin(link):
         link.ask(b"set %s 0 0 1\r\n0\r\n" % key, b"STORED\r\n")
 
 
-def soak(server, given):
-    shared = Shared(server.address, given.callers)
+class Scraper(threading.Thread):
+    """Scrapes twice a second, and notes a number of what was done that falls."""
+
+    def __init__(self, port, shared):
+        super().__init__(daemon=True)
+        self.port, self.shared, self.over, self.count = port, shared, threading.Event(), 0
+
+    def run(self):
+        last = {}
+        while not self.over.wait(0.5):
+            try:
+                now = scrape(self.port)
+            except (OSError, AssertionError) as error:
+                self.shared.fault(f"a scrape: {error}")
+                continue
+            for name in now:
+                if "_total" in name and now[name] < last.get(name, 0):
+                    self.shared.fault(f"{name} fell from {last[name]} to {now[name]}")
+            last, self.count = now, self.count + 1
+
+
+@contextlib.contextmanager
+def scraped(metrics, shared):
+    """Scrapes in the meantime, if there is a port for that."""
+    if not metrics:
+        yield
+        return
+    scraper = Scraper(metrics, shared)
+    scraper.start()
+    try:
+        yield
+    finally:
+        scraper.over.set()
+        scraper.join(SECONDS)
+        print(f"{scraper.count} scrapes", flush=True)
+        if not scraper.count:
+            shared.fault("nothing was scraped")
+
+
+def soak(server, given, metrics):
+    shared = Shared(server.address, given.callers, LARGEST if given.large else GREATEST)
+    with scraped(metrics, shared):
+        return soaked(server, given, shared)
+
+
+def soaked(server, given, shared):
     watch = Watch(server.pid)
     link = Link(shared.address)
     begin(link)
@@ -116,14 +175,28 @@ def main():
     parser.add_argument("--callers", type=int, default=8)
     parser.add_argument("--pages", type=int, default=PAGES)
     parser.add_argument("--workers", type=int, default=4)
+    parser.add_argument("--large", action="store_true")
+    parser.add_argument("--scrapes", action="store_true")
+    parser.add_argument("--faults", action="store_true")
     given = parser.parse_args()
+    metrics = free_port() if given.scrapes else None
+    args = [*(["-I", str(LARGEST)] if given.large else []), *(["--metrics", str(metrics)] if metrics else [])]
+    faults = Faults() if given.faults else None
     try:
-        server = Server(given.program, pages=given.pages, workers=given.workers)
+        server = Server(given.program, pages=given.pages * (3 if given.large else 1), workers=given.workers, args=args, faults=faults)
     except CannotStart as error:
         print(f"FAILED: {error}")
         return 1
     with server:
-        shared, watch, descriptors, threads = soak(server, given)
+        for call, every, errors in FAULTS if faults else []:
+            faults.fail(call, errors, every)
+        shared, watch, descriptors, threads = soak(server, given, metrics)
+        for call, *_ in FAULTS if faults else []:
+            print(f"{faults.count(call):,} calls of {call} failed or were late")
+            if not faults.count(call):
+                shared.fault(f"no call of {call} failed")
+        if faults:
+            faults.end()
         faults = [f"{len(shared.wrong)} answers were wrong"] if shared.wrong else []
         faults += (watch.grown() if given.minutes >= LEAST_MINUTES else []) + rests(server, descriptors, threads)
     memory = [it[0] / 1e6 for it in watch.samples]

@@ -13,13 +13,16 @@ from tests.soak.link import Link, Wrong, value_line
 BRIEF, GONE = 1, 3
 SIZES = [0, 1, 10, 50, 100, 200, 400, 800, 1500, 3000, 6000]
 LARGE_SIZES = [20_000, 60_000, 150_000, 400_000, 1_000_000]
+# Blocks of several pages, where items may have so many.
+PAGED_SIZES = [1_200_000, 3_000_000, 7_000_000]
 
 
 class Shared:
     """What the callers share: when they pause and end, what they counted, and what went wrong."""
 
-    def __init__(self, address, callers):
-        self.address = address
+    def __init__(self, address, callers, greatest):
+        self.address, self.greatest = address, greatest
+        self.sizes = [*LARGE_SIZES, *(size for size in PAGED_SIZES if size + 1000 < greatest)]
         self.pausing, self.ending = threading.Event(), threading.Event()
         self.paused, self.going = threading.Barrier(callers + 1), threading.Barrier(callers + 1)
         self.lock = threading.Lock()
@@ -41,7 +44,7 @@ class Caller(threading.Thread):
         self.caller, self.shared, self.is_memcached = number, shared, is_memcached
         self.dice = random.Random(number)
         self.small = [(b"%d:small:%d" % (number, i), SIZES[i % len(SIZES)]) for i in range(220)]
-        self.large = [(b"%d:large:%d" % (number, i), size) for i, size in enumerate(LARGE_SIZES)]
+        self.large = [(b"%d:large:%d" % (number, i), size) for i, size in enumerate(shared.sizes)]
         self.numbers = [b"%d:number:%d" % (number, i) for i in range(10)]
         self.forget()
         self.idle = []
@@ -205,7 +208,8 @@ class Caller(threading.Thread):
     def large_item(self, link):
         """Sets a large item and gets it, or is refused one that is too large."""
         if self.dice.random() < 0.1:
-            link.ask(b"set none 0 0 1100000\r\n" + b"x" * 1100000 + b"\r\n", b"SERVER_ERROR object too large for cache\r\n")
+            size = self.shared.greatest + 1000
+            link.ask(b"set none 0 0 %d\r\n" % size + b"x" * size + b"\r\n", b"SERVER_ERROR object too large for cache\r\n")
             return
         key, size = self.dice.choice(self.large)
         item = (1, self.a_block(size))
@@ -231,7 +235,7 @@ class Caller(threading.Thread):
             met = re.fullmatch(rb"VALUE shared:swap 0 (\d+) (\d+)\r\n", head)
             if not met:
                 raise Wrong(f"sent     {shown(sent)}\nexpected VALUE shared:swap 0 and two numbers\nseen     {shown(head)}")
-            block = link.answers.read(int(met[1]))
+            block = link.exactly(int(met[1]))
             link.await_answer(sent, b"\r\nEND\r\n")
             more = b"%d" % (int(block) + 1)
             sent = b"cas shared:swap 0 0 %d %s\r\n%s\r\n" % (len(more), met[2], more)
@@ -262,7 +266,7 @@ class Caller(threading.Thread):
         self.dice.choice(ends if self.is_memcached else [*ends, self.line_too_long])(link)
 
     def quit(self, link):
-        link.socket.sendall(b"quit\r\n")
+        link.send(b"quit\r\n")
         link.await_end(b"quit\r\n")
         link.close()
 
@@ -274,12 +278,12 @@ class Caller(threading.Thread):
     def cut_short(self, link):
         """Half a set stores nothing."""
         key, _ = self.a_key()
-        link.socket.sendall(b"set %s 0 0 1000\r\n%s" % (key, b"half" * 125))
+        link.send(b"set %s 0 0 1000\r\n%s" % (key, b"half" * 125))
         self.dice.choice([link.close, link.reset])()
 
     def unread(self, link):
         key, _ = self.dice.choice(self.large)
-        link.socket.sendall(b"get %s\r\n" % key * 5)
+        link.send(b"get %s\r\n" % key * 5)
         self.dice.choice([link.close, link.reset])()
 
     def line_too_long(self, link):

@@ -57,20 +57,22 @@ class Asking(ProgramCase):
         ):
             with self.subTest(pieces), socket.create_server((HOST, 0)) as door:
                 port = door.getsockname()[1]
+                door.settimeout(PATIENCE + LATE)
                 asked = []
-                answering = threading.Thread(target=self.answers, args=(door, pieces, asked))
+                answering = threading.Thread(target=self.answers, args=(door, pieces, asked), daemon=True)
                 answering.start()
                 self.asks(str(port), status, b"mcserver: --quit 127.0.0.1:%d: %s\n" % (port, why) if why else b"")
-                answering.join()
+                answering.join(PATIENCE + LATE)
                 self.assertEqual([ASKED], asked)
 
     def answers(self, door, pieces, asked):
         """Answers one request, of which it notes the bytes, in pieces, and closes."""
         link, _ = door.accept()
         with link:
+            link.settimeout(PATIENCE + LATE)
             got = b""
-            while b"\r\n\r\n" not in got:
-                got += link.recv(4096)
+            while b"\r\n\r\n" not in got and (piece := link.recv(4096)):
+                got += piece
             asked.append(got)
             for piece in pieces:
                 link.sendall(piece)
@@ -81,13 +83,14 @@ class Asking(ProgramCase):
         for pause in (None, 1):
             with self.subTest(pause=pause), socket.create_server((HOST, 0)) as door:
                 port, over = door.getsockname()[1], threading.Event()
-                dripping = threading.Thread(target=self.drips, args=(door, pause, over))
+                door.settimeout(PATIENCE + LATE)
+                dripping = threading.Thread(target=self.drips, args=(door, pause, over), daemon=True)
                 dripping.start()
                 began = time.monotonic()
                 self.asks(str(port), 1, b"mcserver: --quit 127.0.0.1:%d: no answer came within 5 seconds\n" % port)
                 self.assertGreater(time.monotonic() - began, PATIENCE - 0.5)
                 over.set()
-                dripping.join()
+                dripping.join(PATIENCE + LATE)
 
     def drips(self, door, pause, over):
         link, _ = door.accept()

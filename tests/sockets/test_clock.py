@@ -1,7 +1,7 @@
 """The system's clock set back or forward: what was flushed or has expired stays dead, and what lives isn't shortened."""
 import time
 
-from tests.lib.case import ProgramCase
+from tests.lib.case import ProgramCase, side_by_side
 from tests.lib.faults import Faults
 from tests.lib.peer import Peer, clients
 from tests.lib.server import Server
@@ -19,6 +19,7 @@ def setting(name, at, exptime):
     return b"set %s%d 0 %d 1\r\nx\r\n" % (name, at, exptime)
 
 
+@side_by_side
 class Clock(ProgramCase):
     def store(self, peer, name, exptime):
         peer.send(b"".join(setting(name, at, exptime) for at in range(ITEMS)))

@@ -6,13 +6,14 @@ from tests.lib.process import outcome, started
 # Of each option what it doesn't take.
 WRONG = [["-p", "0"], ["-p", "65536"], ["-p", "x"], ["-p", "-1"], ["-p"], ["-t", "0"], ["-t", "65"], ["-t", "x"], ["-t", ""]]
 WRONG += [["-c", "0"], ["-c", "65537"], ["-c", "x"], ["-c"], ["-U", "1"], ["-U"], ["-l"], ["-l", ""], ["-l", "x"], ["-l", "127.0.0"]]
-WRONG += [["-l", "127.0.0.1:0"], ["-l", "127.0.0.1:x"], ["-l", "127.0.0.1,x"], ["-l", "127.0.0.1,"], ["-l", "127.0.0.1", "-l", "x"]]
+WRONG += [["-l", "127.0.0.1:0"], ["-l", "127.0.0.1:x"], ["-l", "127.0.0.1,x"], ["-l", "127.0.0.1", "-l", "x"]]
 WRONG += [["-l", "01.0.0.1"], ["-l", ":::"]]
+WRONG += [["-o", "x"], ["-o", ""], ["-o", "modern,idle_timeout=3"], ["-o"], ["-B", "binary"], ["-B", ""], ["-R", "0"], ["-b", "x"], ["-n", "-1"]]
 WRONG += [["--buffer-limit", "0"], ["--buffer-limit", "65537"], ["--buffer-limit", "x"], ["--buffer-limit"]]
 WRONG += [["--idle-timeout", "-1"], ["--idle-timeout", "2592001"], ["--idle-timeout", "x"], ["--idle-timeout", ""], ["--idle-timeout"]]
 WRONG += [["--metrics", it] for it in ("0", "65536", "x", "", "127.0.0.1", "127.0.0.1:0", "::1:9150", "localhost:9150")] + [["--metrics"]]
 # What memcached has and this program doesn't: options that stand alone, and options with a value.
-FLAGS, VALUED = "dSZkLrCFAXWi", "uPsaYofnRbBDeN"
+FLAGS, VALUED = "dSZkrFAi", "uPsaYDe"
 
 
 class CommandLines(ProgramCase):

@@ -3,11 +3,12 @@ wrong, and gives its descriptors back."""
 import contextlib
 import errno
 import fcntl
+import resource
 import socket
 import time
 from concurrent.futures import ThreadPoolExecutor
 
-from tests.lib.abuse import ANSWERED, GIVEN_BACK
+from tests.lib.abuse import ANSWERED, GIVEN_BACK, MB
 from tests.lib.case import ProgramCase, tests_of
 from tests.lib.faults import Faults
 from tests.lib.keeper import Keepers
@@ -171,7 +172,7 @@ class ThreadsFail(ProgramCase):
                 faults.fail("pthread_create", [errno.EAGAIN], every=nth, left=1)
                 words = ["-p", str(free_port()), "-t", "3", "--metrics", str(free_port())]
                 ran = outcome(started(self.program, words, env=faults.environment), 10)
-                self.assertEqual((1, b"mcserver: cannot start a thread (ulimit -u)\n"), (ran.status, ran.stderr.splitlines(True)[-1]))
+                self.assertEqual((1, b"mcserver: cannot start a thread (ulimit -u, ulimit -v)\n"), (ran.status, ran.stderr.splitlines(True)[-1]))
 
 
 class Unread(ProgramCase):
@@ -226,6 +227,22 @@ class Warned(ProgramCase):
                 answers(HOST, server.port, ANSWERED)
                 time.sleep(0.2)
                 self.assertEqual(1, server.said().count(text), server.said())
+
+    def test_of_connections_that_want_memory(self):
+        """Connections are closed, as there is no room for their blocks, and one line is written."""
+        text = "mcserver: warning: a connection was closed, as the system has no memory for it (reported once a minute)\n"
+        block = b"set a 0 0 8000000\r\n" + b"x" * 2_000_000
+        with MetricsServer("-I", "8m", "--buffer-limit", "1024", workers=1) as server, contextlib.ExitStack() as links:
+            server.settle()
+            resource.prlimit(server.pid, resource.RLIMIT_AS, (server.memory("VmSize:"), resource.RLIM_INFINITY))
+            for _ in range(30):
+                with contextlib.suppress(ConnectionError):
+                    links.enter_context(Peer(server.port, ANSWERED)).send(block)
+            self.assertTrue(until(lambda: text in server.said(), ANSWERED), server.said())
+            time.sleep(0.5)
+            resource.prlimit(server.pid, resource.RLIMIT_AS, (resource.RLIM_INFINITY, resource.RLIM_INFINITY))
+            self.assertLess(1, server.scrape()['mcserver_connections_closed_total{reason="out_of_memory"}'])
+            self.assertEqual(1, server.said().count(text), server.said())
 
     def test_of_too_many_connections(self):
         with StillServer(connections=2) as server:

@@ -54,6 +54,7 @@ class Full(ProgramCase):
         words = [self.program, "-l", HOST, "-p", str(self.port), "--now", str(MOMENT), "-m", str(pages), *options]
         with Listener(words) as made:
             made.line()
+            made.line()  # (the warning of few pages)
             with Peer(self.port) as peer:
                 yield made, peer
 

@@ -4,7 +4,7 @@ import selectors
 import time
 
 from tests.lib.abuse import store_large
-from tests.lib.case import ProgramCase
+from tests.lib.case import ProgramCase, side_by_side
 from tests.lib.faults import Faults, late
 from tests.lib.peer import Peer, answers, clients
 from tests.lib.scrape import MetricsServer
@@ -49,6 +49,7 @@ def lives(peers, began, seconds):
     return lived.values()
 
 
+@side_by_side
 class Idle(ProgramCase):
     def test_those_of_which_nothing_is_heard(self):
         """Many say nothing, or a command, or a part of one, and then nothing: each is closed, and not too soon."""

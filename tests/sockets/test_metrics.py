@@ -19,10 +19,26 @@ from tests.lib.wait import until
 
 # A request comes whole within so many seconds, one that waits for no other has its answer before, and one that waits behind such so soon.
 LIMIT, AT_ONCE, SOON = 2, 1.8, 6
+# In so many seconds of requests it uses some of a processor.
+LONG = 300
 LONGEST = 8192
 # How often each of the clients does the same, and how many there are.
 ROUNDS, CLIENTS = 300, 4
 LARGE = b"l" * 1000000
+
+
+# What alerts and dashboards that were made for memcached's exporter ask for, but for memcached_up of a server that is down.
+ASKED_FOR = [f"memcached_{it}" for it in (
+    "commands_total", "connections_total", "current_bytes", "current_connections", "current_items", "items_evicted_total", "items_total",
+    "limit_bytes", "max_connections", "read_bytes_total", "slab_items_outofmemory_total", "uptime_seconds", "version", "written_bytes_total")]
+# The settings as labels.
+SETTINGS = "mcserver_settings_info" + "{" + ",".join(f'{it}="%d"' for it in (
+    "threads", "conn_limit", "idle_timeout_seconds", "buffer_limit_bytes", "memory_limit_bytes", "max_item_size_bytes", "shelves")) + "}"
+
+
+def settings_of(page):
+    """The samples of the settings."""
+    return {name: number for name, number in page.items() if name.startswith("mcserver_settings_info")}
 
 
 def command(name, status):
@@ -159,6 +175,16 @@ class Metrics(ProgramCase):
         kinds = ("memcached_commands_total", STORED, REFUSED, TOO_LARGE, "memcached_slab_items_outofmemory_total")
         return {name: grown for name, grown in server.grown(before).items() if name.startswith(kinds)}
 
+    def test_names_that_rules_for_the_exporter_ask_for(self):
+        with MetricsServer() as server:
+            there = {name.partition("{")[0] for name in server.scrape()}
+            self.assertEqual([], [name for name in ASKED_FOR if name not in there])
+
+    def test_the_settings_are_labels(self):
+        words = ["-c", "9", "-I", "2m", "--idle-timeout", "300", "--buffer-limit", "5"]
+        with MetricsServer(*words, pages=70, workers=2) as server:
+            self.assertEqual({SETTINGS % (2, 9, 300, 5 * MIB, 70 * MIB, 2 * MIB, 64): 1}, settings_of(server.scrape()))
+
     def test_what_it_has(self):
         """Items, bytes, classes, limits and the version are told as they are."""
         with MetricsServer("-c", "77", "--shelves", "8", pages=3) as server, Peer(server.port) as peer:
@@ -168,6 +194,7 @@ class Metrics(ProgramCase):
             self.assertFalse([it for it in now if "slab=" in it and "outofmemory" not in it], "classes that have no page")
             version = subprocess.run([self.program, "--version"], capture_output=True, text=True, check=True).stdout.split()[1]
             self.assertEqual(1, now[f'memcached_version{{version="{version}"}}'])
+            self.assertEqual({SETTINGS % (4, 77, 0, 64 * MIB, 3 * MIB, MIB, 8): 1}, settings_of(now))
             for key in (b"a", b"b", b"c"):
                 peer.asks(b"set %s 0 0 10\r\n0123456789\r\n" % key, b"STORED\r\n")
             peer.asks(b"set large 0 0 1000000\r\n%s\r\n" % LARGE, b"STORED\r\n")
@@ -383,7 +410,9 @@ class Metrics(ProgramCase):
         """It is what the system counts for the process, its own and the system's for it, in hundredths of a second."""
         with MetricsServer() as server, Peer(server.port) as peer:
             peer.asks(b"set a 0 0 1\r\nx\r\n", b"STORED\r\n")
+            end = time.monotonic() + LONG
             while min(ticks_of(server)) < 20:
+                self.assertLess(time.monotonic(), end, f"it used {ticks_of(server)} ticks in {LONG} s of requests")
                 peer.asks(b"get a\r\n" * 1000, b"VALUE a 0 1\r\nx\r\nEND\r\n" * 1000)
             before, told, after = sum(ticks_of(server)), server.scrape()["process_cpu_seconds_total"], sum(ticks_of(server))
             self.assertTrue(before / TICKS <= told <= after / TICKS, (before, told, after))

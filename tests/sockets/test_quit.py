@@ -1,8 +1,10 @@
 """With --allow-quit it ends by a request of this machine, with status 0, after what is due was answered and sent, and soon."""
+import collections
 import socket
 import subprocess
 import threading
 import time
+from concurrent.futures import ThreadPoolExecutor
 
 from tests.lib.case import ProgramCase
 from tests.lib.listening import ended
@@ -16,6 +18,23 @@ GET = b"GET /quit HTTP/1.1\r\nHost: mcserver\r\n\r\n"
 # Open connections have so many seconds at most; where none is open, or none has anything to do, it ends so soon.
 AT_MOST, EMPTY, IDLE, MORE = 5, 1, 4, 3
 BLOCK = b"b" * 1000000
+# How many clients are busy, and what they get.
+BUSY, VALUE = 20, b"v" * 10000
+HIT = b"VALUE a 0 %d\r\n%s\r\nEND\r\n" % (len(VALUE), VALUE)
+Last = collections.namedtuple("Last", "answer moment")
+
+
+def asks_until_it_fails(port):
+    """Asks on one connection, one call after another: what came of the call that failed, and when."""
+    with Peer(port) as peer:
+        while True:
+            try:
+                peer.send(b"get a\r\n")
+                answer = peer.exactly(len(HIT))
+            except ConnectionError:
+                answer = peer.got
+            if answer != HIT:
+                return Last(answer, time.monotonic())
 
 
 # Fields of a request that ends the server, if a peer of this machine sends it, and of one that may be a page's of another site.
@@ -97,6 +116,20 @@ class Quitting(ProgramCase):
             self.asked(server)
             self.assertTrue(peer.is_closed(), "the connection is open")
             self.ends(server, IDLE)
+
+    def test_busy_clients_have_one_failed_call_each(self):
+        """Clients that ask without a pause are served for 5 seconds more. Each has one call without an answer then, and none half of one."""
+        with self.server() as server, Peer(server.port) as first, ThreadPoolExecutor(BUSY) as pool:
+            first.asks(b"set a 0 0 %d\r\n%s\r\n" % (len(VALUE), VALUE), b"STORED\r\n")
+            runs = [pool.submit(asks_until_it_fails, server.port) for _ in range(BUSY)]
+            time.sleep(0.5)
+            self.assertFalse(any(it.done() for it in runs))
+            asked = self.asked(server)
+            first.close()
+            lasts = [it.result() for it in runs]
+            self.assertEqual([b""] * BUSY, [it.answer for it in lasts])
+            self.assertLess(AT_MOST - 1, min(it.moment for it in lasts) - asked)
+            self.ends(server, MORE)
 
     def test_what_was_sent_before_is_answered_and_sent(self):
         """Requests whose answers nobody has read yet are answered whole, and so is one in halves."""

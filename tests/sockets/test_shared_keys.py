@@ -10,13 +10,15 @@ from urllib.parse import quote_from_bytes
 
 from tests.history.record import NotARecord
 from tests.history.search import check
+from tests.lib import settings
 from tests.lib.case import ProgramCase
 from tests.lib.compare import shown
 from tests.lib.peer import Peer
-from tests.lib.server import StillServer
+from tests.lib.server import HOST, StillServer
 
 KEYS = [b"k", b"l", b"m"]
-SEEDS = range(1, 9)
+# So many runs are recorded, each by a seed of its own.
+RUNS = 8
 # In rounds: each connection sends so many commands at once, and no round begins before the last one was answered.
 CONNECTIONS, ROUNDS, COMMANDS = 6, 12, 6
 # Freely: each connection sends one command after another.
@@ -26,8 +28,8 @@ FREE_CONNECTIONS, FREE_COMMANDS = 5, 30
 class Caller:
     """A connection: the commands that it makes, and the words of the record for each answer."""
 
-    def __init__(self, port, name, seed):
-        self.peer, self.name, self.random = Peer(port), name, random.Random(f"{seed} {name}")
+    def __init__(self, port, name, seed, host=HOST):
+        self.peer, self.name, self.random = Peer(port, host=host), name, random.Random(f"{seed} {name}")
         self.count, self.told = 0, {}
 
     def command(self):
@@ -148,7 +150,8 @@ class SharedKeys(ProgramCase):
 
     def records(self, count, recorded):
         """Records a run of so many callers for each seed, and asks for the order."""
-        for seed in SEEDS:
+        first = settings.seed()
+        for seed in range(first, first + RUNS):
             with StillServer() as server, contextlib.ExitStack() as closed:
                 callers = [Caller(server.port, f"c{number}", seed) for number in range(count)]
                 for it in callers:

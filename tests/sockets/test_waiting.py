@@ -6,19 +6,21 @@ import time
 from concurrent.futures import ThreadPoolExecutor
 
 from tests.lib.abuse import GIVEN_BACK, LITTLE, MB, costs, sent_as_far
-from tests.lib.case import ProgramCase
+from tests.lib.case import ProgramCase, side_by_side
 from tests.lib.lent import Unread, block, setting
 from tests.lib.peer import Peer, clients
 from tests.lib.scrape import MetricsServer
 from tests.lib.server import Server
+from tests.lib.settings import ROOT
 from tests.lib.slow import Drips, Honest, Sets, TimesOut, readers, uploads
 from tests.lib.wait import until
 
 # An honest request is answered in so many seconds, but for one in a hundred. On a machine that is busy it may take so many times what
-# the slowest takes while nobody else is there.
+# the slowest takes of a stand-in of the tests while nobody else is there.
 SOON, SHARE, BUSY = 1, 100, 3
 # How many there are, and for how long they ask.
 HONEST, SECONDS, CALM = 6, 12, 2
+STANDIN = f"{ROOT}/tests/standin/standin.py"
 # How many slow readers there are, how many bytes a second each reads, and how many fast ones are beside them.
 SLOW, PACE, FAST = 100, 400_000, 20
 # For so long a server stands still, while so many send a block.
@@ -47,8 +49,12 @@ class Waiting(ProgramCase):
         return sorted(time for it in asking for time in it.times)
 
     def calm(self, server):
-        """So soon an honest request is answered beside others, by what the slowest takes while no others are there."""
-        return max(SOON, BUSY * self.times(server, CALM)[-1])
+        """So soon an honest request is answered beside others, by what a stand-in takes. While no others are there each is."""
+        with Server(STANDIN) as other:
+            soon = max(SOON, BUSY * self.times(other, CALM)[-1])
+        slowest = self.times(server, CALM)[-1]
+        self.assertLessEqual(slowest, soon, "seconds that the slowest request took while no others were there")
+        return soon
 
     def honest_are_answered(self, server, soon):
         """Fails unless honest requests are answered so soon, but for one in a hundred."""
@@ -122,10 +128,10 @@ class Waiting(ProgramCase):
         self.assertEqual(sum(it.is_closed for it in made), 0)
 
     def test_long_lines_that_do_not_end(self):
-        """Nine hundred clients have sent 54 KB of a line each: blocks of others are stored within a second."""
+        """Nine hundred clients have sent 60 KB of a line each, every other one behind a request: blocks of others are stored within a second."""
         with Server(args=["-c", "2000"]) as server, clients(server.port, LINES) as peers:
-            for it in peers:
-                it.send(b"get " + b"large " * 9_000)
+            for at, it in enumerate(peers):
+                it.send(b"get small\r\n" * (at % 2) + b"get " + b"large " * 10_000)
             sets = Sets(server.port, SETS, SET)
             sets.start()
             sets.join(5 * SECONDS)
@@ -153,6 +159,7 @@ class Waiting(ProgramCase):
         self.assertEqual([it.fault for it in made], [None] * UPLOADS)
 
 
+@side_by_side
 class Kept(ProgramCase):
     """What becomes of those that are kept waiting, as others hold all that there is."""
 

@@ -25,6 +25,8 @@ READ = 16384
 LARGE = 65536
 # After so many seconds one that hangs up does so.
 PATIENCE = 1.5
+# The lies by which something lives a second longer.
+LONGER = [f"{does} for a second more" for does in ("stores", "swaps", "touches", "reads")] + ["flushes a second later"]
 # Asks the system whether the next byte of a socket is the one behind urgent data.
 SIOCATMARK = 0x8905
 
@@ -61,6 +63,40 @@ class Forgetful(model.Store):
         if LIE == "repeats numbers" and self.next_unique > 1:
             self.next_unique -= 1
         return super().write(key, flags, expiry, block, reply, may_stay)
+
+
+class Longer(model.Store):
+    """A store in which an item, a touched one, or what a flush kills lives a second longer than it may, where that is some seconds."""
+
+    def __init__(self, *given):
+        super().__init__(*given)
+        self.more = 0
+
+    def expiry(self, exptime):
+        found = super().expiry(exptime)
+        return found + self.more if 1 <= exptime <= 8 else found
+
+    def later(self, lie, call, *given):
+        self.more = int(LIE == lie)
+        try:
+            return call(*given)
+        finally:
+            self.more = 0
+
+    def store(self, *given):
+        return self.later("stores for a second more", super().store, *given)
+
+    def cas(self, *given):
+        return self.later("swaps for a second more", super().cas, *given)
+
+    def touch(self, *given):
+        return self.later("touches for a second more", super().touch, *given)
+
+    def read(self, *given):
+        return self.later("reads for a second more", super().read, *given)
+
+    def flush(self, *given):
+        return self.later("flushes a second later", super().flush, *given)
 
 
 class Late(model.Store):
@@ -114,7 +150,8 @@ class Standin:
     def __init__(self, given):
         self.given, self.answers, self.kept = given, 0, []
         stores = {"forgets writes": Forgetful, "repeats numbers": Forgetful, "reads what was": Late, "counts what is read": Grudging}
-        self.store = stores.get(LIE, model.Store)(given.now, given.m, given.I)
+        stores |= dict.fromkeys(LONGER, Longer)
+        self.store = stores.get(LIE, model.Store)(int(time.time()) if given.now is None else given.now, given.m, given.I)
         self.chooser = selectors.DefaultSelector()
         self.listener = socket.create_server(("127.0.0.1", given.p), backlog=1024)
         self.listener.setblocking(False)
@@ -178,6 +215,8 @@ class Standin:
 
     def turns(self, link, data=b""):
         text = True
+        if self.given.now is None:
+            self.store.now = int(time.time())
         while text and not link.out and link.socket.fileno() >= 0:
             while text and (len(link.out) < READ or LIE == "hoards answers"):
                 text = link.session.turn(data)
@@ -251,7 +290,7 @@ class Standin:
 
 def main():
     parser = argparse.ArgumentParser()
-    parser.add_argument("--now", type=int, default=int(time.time()))
+    parser.add_argument("--now", type=int)
     parser.add_argument("--idle-timeout", type=int, default=0)
     parser.add_argument("--buffer-limit", type=int, default=64)
     for name, default in (("-p", 11211), ("-t", 4), ("-m", 64), ("-I", model.GREATEST), ("-c", 1024)):

@@ -1,4 +1,5 @@
 """What holds the suite itself: tests that are gone, skipped, without an end, or that die in a thread are failures."""
+import datetime
 import io
 import os
 import subprocess
@@ -6,10 +7,12 @@ import sys
 import tempfile
 import threading
 import unittest
+from unittest import mock
 
-from tests.lib import counts
+from tests.lib import counts, examples, settings
 from tests.lib.result import Result
 from tests.lib.settings import ROOT
+from tests.lib.shrink import shorter
 
 PINNED = {"test_a.py": (5, 0), "test_b.py": (2, 1)}
 # A folder of tests with one that waits for ever.
@@ -57,7 +60,6 @@ class Counts(unittest.TestCase):
             counts.pin("sockets", PINNED, f"{folder}/counts.txt")
             counts.pin("protocol", {"test_rows.py": (700, 0)}, f"{folder}/counts.txt")
             self.assertEqual({"sockets": PINNED, "protocol": {"test_rows.py": (700, 0)}}, counts.read(f"{folder}/counts.txt"))
-
 
     def test_a_wrong_body_and_a_row_that_are_taken_away(self):
         with tempfile.TemporaryDirectory() as folder:
@@ -109,3 +111,39 @@ class Results(unittest.TestCase):
             ended = subprocess.run(words, cwd=ROOT, env={**os.environ, "LONGEST": "1"}, capture_output=True, text=True, timeout=60)
         self.assertEqual(1, ended.returncode)
         self.assertIn("test_endless.Waits.test_for_ever: it has no end in 1 s", ended.stdout)
+
+
+class Examples(unittest.TestCase):
+    def found(self, text):
+        with tempfile.NamedTemporaryFile("w+", encoding="utf-8") as file:
+            file.write(text)
+            file.flush()
+            return list(examples.faults(file.name))
+
+    def test_one_that_is_tested(self):
+        self.assertEqual([], self.found("# a comment\n\nan item is stored and got: stores_and_gets an_example_without_a_test\n"))
+
+    def test_an_example_without_a_test(self):
+        self.assertRegex(self.found("nothing tests it:\n")[0], "no test has 'nothing tests it'$")
+
+    def test_a_name_that_no_test_has(self):
+        self.assertRegex(self.found("one of two is gone: stores_and_gets " + "no_such_" + "test\n")[0], "no test is named no_such_test")
+
+
+class Seeds(unittest.TestCase):
+    def seed(self, **environment):
+        settings.told.clear()
+        with mock.patch.dict(os.environ, environment), mock.patch("builtins.print") as said:
+            return settings.seed(), said.call_args.args[0].strip()
+
+    def test_it_is_told_and_may_be_given(self):
+        self.assertEqual((7, "SEED=7"), self.seed(SEED="7"))
+
+    def test_it_is_the_date(self):
+        found, said = self.seed(SEED="")
+        self.assertEqual(f"SEED={found}", said)
+        self.assertEqual(datetime.date.today(), datetime.datetime.strptime(str(found), "%Y%m%d").date())
+
+    def test_what_fails_is_made_shorter(self):
+        parts = [b"%d" % number for number in range(100)]
+        self.assertEqual([b"13", b"77"], shorter(parts, lambda less: b"13" in less and b"77" in less, 1000))

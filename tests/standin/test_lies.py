@@ -18,6 +18,9 @@ HALF_LINES = "test_half_lines.HalfLines.test_the_rest_comes_later"
 ENDLESS, PASSED_OVER = "test_blocks.Blocks.test_blocks_that_do_not_end", "test_blocks.Blocks.test_blocks_that_are_passed_over"
 RESET, COME_AND_GO = "test_resets.Resets.test_connections_that_are_reset", "test_resets.Resets.test_connections_that_come_and_go"
 HOLD_MUCH = "test_resets.Resets.test_clients_that_hold_much_again_and_again"
+EXPTIMES = "test_exptimes.Exptimes"
+EXPIRE = f"{EXPTIMES}.test_a_hit_until_the_exptime_and_a_miss_then"
+FLUSH, AS_TIME_PASSES = f"{EXPTIMES}.test_flush_all_with_a_delay", f"{EXPTIMES}.test_random_inputs_between_which_time_passes"
 LENT, LENT_MEMORY = "test_lent.Lent", "test_lent_memory.LentMemory"
 
 # In which way the stand-in is wrong, and tests that must notice. Without a lie it is right, and is no program of this kind.
@@ -78,8 +81,24 @@ LIES = {
     "serves the last first": ["test_who_is_served.WhoIsServed.test_who_asked_first"],
     "stalls at urgent data": ["test_urgent.Urgent.test_a_byte_of_urgent_data"],
     "hangs up": ["test_idle.Idle.test_those_of_which_something_is_heard", "test_idle.Idle.test_without_it_none_is_closed"],
+    "stores for a second more": [EXPIRE, f"{EXPTIMES}.test_every_command_on_an_item_that_dies", AS_TIME_PASSES],
+    "swaps for a second more": [f"{EXPTIMES}.test_gats_and_cas"],
+    "touches for a second more": [EXPIRE, AS_TIME_PASSES],
+    "reads for a second more": [EXPIRE, f"{EXPTIMES}.test_gats_and_cas", AS_TIME_PASSES],
+    "flushes a second later": [FLUSH, AS_TIME_PASSES],
     "leaves when stopped": ["test_signals.Signals.test_a_server_that_is_stopped_for_two_seconds"],
 }
+
+
+def finds(case, name):
+    """Runs a test below tests.sockets, which must fail, and gives what it found."""
+    result, said = unittest.TestResult(), io.StringIO()
+    with mock.patch("sys.stdout", said):
+        unittest.defaultTestLoader.loadTestsFromName(f"tests.sockets.{name}").run(result)
+    case.assertEqual(1, result.testsRun)
+    found = [text.strip().splitlines()[-1] for _, text in result.failures + result.errors]
+    case.assertTrue(found, "nothing was found")
+    return found[0]
 
 
 class Lies(unittest.TestCase):
@@ -87,13 +106,7 @@ class Lies(unittest.TestCase):
         """Each of these tests fails, of a stand-in that is wrong so."""
         for name in names:
             with self.subTest(name), mock.patch.dict(os.environ, PROGRAM=STANDIN, LIE=lie, INPUTS=FEW_INPUTS):
-                result, said = unittest.TestResult(), io.StringIO()
-                with mock.patch("sys.stdout", said):
-                    unittest.defaultTestLoader.loadTestsFromName(f"tests.sockets.{name}").run(result)
-                self.assertEqual(1, result.testsRun)
-                found = [text.strip().splitlines()[-1] for _, text in result.failures + result.errors]
-                self.assertTrue(found, "nothing was found")
-                print(f"    {lie or 'no program'}: {name}: {found[0][:200]}", flush=True)
+                print(f"    {lie or 'no program'}: {name}: {finds(self, name)[:200]}", flush=True)
 
 
 def test_of(lie, names):
