@@ -13,7 +13,7 @@ from html import escape
 PANELS = [
     ("a_second", "requests a second", True),
     ("us", "processor time a request", False),
-    ("p999", "99.9th percentile", False),
+    ("p999", "99.9th percentile of latency", False),
 ]
 # The groups of workloads, by name; a workload of no group is in the last one.
 GROUPS = [
@@ -22,10 +22,13 @@ GROUPS = [
     ("Large", tuple(f"{verb}-{size}" for size in ("34k", "50k", "64k", "100k", "400k", "1m", "4m", "8m") for verb in ("get", "set"))),
     ("Many keys or connections", ()),
 ]
-PANEL, GAP, ROW, TOP, BOTTOM, MARGIN = 250, 60, 22, 78, 34, 12
+# Eight rows are as wide as a page of GitHub shows them, so that no letter gets smaller.
+PANEL, GAP, ROW, TOP, BOTTOM, MARGIN = 188, 54, 22, 96, 34, 12
+# What the bars, their lines and the third colour mean.
+LEGEND = "A bar is the median of the rounds, a line the least to the most; grey: the line reaches 1, so no side is ahead."
 # Each colour by day and by night. A viewer that knows no scheme shows the day's.
 COLOURS = {"paper": ("#ffffff", "#0d1117"), "ink": ("#222222", "#e6edf3"), "faint": ("#bbbbbb", "#484f58"),
-           "better": ("#2a7f6f", "#4fb8a3"), "worse": ("#b85c1e", "#e8935a")}
+           "better": ("#2a7f6f", "#4fb8a3"), "worse": ("#b85c1e", "#e8935a"), "even": ("#6b7280", "#9aa4b0")}
 # The width of a character in 1/1000 of the font's size, in the widest of Debian's usual fonts without serifs (DejaVu Sans);
 # a capital and any other character not named here take WIDE.
 NARROW = {" ": 318, ",": 318, ".": 318, "i": 278, "j": 278, "l": 278, "t": 392, "f": 352, "r": 411, "s": 521, "c": 550, "z": 525, "-": 361,
@@ -34,19 +37,19 @@ WIDE = 1000
 
 
 class Scale:
-    """Where a ratio lies on a panel: whole doublings, as many as the medians want. A spread beyond them is cut."""
+    """Where a ratio lies on a panel, by doublings, with room around the medians. A spread beyond it is cut."""
 
     def __init__(self, ratios):
         logs = [math.log2(max(it["median"], 1e-3)) for it in ratios]
-        self.low = min(-1, math.floor(min(logs) - 0.3))
-        self.high = max(1, math.ceil(max(logs) + 0.3))
+        self.low = min(-1, min(logs) - 0.4)
+        self.high = max(1, max(logs) + 0.4)
 
     def at(self, ratio):
         part = (math.log2(max(ratio, 1e-3)) - self.low) / (self.high - self.low)
         return PANEL * min(max(part, 0), 1)
 
     def marks(self):
-        return [2.0**it for it in range(self.low, self.high + 1)]
+        return [2.0**it for it in range(math.ceil(self.low), math.floor(self.high) + 1)]
 
 
 def width_of(words, size=12):
@@ -73,11 +76,17 @@ def axis(left, scale, height):
     return drawn
 
 
+def colour_of(ratio, more_is_better):
+    """Which side is ahead, if all rounds agree."""
+    if ratio["least"] <= 1 <= ratio["most"]:
+        return "even"
+    return "better" if (ratio["median"] > 1) == more_is_better else "worse"
+
+
 def bar(left, y, scale, ratio, more_is_better):
     """A bar from 1.0 to the median, a thin line over the spread, and the median in figures."""
     start, end = left + scale.at(1), left + scale.at(ratio["median"])
-    good = ratio["median"] >= 1 if more_is_better else ratio["median"] <= 1
-    colour = "better" if good else "worse"
+    colour = colour_of(ratio, more_is_better)
     middle = y + ROW / 2
     wide = f'width="{max(abs(end - start), 1):.1f}" height="{ROW - 8}"'
     least, most = left + scale.at(ratio["least"]), left + scale.at(ratio["most"])
@@ -92,7 +101,7 @@ def panel(left, lines, name, title, more_is_better):
     """A panel over the chart's lines, each a workload or the head of a group."""
     scale = Scale([it["ratios"][name] for it in lines if isinstance(it, dict)])
     drawn = [
-        text(left, TOP - 28, title, size=13, weight="bold"),
+        text(left, TOP - 28, title, weight="bold"),
         text(left, TOP - 13, "more is better" if more_is_better else "less is better", size=10),
         *axis(left, scale, ROW * len(lines)),
     ]
@@ -124,7 +133,8 @@ def chart(rows, only=()):
     labels = MARGIN + max([width_of(it["title"]) if isinstance(it, dict) else width_of(it) * 9 / 8 for it in lines]) + MARGIN
     width = math.ceil(labels + len(PANELS) * (PANEL + GAP))
     height = TOP + ROW * len(lines) + BOTTOM
-    drawn = [style(), f'<rect class="paper" width="{width}" height="{height}"/>', text(MARGIN, 20, "mcserver over memcached", size=15, weight="bold")]
+    drawn = [style(), f'<rect class="paper" width="{width}" height="{height}"/>', text(MARGIN, 22, "mcserver, as ratios to memcached", size=15, weight="bold"),
+             text(MARGIN, 42, LEGEND, size=11)]
     for number, it in enumerate(lines):
         y = TOP + ROW * number + ROW / 2 + 4
         drawn.append(text(labels - MARGIN, y, it["title"], "end") if isinstance(it, dict) else text(MARGIN, y, it, weight="bold"))

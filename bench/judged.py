@@ -146,7 +146,8 @@ def sends_long_lines(port, begun, over, key, length, count):
     line = b"get" + b" %s" % key * (length // (len(key) + 1)) + b"\r\n"
     links = []
     for _ in range(count):
-        peer = Peer(port, 1, receives=RECEIVES, segment=SEGMENT)
+        peer = Peer(port, SECONDS, receives=RECEIVES, segment=SEGMENT)
+        peer.seconds = 1
         with contextlib.suppress(OSError):
             peer.send(line)
         links.append(peer)
@@ -285,8 +286,7 @@ def faults(row, theirs, ours):
 
 
 def judged(row, program, fill, failure):
-    """Measures both servers and prints a line for each. Whether the row passed."""
-    print(row.title)
+    """Measures both servers and prints a line for each. Whether the program passed."""
     found = {}
     for name in NAMES:
         with Server(name if name == "memcached" else program, pages=row.pages, args=["-c", "16384", *row.options]) as server:

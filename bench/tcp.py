@@ -5,12 +5,16 @@ Both servers run at once, and a load generator (bench/load.c, which is compiled 
 one and now the other, in rounds of about a second. It compares every reply byte for byte. It is no test: nothing here
 fails for being slow. The status is 1 where a reply was wrong, or a server or a workload failed.
 
-    bench/tcp.py [--program PATH] [--only NAME ..] [--rounds N] [--seconds S] [--quick] [--json FILE]
+Where the system allows it, as for root, all three have a real-time priority, so that waits are the servers' own; keep such a run to a
+machine on which nothing else is to run meanwhile. A workload for which memory isn't enough is skipped, by name.
+
+    bench/tcp.py [--program PATH] [--only NAME ..] [--rounds N] [--seconds S] [--quick] [--plain] [--json FILE]
     bench/tcp.py --sanity       memcached on both sides: the ratios are to be 1.00, but for noise
     bench/tcp.py --self-test    holds the load generator against known delays, known costs and replies that are wrong
     bench/tcp.py --list         the workloads
 """
 import argparse
+import contextlib
 import json
 import os
 import random
@@ -34,13 +38,18 @@ from tests.lib.server import CannotStart, Server  # noqa: E402
 from tests.lib.settings import program as built  # noqa: E402
 
 PAGES = 1024
+# The items of the greatest store, its pages, and the memory that two such servers take.
+MANY, MANY_PAGES, MANY_MEMORY = 10_000_000, 4096, 6_000_000_000
+# What the servers and their clients have where the system gives it, by the round robin of `chrt -r`.
+PRIORITY = 5
 # How long all connections may be without a reply, and how long a round may take beside its own time.
 SECONDS = 10
 PATIENCE = 60
 WARM = 0.15
 ROUNDS, ROUND_SECONDS = 7, 1.0
 QUICK_ROUNDS, QUICK_SECONDS = 3, 0.6
-GROWN_A_SECOND = 300_000
+# How many keys `growth` stores in a second of its rounds, and how many any server stores at least before a row.
+GROWN_A_SECOND, FILLED_A_SECOND = 300_000, 20_000
 NAMES = ("memcached", "mcserver")
 
 
@@ -65,8 +74,10 @@ class Workload:
     idle: int = 0
     workers: int = 4
     fills: bool = True
-    # further words of both servers' command lines
+    # further words of both servers' command lines, their pages, and the memory that both want
     args: list = field(default_factory=list)
+    pages: int = PAGES
+    memory: int = 0
 
     @property
     def grows(self):
@@ -83,41 +94,60 @@ def options_of(numbers):
     return [word for name, number in numbers.items() for word in (f"--{name}", str(number))]
 
 
-def workloads():
-    deep, zipf = ["--depth", "32"], ["--zipf", "0.99", "--gets", "90"]
-    kilo = {"keys": 10_000, "value": 10_000}
-    kilos = {size: {"keys": 100_000 // size, "value": size * 1000, "connections": 16} for size in (100, 400)}
-    mega = {"keys": 100, "value": 1_000_000, "connections": 8}
+DEEP, HUNDRED = ["--depth", "32"], ["--keys-a-get", "100"]
+
+
+def small():
+    """One key a request, and blocks of 100 bytes."""
+    yield Workload("get", "get", "get")
+    yield Workload("set", "set", "set")
+    yield Workload("get-32", "get, 32 deep", "get", DEEP)
+    yield Workload("set-32", "set, 32 deep", "set", DEEP)
+    yield Workload("incr", "incr of one key", "incr", fills=False)
+    yield Workload("set-noreply", "set with noreply", "set", ["--noreply", *DEEP])
+    yield Workload("zipf", "90 : 10 by Zipf's law", "mix", ["--zipf", "0.99", "--gets", "90"], keys=1_000_000)
+    yield Workload("growth", "set of new keys", "insert", fills=False)
+    yield Workload("get-10m-items", f"get, of {MANY:,} items", "get", keys=MANY, pages=MANY_PAGES, memory=MANY_MEMORY)
+
+
+def large():
+    """Blocks of 10 KB to 8 MB."""
+    kilos = {size: {"keys": 100_000 // size, "value": size * 1000, "connections": 16} for size in (34, 50, 64, 100, 400)}
     megas = {size: {"keys": 200 // size, "value": size * 1_000_000, "connections": 8, "args": ["-I", "8m"]} for size in (4, 8)}
-    nothing, hundred = ["--nothing", "--first-key", "1000000000"], ["--keys-a-get", "100"]
-    made = [
-        Workload("get", "get", "get"),
-        Workload("set", "set", "set"),
-        Workload("get-32", "get, 32 deep", "get", deep),
-        Workload("set-32", "set, 32 deep", "set", deep),
-        Workload("get-100-keys", "get of 100 keys", "get", hundred),
-        Workload("get-10k", "get of 10 KB", "get", **kilo),
-        Workload("set-10k", "set of 10 KB", "set", **kilo),
-        *[Workload(f"{verb}-{size}k", f"{verb} of {size} KB", verb, **it) for size, it in kilos.items() for verb in ("get", "set")],
-        Workload("get-1m", "get of 1 MB", "get", **mega),
-        Workload("set-1m", "set of 1 MB", "set", **mega),
-        *[Workload(f"{verb}-{size}m", f"{verb} of {size} MB", verb, **it) for size, it in megas.items() for verb in ("get", "set")],
-        Workload("get-100-keys-full", "get of 100 keys, of 1,000,000 items", "get", hundred, keys=1_000_000),
-        Workload("nothing-32", "get of nothing, 32 deep, of 1,000 items", "get", [*nothing, *deep], keys=1000),
-        Workload("nothing-100-keys", "get of 100 keys, all of nothing, of 1,000 items", "get", [*nothing, *hundred], keys=1000),
-        Workload("nothing-full-32", "get of nothing, 32 deep, of 1,000,000 items", "get", [*nothing, *deep], keys=1_000_000),
-        Workload("incr", "incr of one key", "incr", fills=False),
-        Workload("set-noreply", "set with noreply", "set", ["--noreply", *deep]),
-        Workload("zipf", "90 : 10 by Zipf's law", "mix", zipf, keys=1_000_000),
-        Workload("idle-1000", "get, 8 of 1,000 busy", "get", connections=8, idle=992),
-        Workload("idle-10000", "get, 8 of 10,000 busy", "get", connections=8, idle=9992),
-        Workload("growth", "set of new keys", "insert", fills=False),
-    ]
+    both, ten = ("get", "set"), {"keys": 10_000, "value": 10_000}
+    yield from (Workload(f"{verb}-10k", f"{verb} of 10 KB", verb, **ten) for verb in both)
+    for size, it in kilos.items():
+        yield from (Workload(f"{verb}-{size}k", f"{verb} of {size} KB", verb, **it) for verb in (both if size >= 100 else ("get",)))
+    yield from (Workload(f"{verb}-1m", f"{verb} of 1 MB", verb, keys=100, value=1_000_000, connections=8) for verb in both)
+    for size, it in megas.items():
+        yield from (Workload(f"{verb}-{size}m", f"{verb} of {size} MB", verb, **it) for verb in both)
+
+
+def many():
+    """Many keys in a get, and what isn't there."""
+    nothing, full = ["--nothing", "--first-key", "1000000000"], {"keys": 1_000_000}
+    most = {"keys": MANY, "pages": MANY_PAGES, "memory": MANY_MEMORY}
+    yield Workload("get-100-keys", "get of 100 keys", "get", HUNDRED)
+    yield Workload("get-100-keys-full", "get of 100 keys, of 1,000,000 items", "get", HUNDRED, **full)
+    yield Workload("get-100-keys-10m", f"get of 100 keys, of {MANY:,} items", "get", HUNDRED, **most)
+    yield Workload("nothing-32", "get of nothing, 32 deep, of 1,000 items", "get", [*nothing, *DEEP], keys=1000)
+    yield Workload("nothing-100-keys", "get of 100 keys, all of nothing, of 1,000 items", "get", [*nothing, *HUNDRED], keys=1000)
+    yield Workload("nothing-full-32", "get of nothing, 32 deep, of 1,000,000 items", "get", [*nothing, *DEEP], **full)
+
+
+def connected():
+    """Other numbers of connections and of workers."""
+    for count in (1, 8, 64):
+        yield Workload(f"get-c{count}", f"get, {count} connection{'s' * (count > 1)}", "get", connections=count)
+    for count in (1000, 10_000):
+        yield Workload(f"idle-{count}", f"get, 8 of {count:,} busy", "get", connections=8, idle=count - 8)
     for workers in (1, 2):
-        for verb in ("get", "set"):
-            title = f"{verb}, {workers} worker{'s' * (workers > 1)}"
-            made.append(Workload(f"{verb}-t{workers}", title, verb, workers=workers))
-    return made
+        title = f"{workers} worker{'s' * (workers > 1)}"
+        yield from (Workload(f"{verb}-t{workers}", f"{verb}, {title}", verb, workers=workers) for verb in ("get", "set"))
+
+
+def workloads():
+    return [*small(), *large(), *many(), *connected()]
 
 
 # ---- servers
@@ -128,7 +158,7 @@ def memcached(work):
 
 
 def started(program, work):
-    return Server(program, pages=PAGES, workers=work.workers, args=["-c", "16384", *work.args])
+    return Server(program, pages=work.pages, workers=work.workers, args=["-c", "16384", *work.args])
 
 
 def processor_seconds(server):
@@ -148,6 +178,30 @@ def about(server):
         state = "it runs"
     said = server.said()[-300:].strip()
     return f" ({name}: {state}{f', and it said `{said}`' if said else ''})"
+
+
+# ---- the machine
+
+
+@contextlib.contextmanager
+def real_time(wanted=True):
+    """A real-time priority for this process and those that it starts meanwhile. It gives whether they have it, as the system may refuse it."""
+    before = os.sched_getscheduler(0), os.sched_getparam(0)
+    try:
+        if wanted:
+            os.sched_setscheduler(0, os.SCHED_RR, os.sched_param(PRIORITY))
+    except PermissionError:
+        wanted = False
+    try:
+        yield wanted
+    finally:
+        os.sched_setscheduler(0, *before)
+
+
+def free_memory():
+    """The bytes that processes may still take."""
+    with open("/proc/meminfo", encoding="ascii") as lines:
+        return next(int(line.split()[1]) * 1024 for line in lines if line.startswith("MemAvailable:"))
 
 
 # ---- the load generator
@@ -195,9 +249,9 @@ def load_on(program, server, options):
     return Load(program, server.port, server.pid, options, about_server=lambda: about(server))
 
 
-def load_once(program, server, options):
+def load_once(program, server, options, seconds=0.1):
     with load_on(program, server, options) as it:
-        return it.round(0, 0.1)
+        return it.round(0, seconds)
 
 
 def in_order(figures, server, what):
@@ -218,7 +272,8 @@ class Bench:
 
     def fill(self, work, server):
         numbers = {"keys": work.keys, "value": work.value, "connections": 8, "depth": 2 if work.value > 4096 else 32}
-        in_order(load_once(self.load, server, ["--operation", "insert", *options_of(numbers)]), server, "as keys go to")
+        options = ["--operation", "insert", *options_of(numbers)]
+        in_order(load_once(self.load, server, options, work.keys / FILLED_A_SECOND), server, "as keys go to")
 
     def read_back(self, work, server):
         """Reads for a moment what stores have left."""
@@ -333,23 +388,15 @@ def cost_table(rows):
     return table(heads, made)
 
 
-def latency_table(rows):
-    heads = ["us, memcached / mcserver", "p50", "ratio", "p99", "ratio", "p99.9", "ratio"]
+def latency_table(rows, is_noise):
+    heads = ["us, memcached / mcserver", "p50", "ratio", "p99", "ratio", "p99.9", "ratio", "longest", "ratio"]
     made = []
     for row in rows:
-        cells = [row["title"]]
-        for name in ("p50", "p99", "p999"):
+        cells = [row["title"] + (" (from p99 on noise)" if is_noise else "")]
+        for name in ("p50", "p99", "p999", "longest"):
             cells += [" / ".join(f"{row['sides'][it][name]:,.0f}" for it in NAMES), ratio(row, name)]
         made.append(cells)
     return table(heads, made)
-
-
-def longest(rows):
-    """How long the longest set took while tables grew."""
-    for row in rows:
-        if row["name"] == "growth":
-            theirs, ours = (f"{row['sides'][it]['longest']:,.0f}" for it in NAMES)
-            yield f"The longest set of a new key of a round, in the median: memcached {theirs} us, mcserver {ours} us."
 
 
 def resting(rows):
@@ -362,7 +409,7 @@ def resting(rows):
 def resident(rows):
     """The most memory that each server had, and the page faults of a request, where items are large."""
     for row in rows:
-        if row["name"].endswith(("00k", "m")) and "-" in row["name"]:
+        if row["name"].endswith(("00k", "-1m", "-4m", "-8m")):
             sides = [(name, row["sides"][name]) for name in NAMES]
             parts = [f"{name} {it['resident'] / 1e6:.0f} MB and {it['faults']:.1f} page faults a request" for name, it in sides]
             yield f"Resident behind a round, at most, {row['title']}: {', '.join(parts)}."
@@ -394,17 +441,19 @@ def congestion_control():
         return "unknown"
 
 
-def report(rows, failures, took, settings):
+def report(rows, failures, skipped, took, settings):
     faults = failures + wrong_replies(rows)
     print(
         f"{settings['rounds']} rounds of {settings['seconds']:g} s each, {settings['threads']} client threads, {os.cpu_count()} "
         f"cores that client and server share, congestion control {congestion_control()}, {took:.0f} s in all.\n"
+        f"Client and servers had {f'the real-time priority {PRIORITY}' if settings['real_time'] else 'no real-time priority'}.\n"
         "Each ratio is the median of the rounds', with the least and the most of them."
         f"{' Memcached stands on both sides.' if settings['sanity'] else ''}\n"
     )
     if rows:
-        print(cost_table(rows), latency_table(rows), *longest(rows), *resident(rows), resting(rows), aggregate(rows), sep="\n\n", end="\n\n")
-    print("\n".join(faults) if faults else "Every reply was compared, and none was wrong.", flush=True)
+        latencies = latency_table(rows, not settings["real_time"])
+        print(cost_table(rows), latencies, *resident(rows), resting(rows), aggregate(rows), sep="\n\n", end="\n\n")
+    print(*skipped, *(faults or ["Every reply was compared, and none was wrong."]), sep="\n", flush=True)
     return 1 if faults else 0
 
 
@@ -601,6 +650,7 @@ def arguments():
     made.add_argument("--seconds", type=float, metavar="S", help=f"how long a round is ({ROUND_SECONDS:g})")
     made.add_argument("--quick", action="store_true", help=f"{QUICK_ROUNDS} rounds of {QUICK_SECONDS:g} seconds")
     made.add_argument("--threads", type=int, default=4, metavar="N", help="client threads, which aren't pinned (4)")
+    made.add_argument("--plain", action="store_true", help="no real-time priority")
     made.add_argument("--json", metavar="FILE", help="writes the figures there")
     made.add_argument("--sanity", action="store_true", help="memcached on both sides")
     made.add_argument("--self-test", action="store_true", help="tests the load generator")
@@ -633,9 +683,12 @@ def raise_limits():
 
 def compare(given, load):
     bench = Bench(load, chosen_sides(given), given.threads, given.rounds, given.seconds)
-    rows, failures, began = [], [], time.monotonic()
+    rows, failures, skipped, began = [], [], [], time.monotonic()
     for work in workloads():
         if given.only and work.name not in given.only:
+            continue
+        if work.memory > (free := free_memory()):
+            skipped.append(f"{work.title} was skipped: both servers take {work.memory / 1e9:.0f} GB, and {free / 1e9:.1f} are free.")
             continue
         print(f"{work.title} ..", file=sys.stderr, flush=True)
         try:
@@ -643,24 +696,27 @@ def compare(given, load):
         except (Failed, OSError, subprocess.SubprocessError, CannotStart) as fault:
             failures.append(f"{work.title} failed: {str(fault).strip()}")
             print(failures[-1], file=sys.stderr, flush=True)
-    settings = {it: getattr(given, it) for it in ("rounds", "seconds", "threads", "sanity")}
+    settings = {it: getattr(given, it) for it in ("rounds", "seconds", "threads", "sanity", "real_time")}
     if given.json:
         with open(given.json, "w", encoding="utf-8") as to:
-            json.dump({"settings": settings, "rows": rows, "failures": failures}, to, indent=1)
+            json.dump({"settings": settings, "rows": rows, "failures": failures, "skipped": skipped}, to, indent=1)
             to.write("\n")
-    return report(rows, failures, time.monotonic() - began, settings)
+    return report(rows, failures, skipped, time.monotonic() - began, settings)
 
 
 def main():
     given = arguments()
     if given.list:
-        print(*(f"{it.name:14} {it.title}" for it in workloads()), sep="\n")
+        print(*(f"{it.name:18} {it.title}" for it in workloads()), sep="\n")
         return 0
     signal.signal(signal.SIGTERM, lambda *_: sys.exit(1))
     raise_limits()
     with tempfile.TemporaryDirectory() as folder:
         load = compiled(folder)
-        return SelfTest(load).run() if given.self_test else compare(given, load)
+        if given.self_test:
+            return SelfTest(load).run()
+        with real_time(not given.plain) as given.real_time:
+            return compare(given, load)
 
 
 if __name__ == "__main__":

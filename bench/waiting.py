@@ -4,11 +4,13 @@
 For each row a server is started anew, first memcached and then the program, and one process asks it for small items over some
 connections at once, each with one request under way. Beside it other processes do what the row says. What is printed is the
 wait of the polite: the median, the 99th of a hundred, the longest, in milliseconds. Nothing of that fails for being slow.
-The rows of judged.py fail where the program answers less, later, or with more memory than it says there.
+The rows of judged.py fail where the program answers less, later, or with more memory than it says there; servers and clients have a
+real-time priority there, if the system allows it.
 The status is 1 where a row failed, an answer was wrong, or a server failed.
 
 The rows drippers, readers and pause print how many requests of others were answered, and how many of them after more than a second,
-how many newcomers were refused, and how many connections were closed; the row unread prints memory.
+how many newcomers were refused, and how many connections were closed; the row unread prints memory. The row neighbour prints the waits
+of one client that stores new keys as fast as it can, beside threads that are busy; the row refused how many sets a full store refuses.
 
     bench/waiting.py [--program PATH] [--only NAME ..] [--seconds S] [--quick] [--list]
 """
@@ -22,6 +24,7 @@ import select
 import signal
 import socket
 import sys
+import tempfile
 import time
 from dataclasses import dataclass, field
 
@@ -29,6 +32,9 @@ HERE = os.path.dirname(os.path.realpath(__file__))
 sys.path.insert(0, os.path.dirname(HERE))
 
 import judged  # noqa: E402
+import onehash  # noqa: E402
+import refusals  # noqa: E402
+import tcp  # noqa: E402
 from tests.lib.abuse import sent_as_far  # noqa: E402
 from tests.lib.peer import Peer, clients  # noqa: E402
 from tests.lib.server import CannotStart, Server  # noqa: E402
@@ -52,6 +58,10 @@ SLOW, PACE, FAST = 100, 400_000, 20
 STILL, UPLOADS = 7, 40
 # How many clients never read, and what they ask for: blocks of so many bytes, so often.
 MUTE, UNREAD = 1000, [(1000, 100), (100_000, 4), (1_000_000, 4)]
+# How many threads are busy beside a client that stores new keys.
+BUSY = 20
+# How long it may take, in seconds.
+LONG = 300
 
 
 class Failed(Exception):
@@ -484,6 +494,44 @@ def unread(given):
             print(f"  {name:12}  {held / 1e6:.0f} MB, {held / MUTE / 1e3:.1f} kB a connection", flush=True)
 
 
+def spins(until):
+    """Is busy until a moment."""
+    while time.monotonic() < until.value:
+        for _ in range(10_000):
+            pass
+
+
+def neighbour(given):
+    """What a client waits that stores new keys, while other programs are busy. It has four threads, and 50 connections in all."""
+    keys, rounds = (200_000, 1) if given.quick else (4_000_000, 3)
+    print(f"{BUSY} busy threads of others, and one that stores {keys:,} new keys, {rounds} time{'s' * (rounds > 1)}")
+    words = ["--operation", "insert", *tcp.options_of({"keys": keys, "connections": POLITE})]
+    with tempfile.TemporaryDirectory() as folder:
+        load, found = tcp.compiled(folder), {name: [] for name in NAMES}
+        for _ in range(rounds):
+            for name, server in servers(given, Row("", "", pages=2048)):
+                with server, busy(BUSY), tcp.load_on(load, server, words) as client:
+                    found[name].append(tcp.in_order(client.round(0, LONG), server, "as keys go to"))
+    for name, runs in found.items():
+        at = [sorted(it[figure] / 1000 for it in runs)[len(runs) // 2] for figure in ("p50", "p99", "longest")]
+        longest = ", ".join(f"{it['longest'] / 1000:.0f}" for it in runs)
+        print(f"  {name:12}" + "".join(f"{it:9.2f}" for it in at) + f"{keys:9,}   the longest of each: {longest}", flush=True)
+
+
+@contextlib.contextmanager
+def busy(count):
+    """So many processes that are busy meanwhile."""
+    until = FORK.Value("d", float("inf"))
+    made = [FORK.Process(target=spins, args=(until,)) for _ in range(count)]
+    for it in made:
+        it.start()
+    try:
+        yield
+    finally:
+        until.value = 0
+        over(made)
+
+
 def slow(given):
     seconds = 10 if given.quick else 30
     return {
@@ -495,6 +543,9 @@ def slow(given):
             lambda server: slow_readers(server, seconds)),
         "pause": lambda: beside(given, f"the server stands still for {STILL} s while {UPLOADS} send 1 MB", pause),
         "unread": lambda: unread(given),
+        "neighbour": lambda: neighbour(given),
+        "refused": lambda: refusals.told(given.program, given.quick),
+        "one-hash": lambda: onehash.told(given.program, given.quick),
     }
 
 
@@ -511,7 +562,12 @@ def bursts(given):
 
 def judges(given):
     """The rows that may fail: each gives whether it passed."""
-    return {row.name: lambda row=row: judged.judged(row, given.program, fill, Failed) for row in judged.rows(given.quick)}
+    def judge(row):
+        with tcp.real_time() as is_real:
+            print(row.title, "" if is_real else "(without a real-time priority: waits are noise)")
+            return judged.judged(row, given.program, fill, Failed)
+
+    return {row.name: lambda row=row: judge(row) for row in judged.rows(given.quick)}
 
 
 def arguments():
