@@ -26,7 +26,7 @@ JOBS ?= $(shell nproc)
 MINUTES ?= 30
 
 .PHONY: build try bench-build run test check crate rows history fmt bench bench-tcp bench-waiting bench-instructions bench-resident clean
-.PHONY: calibrate docs docs-check where test-clients test-scaling test-metrics test-package test-containers soak man install uninstall deb release is-built has-rt thin
+.PHONY: calibrate docs docs-check where test-clients test-scaling test-metrics test-package test-systemd test-containers soak fuzz nightly man install uninstall deb release is-built has-rt thin
 
 # Proves the program and what is below it, and builds it (tools/build.py tells how far it is). It is run once, for --help, which ends it at once. What is
 # said goes to standard error, so that `make run` writes what the program writes alone. Beside the program it notes what it was built of.
@@ -136,13 +136,27 @@ test-metrics: $(SERVED)
 test-package: $(SERVED)
 	@PROGRAM=$(PROGRAM) /usr/bin/python3 -m tests interop -p test_package.py
 
-# The image of packaging/Dockerfile, by its steps: it ends within a second of TERM, and answers its probes. It wants tini and unshare.
+# The service under a real systemd, in namespaces of its own: start, stop, options, restart, and what it is exposed to. It wants root.
+test-systemd: $(SERVED)
+	@PROGRAM=$(PROGRAM) /usr/bin/python3 -m tests interop -p test_systemd.py
+
+# The image of packaging/Dockerfile, by its steps: it ends within a second of TERM, and answers its probes. Then a
+# limit of memory, above and below what is counted. It wants root, tini, unshare and a group of memory.
 test-containers: $(SERVED)
 	@PROGRAM=$(PROGRAM) /usr/bin/python3 -m tests interop -p test_containers.py
+	@PROGRAM=$(PROGRAM) /usr/bin/python3 -m tests interop -p test_cgroups.py
 
 # Mixed load, whose answers are all checked, while memory and descriptors are watched: make soak MINUTES=30
 soak: $(SERVED)
 	@PROGRAM=$(PROGRAM) python3 -m tests.soak --minutes $(MINUTES)
+
+# Inputs that AFL++ makes, one of each path of which the model judges; it wants Debian's package afl++: make fuzz MINUTES=60
+fuzz: $(SERVED)
+	@PROGRAM=$(PROGRAM) python3 -m tests.fuzz --minutes $(MINUTES)
+
+# What takes too long for the gate, hours in all, or one step of it: make nightly STEP=soak
+nightly: $(SERVED) $(if $(SERVED),bench-build)
+	@PROGRAM=$(PROGRAM) python3 -m tests.nightly $(STEP)
 
 # The manual page: man has nothing to say of it, and its options are the program's.
 man: $(SERVED)
