@@ -4,8 +4,8 @@
   python3 docs/make.py            writes out/docs/CALLS.md and out/docs/DEFINITIONS.md, the regions `<!-- made: KIND -->` of README.md
                                   and docs/, docs/tcp.svg and docs/tcp-all.svg, and in tests/counts.txt what lies in folders
   python3 docs/make.py --check    writes nothing. Prints each stale region, each link, path and name that isn't there, each option that
-                                  PROTOCOL.md or the manual page lacks, each wrong body that can't be planted any more, and the counts of
-                                  style.py. Last line: 'N passed, M failed'
+                                  PROTOCOL.md or the manual page lacks, each wrong body that can't be planted any more, each worked example without
+                                  a test, and the counts of style.py. Last line: 'N passed, M failed'
 """
 import functools
 import itertools
@@ -20,7 +20,7 @@ ROOT = Path(__file__).resolve().parent.parent
 sys.path[:0] = [str(ROOT), str(ROOT / "bench"), str(ROOT / "docs")]
 import chart  # noqa: E402
 import style  # noqa: E402
-from tests.lib import bodies, counts  # noqa: E402
+from tests.lib import bodies, counts, examples  # noqa: E402
 
 # The run that README.md, docs/BENCHMARKS.md and both charts show.
 RUN = "bench/results/2026-12-01-211ab182.json"
@@ -252,6 +252,13 @@ def lost(path, words):
             tests = list((ROOT / f"crates/{found[1]}/src").rglob(f"{found[2]}.rt"))
             if not tests or (found[3] and found[3] not in tests[0].read_text(encoding="utf-8")):
                 yield f"{path}: there is no {span}"
+        elif found := re.fullmatch(r"([\w/]*\btest_\w+\.py)(?:: (\w+))?", span):
+            files = [it for it in tracked("tests/*.py") if f"/{it}".endswith(f"/{found[1]}")]
+            text = read(files[0]) if files else ""
+            # a test that is made from a row has the row's words as its name
+            is_made = "tests_of(" in text and (found[2] or "").removeprefix("test_") in re.sub(r"\W+", "_", text)
+            if not files or (found[2] and not is_made and not re.search(rf"^ *(?:def|class) {found[2]}\b", text, re.M)):
+                yield f"{path}: there is no {span}"
         elif path in INSIDE and re.fullmatch(r"[A-Za-z_][\w:]*(\(\))?", span):
             yield from (f"{path}: nothing is named {word}" for word in re.findall(r"\w+", span) if word not in words | OTHERS)
 
@@ -282,6 +289,16 @@ def lacking_options():
         yield f"CHANGELOG.md: {version} is missing"
 
 
+def lost_texts():
+    """Texts of standard error in PROTOCOL.md's table of statuses that no source and no row has."""
+    table = re.search(r"\| Status \| When \|.*?\n\n", read("docs/PROTOCOL.md"), re.S).group(0)
+    known = "\n".join(read(path) for path in tracked() if re.fullmatch(r"crates/\w+/src/.*\.rt|tests/rows/\w+/stderr.*", path))
+    for text in re.findall(r"`(mcserver: [^`]*)`", table):
+        # what differs from run to run: the address, an option and its value
+        parts = re.split(r"(?: on)? ADDR:PORT|'-u' \('--user'\)|-m \"64m\"", text.removeprefix("mcserver: "))
+        yield from (f"docs/PROTOCOL.md: nothing writes '{part.strip()}', of '{text}'" for part in parts if part.strip(" :") and part.strip() not in known)
+
+
 def unplanted():
     """Wrong bodies that cite a text, or name a function, which the sources don't have any more."""
     for crate in crates():
@@ -305,7 +322,7 @@ def miscounted():
 def check():
     passed, faults, words = 0, [], known_words()
     stale = [f"{path}: not what the sources say: make docs" for path, new in made_anew() if read(path) != new]
-    for found in (stale, list(lost_tests()), list(lacking_options()), list(unplanted()), miscounted(), *(list(lost(path, words)) for path in tracked("*.md")), *style.faults(ROOT)):
+    for found in (stale, list(lost_tests()), list(lacking_options()), list(lost_texts()), list(unplanted()), miscounted(), list(examples.faults()), *(list(lost(path, words)) for path in tracked("*.md")), *style.faults(ROOT)):
         faults += found
         passed += not found
     print("\n".join([*faults, f"{passed} passed, {len(faults)} failed"]))
