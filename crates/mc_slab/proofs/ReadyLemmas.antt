@@ -4,7 +4,7 @@ use Rattle.mc_slab.specs.Chunks.{ChunksState, AreChunksOf}
 use Rattle.std.proofs.Math.Nat.{mul-le-mul_right}
 use Rattle.mc_slab.specs.Classes.{chunks_a_page}
 use Rattle.mc_slab.specs.Needs.{NeedState, IsNeed}
-use Rattle.mc_slab.specs.Stocks.{StockState, all_chunks}
+use Rattle.mc_slab.specs.PagesByClass.{StockState, all_chunks}
 use Rattle.mc_slab.specs.Slabs.{SlabState, AreStocks, IsSlab, Readies, Takes, has_room_with, made_ready, state_of, pages_of, pages_left, pages_wanted, with_pages, with_out, out_of, chunks_of}
 use Rattle.mc_slab.specs.declared.slab.TakeFault.{TakeFault}
 use Rattle.mc_slab.specs.declared.slab.TakeFault.TheVariants.{Full, NoMemory}

@@ -9,7 +9,7 @@ use Rattle.std.proofs.Crossing as crossing
 use Rattle.mc_slab.specs.contracts.chunks.Chunks as chunks
 use Rattle.mc_slab.specs.contracts.chunks.Chunks.TheInside as inside
 use Rattle.mc_slab.specs.contracts.held.Held as held
-use Rattle.mc_slab.proofs.sheet.Sheet.TheLaws.TheKnot as knot
+use Rattle.mc_slab.proofs.page_chain.PageChain.TheLaws.TheKnot as knot
 
 -- what a variant holds, numbered from 0: the 26 classes that are cut, the 13 that are blocks, and then the last
 abbrev variant : ℕ → List RattleType

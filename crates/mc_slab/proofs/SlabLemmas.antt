@@ -8,7 +8,7 @@ use Rattle.std.proofs.lemmas.List.FromFn.{length-range_with_len, get_or-range_wi
 use Rattle.std.proofs.lemmas.List.Sums.{sum_by-set}
 use Rattle.std.specs.List.{range_with_len}
 use Rattle.mc_slab.specs.Classes.{IsClass, chunks_a_page}
-use Rattle.mc_slab.specs.Stocks.{StockState, all_chunks}
+use Rattle.mc_slab.specs.PagesByClass.{StockState, all_chunks}
 use Rattle.mc_slab.specs.Slabs.{IsSlab, AreStocks, empty_stock, state_of, pages_of, out_of, chunks_of, pages_left, pages_wanted, with_pages, with_out}
 
 -- the stock of a class stands at the index

@@ -1,9 +1,9 @@
 pub mod Classes
 pub mod Needs
 pub mod Blocks
-pub mod Sheets
+pub mod PageChains
 pub mod Chunks
 pub mod Helds
 pub mod Runs
-pub mod Stocks
+pub mod PagesByClass
 pub mod Slabs

@@ -5,7 +5,7 @@ use Rattle.std.specs.List.{All, range_with_len}
 use Rattle.mc_slab.specs.Classes.{IsClass, chunks_a_page}
 use Rattle.mc_slab.specs.Needs.{NeedState, IsNeed}
 use Rattle.mc_slab.specs.Chunks.{ChunksState, AreChunksOf}
-use Rattle.mc_slab.specs.Stocks.{StockState, all_chunks}
+use Rattle.mc_slab.specs.PagesByClass.{StockState, all_chunks}
 use Rattle.mc_slab.specs.declared.slab.TakeFault.{TakeFault}
 use Rattle.mc_slab.specs.declared.slab.TakeFault.TheVariants.{Full, NoMemory}
 

@@ -12,7 +12,7 @@ ghost use Rattle.mc_slab.specs.declared.held.Held.TheVariants.{Sheets};
 
 use crate::held::{self, Held};
 use crate::lone::LoneChunk;
-use crate::sheet::Sheet;
+use crate::page_chain::PageChain;
 use mc_bytes::{Large, Lent};
 use mc_sizes::{BESIDE, Class, Need};
 use std::alloc::{AllocError, Global};
@@ -184,7 +184,7 @@ impl Chunks {
     pub(crate) fn page(alloc: Global) -> Result<Chunks, AllocError>
         ensures { IfOk result (AreChunksOf (record { class = 40; count = 1 })) }
     {
-        Ok(of_sheets(Sheet::new(alloc)?))
+        Ok(of_sheets(PageChain::new(alloc)?))
     }
 
     /// Puts one chunk in front of fewer than eight others, all of the last class.
@@ -196,7 +196,7 @@ impl Chunks {
         ensures { AreChunksOf (record { class = 40; count = 1 + behind.entry.count }) result }
     {
         let (one, behind) = (held::into_sheet(one.held), held::into_sheet(behind.held));
-        of_sheets(Sheet::in_front(one, behind))
+        of_sheets(PageChain::in_front(one, behind))
     }
 
     /// Splits the first chunk from the others. It takes no memory.
@@ -207,7 +207,7 @@ impl Chunks {
         ensures behind { (result.1.class ≡ self.entry.class)
             × (1 + result.1.count ≡ self.entry.count) × AreChunks result.1 }
     {
-        let (one, behind) = Sheet::taken_off(held::into_sheet(self.held));
+        let (one, behind) = PageChain::taken_off(held::into_sheet(self.held));
         (of_sheets(one), of_sheets(behind))
     }
 }
@@ -236,7 +236,7 @@ fn of_lone(class: Class, lone: Box<LoneChunk>) -> Chunks
 }
 
 /// Returns the chunks of the last class on a sheet.
-fn of_sheets(sheet: Box<Sheet>) -> Chunks
+fn of_sheets(sheet: Box<PageChain>) -> Chunks
     requires { AreChunks (chunks_in (Sheets sheet)) }
     ensures { result ≡ chunks_in (Sheets sheet) }
 {

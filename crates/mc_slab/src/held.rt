@@ -14,7 +14,7 @@ ghost use Rattle.mc_slab.specs.Classes.{size_of};
 ghost use Rattle.mc_slab.specs.Helds.{chunks_in};
 
 use crate::lone::LoneChunk;
-use crate::sheet::Sheet;
+use crate::page_chain::PageChain;
 use mc_bytes::{Large, Lent};
 use mc_sizes::{CLASSES, Class, LENT, Need, each_class};
 use std::sync::Arc;
@@ -64,7 +64,7 @@ pub(crate) enum Held {
     C37(Box<LoneChunk>),
     C38(Box<LoneChunk>),
     C39(Box<LoneChunk>),
-    Sheets(Box<Sheet>),
+    Sheets(Box<PageChain>),
 }
 
 /// Matches on where chunks lie. Each arm gives the class.
@@ -400,7 +400,7 @@ pub(crate) fn of_lone(class: Class, lone: Box<LoneChunk>) -> Held
 }
 
 /// Lends the sheet of chunks of the last class.
-pub(crate) fn sheet(held: &Held) -> &Sheet
+pub(crate) fn sheet(held: &Held) -> &PageChain
     requires { (chunks_in held.now).class ≡ 40 }
     ensures { (result.now.0 ≡ (chunks_in held.now).count)
         × (result.now.1.0 ≡ (chunks_in held.now).bytes) }
@@ -412,7 +412,7 @@ pub(crate) fn sheet(held: &Held) -> &Sheet
 }
 
 /// Returns the sheet of chunks of the last class.
-pub(crate) fn into_sheet(held: Held) -> Box<Sheet>
+pub(crate) fn into_sheet(held: Held) -> Box<PageChain>
     requires { (chunks_in held).class ≡ 40 }
     ensures { (result.value.0 ≡ (chunks_in held.entry).count)
         × (result.value.1.0 ≡ (chunks_in held.entry).bytes)

@@ -30,14 +30,14 @@
 
 mod block;
 mod chunks;
+mod class_pages;
 mod head;
 mod held;
 mod laws;
 mod lone;
+mod page_chain;
 mod run;
-mod sheet;
 mod slab;
-mod stock;
 mod whole;
 
 pub use chunks::Chunks;

@@ -8,7 +8,7 @@ ghost use Rattle.std.specs.List.{All};
 ghost use Rattle.mc_slab.specs.Chunks.{AreChunksOf};
 ghost use Rattle.mc_slab.specs.Classes.{IsClass, size_of, chunks_a_page};
 ghost use Rattle.mc_slab.specs.Runs.{AreRunsOf, IsMemoryOf, chunks_a_run, uncut};
-ghost use Rattle.mc_slab.specs.Stocks.{IsChunkOf};
+ghost use Rattle.mc_slab.specs.PagesByClass.{IsChunkOf};
 
 use crate::chunks::Chunks;
 use mc_sizes::{CLASSES, Class, LENT};

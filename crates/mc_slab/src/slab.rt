@@ -7,8 +7,8 @@ ghost use Rattle.mc_slab.specs.Slabs.{pages_of, out_of, pages_left, given, unuse
 ghost use Rattle.mc_slab.specs.declared.slab.TakeFault.TheVariants.{NoMemory};
 
 use crate::chunks::Chunks;
+use crate::class_pages::ClassPages;
 use crate::run::Pages;
-use crate::stock::Stock;
 use mc_sizes::{Account, CLASSES, Class, Need};
 use std::alloc::{AllocError, Global};
 use std::marker::Model;
@@ -52,7 +52,7 @@ impl From<AllocError> for TakeFault {
 #[derive(Drop)]
 pub struct Slab {
     pages_left: u32,
-    stocks: Vec<Stock>,
+    stocks: Vec<ClassPages>,
 }
 
 impl Model for Slab {
@@ -201,12 +201,12 @@ impl Slab {
 }
 
 /// Returns a stock without pages for each class, in order.
-fn empty_stocks(alloc: Global) -> Result<Vec<Stock>, AllocError>
+fn empty_stocks(alloc: Global) -> Result<Vec<ClassPages>, AllocError>
     ensures { IfOk result (λ stocks. stocks.items ≡ map empty_stock (range_with_len 1 40)) }
 {
     let mut stocks = Vec::with_capacity(alloc, usize::from(CLASSES))?;
     for index in 0..CLASSES {
-        stocks.push_reserved(Stock::new(alloc, Class::of(index + 1)));
+        stocks.push_reserved(ClassPages::new(alloc, Class::of(index + 1)));
     }
     Ok(stocks)
 }

@@ -3,7 +3,7 @@ use Rattle.std.proofs.lemmas.List.Elements.{All-push}
 use Rattle.std.proofs.Math.Nat.{mul-le-mul_right}
 use Rattle.std.specs.List.{All}
 use Rattle.mc_slab.specs.Classes.{size_of}
-use Rattle.mc_slab.specs.Stocks.{IsChunkOf}
+use Rattle.mc_slab.specs.PagesByClass.{IsChunkOf}
 use Rattle.mc_slab.proofs.run.cut_bytes.Goals as goal
 
 -- while chunks are to be cut, there is memory for one

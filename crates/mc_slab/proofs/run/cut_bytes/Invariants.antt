@@ -1,7 +1,7 @@
 use Rattle.std.proofs.Common.{◌≡◌, ◌+◌, ◌*◌, length, vec_len, vec_capacity}
 use Rattle.std.specs.List.{All}
 use Rattle.mc_slab.specs.Classes.{size_of}
-use Rattle.mc_slab.specs.Stocks.{IsChunkOf}
+use Rattle.mc_slab.specs.PagesByClass.{IsChunkOf}
 use Rattle.mc_slab.proofs.run.cut_bytes.Given as goal
 
 abbrev pub invariant-loop : goal.invariant-loop

@@ -1,7 +1,7 @@
 use Rattle.std.proofs.Common.{◌≡◌, ◌+◌, List, [], ◌∷◌, ◌++◌, map, length, sym, ap, ◌∙◌, arith}
 use Rattle.std.proofs.lemmas.List.FromFn.{length-map-range_with_len, map-range_with_len_more}
 use Rattle.std.specs.List.{range_with_len}
-use Rattle.mc_slab.specs.Stocks.{StockState}
+use Rattle.mc_slab.specs.PagesByClass.{StockState}
 use Rattle.mc_slab.specs.Slabs.{empty_stock}
 use Rattle.mc_slab.proofs.slab.empty_stocks.Goals as goal
 

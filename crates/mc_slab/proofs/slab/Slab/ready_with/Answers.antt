@@ -1,6 +1,6 @@
 use Rattle.std.proofs.Common.{◌≡◌, ℕ, ◌+◌, ◌-◌, ◌<◌, ◌≤◌, Ok, Err, List, set, refl, sym, ap, subst, ◌∙◌, arith}
 use Rattle.std.proofs.lemmas.Result.{err_from_is_err_and}
-use Rattle.mc_slab.specs.Stocks.{StockState, all_chunks}
+use Rattle.mc_slab.specs.PagesByClass.{StockState, all_chunks}
 use Rattle.mc_slab.specs.Slabs.{SlabState, Readies, state_of, AreStocks}
 use Rattle.mc_slab.specs.declared.slab.TakeFault.TheVariants.{Full, NoMemory}
 use Rattle.mc_slab.proofs.SlabLemmas.{stock_at, few_at}

@@ -2,7 +2,7 @@ use Rattle.std.proofs.Common.{◌≡◌, ℕ, ◌+◌, ◌-◌, Ok, set, sym, ap
 use Rattle.std.proofs.lemmas.Result.{err_from_is_err_and}
 use Rattle.mc_slab.specs.Chunks.{AreChunksOf}
 use Rattle.mc_slab.specs.Needs.{NeedState, IsNeed}
-use Rattle.mc_slab.specs.Stocks.{StockState, all_chunks}
+use Rattle.mc_slab.specs.PagesByClass.{StockState, all_chunks}
 use Rattle.mc_slab.specs.Slabs.{SlabState, AreStocks, Takes, state_of, made_ready}
 use Rattle.mc_slab.proofs.SlabLemmas.{stock_at, class_at}
 use Rattle.mc_slab.proofs.ReadyLemmas.{are_taken, enough_at, takes, takes_refused}

@@ -1,5 +1,5 @@
 use Rattle.std.proofs.Common.{◌≡◌, ℕ, ◌+◌, ◌-◌, sym, ap, subst, ◌∙◌, arith}
-use Rattle.mc_slab.specs.Stocks.{StockState, all_chunks}
+use Rattle.mc_slab.specs.PagesByClass.{StockState, all_chunks}
 use Rattle.mc_slab.specs.Slabs.{AreStocks, SlabState, chunks_of, out_of, state_of, unused}
 use Rattle.mc_slab.proofs.SlabLemmas.{IsSlab-state_of, StockAt, chunks_at, out_at, stock_at}
 use Rattle.mc_slab.proofs.slab.Slab.unused_chunks.Goals as goal

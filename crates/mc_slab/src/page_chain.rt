@@ -3,7 +3,7 @@
 ghost use Rattle.std.specs.Prelude.{◌≡◌, ◌+◌, ◌-◌, ◌*◌, ◌<◌, ◌≤◌, ◌++◌, length, take, drop, IfOk, IfSome, IsTrue, IsFalse};
 ghost use Rattle.mc_slab.specs.Chunks.{with_part};
 ghost use Rattle.mc_slab.specs.Classes.{page_size};
-ghost use Rattle.mc_slab.specs.Sheets.{sheets_in};
+ghost use Rattle.mc_slab.specs.PageChains.{sheets_in};
 
 use crate::head::HeadBytes;
 use crate::whole::{WHOLE, Whole};
@@ -17,29 +17,29 @@ use std::sync::Arc;
 ///
 /// Its box is allocated with the chunk, so that linking takes no memory. Contracts see the number
 /// of chunks, their bytes one after another, and the head of the first.
-#[cycle(sheet)]
+#[cycle(page_chain)]
 #[derive(Drop)]
-pub(crate) struct Sheet {
+pub(crate) struct PageChain {
     head: HeadBytes,
     node: Node,
 }
 
 /// The content of a sheet.
-#[cycle(sheet)]
+#[cycle(page_chain)]
 #[derive(Drop)]
 enum Node {
     Last(Whole),
-    Before(Whole, Box<Sheet>),
+    Before(Whole, Box<PageChain>),
     /// The chunk was moved out for a moment.
     Hollow,
 }
 
-impl Model for Sheet {
+impl Model for PageChain {
     ghost use Rattle.std.specs.Prelude.{ℕ, List};
 
     ghost Value = { ℕ × (List ℕ × List ℕ) };
 
-    ghost use Rattle.mc_slab.specs.Sheets.{sheets_in};
+    ghost use Rattle.mc_slab.specs.PageChains.{sheets_in};
 
     ghost view = { λ s. ((sheets_in s.node).0, ((sheets_in s.node).1, s.head)) };
 
@@ -50,13 +50,13 @@ impl Model for Sheet {
     ghost size_decreases = { λ a h. Prim.grind (arith) };
 }
 
-impl Sheet {
+impl PageChain {
     /// Allocates one sheet of zeros in its box. The only error is a refused allocation.
-    pub(crate) fn new(alloc: Global) -> Result<Box<Sheet>, AllocError>
+    pub(crate) fn new(alloc: Global) -> Result<Box<PageChain>, AllocError>
         ensures { IfOk result (λ sheet. (sheet.value.0 ≡ 1)
             × (length sheet.value.1.0 ≡ page_size) × (length sheet.value.1.1 ≡ 304)) }
     {
-        let sheet = Sheet {
+        let sheet = PageChain {
             head: HeadBytes::new(),
             node: Node::Last(Whole::new(alloc)?),
         };
@@ -161,7 +161,7 @@ impl Sheet {
     }
 
     /// Puts one sheet in front of others. It takes no memory.
-    pub(crate) fn in_front(mut sheet: Box<Sheet>, behind: Box<Sheet>) -> Box<Sheet>
+    pub(crate) fn in_front(mut sheet: Box<PageChain>, behind: Box<PageChain>) -> Box<PageChain>
         requires one { (sheet.value.0 ≡ 1) × (length sheet.value.1.0 ≡ page_size) }
         ensures { result.value ≡ (
           1 + behind.value.0,
@@ -174,7 +174,7 @@ impl Sheet {
     }
 
     /// Splits the first sheet from the others. It takes no memory.
-    pub(crate) fn taken_off(mut sheet: Box<Sheet>) -> (Box<Sheet>, Box<Sheet>)
+    pub(crate) fn taken_off(mut sheet: Box<PageChain>) -> (Box<PageChain>, Box<PageChain>)
         requires { 2 ≤ sheet.value.0 }
         ensures one { (result.0.value.0 ≡ 1)
             × (length result.0.value.1.0 ≡ page_size) }
@@ -297,7 +297,7 @@ impl Sheet {
 }
 
 /// Returns the node of one chunk with others behind it.
-fn before(node: Node, behind: Box<Sheet>) -> Node
+fn before(node: Node, behind: Box<PageChain>) -> Node
     requires { ((sheets_in node).0 ≡ 1) × (length (sheets_in node).1 ≡ page_size) }
     ensures { sheets_in result
         ≡ (1 + behind.value.0, (sheets_in node).1 ++ behind.value.1.0) }
@@ -313,7 +313,7 @@ fn before(node: Node, behind: Box<Sheet>) -> Node
 }
 
 /// Returns the node of the first chunk, and the sheet behind it.
-fn part_node(node: Node) -> (Node, Box<Sheet>)
+fn part_node(node: Node) -> (Node, Box<PageChain>)
     requires { 2 ≤ (sheets_in node).0 }
     ensures one { ((sheets_in result.0).0 ≡ 1)
         × (length (sheets_in result.0).1 ≡ page_size) }
@@ -351,7 +351,7 @@ fn take_over_last(whole: &mut Whole, part: &Lent, most: usize) -> bool
 
 /// Takes the memory of a part over as that of a chunk and those behind it, and returns whether the
 /// first did.
-fn take_over_all(whole: &mut Whole, behind: &mut Sheet, part: &Lent, most: usize) -> bool
+fn take_over_all(whole: &mut Whole, behind: &mut PageChain, part: &Lent, most: usize) -> bool
     requires { length part.now ≤ length (whole.old ++ behind.old.1.0) }
     ensures taken { IsTrue result
         → take (length part.now) (whole.new ++ behind.new.1.0) ≡ part.now }
@@ -372,7 +372,7 @@ fn take_over_all(whole: &mut Whole, behind: &mut Sheet, part: &Lent, most: usize
 
 /// Has a chunk and those behind it begin with the bytes of a part from the place `at` on.
 #[cycle(put_from)]
-fn put_before(whole: &mut Whole, behind: &mut Sheet, part: &Lent, at: usize, most: usize)
+fn put_before(whole: &mut Whole, behind: &mut PageChain, part: &Lent, at: usize, most: usize)
     requires inside { at ≤ length part.now }
     requires room { length part.now - at ≤ length (whole.old ++ behind.old.1.0) }
     ensures begins { take (length part.now - at) (whole.new ++ behind.new.1.0)
@@ -446,7 +446,7 @@ fn take_piece(whole: &mut Whole, part: &Lent, from: usize, to: usize, most: usiz
 
 /// Copies `part` to the place `at` of a chunk and those behind it.
 #[cycle(write_at)]
-fn write_before(whole: &mut Whole, behind: &mut Sheet, at: usize, part: &[u8])
+fn write_before(whole: &mut Whole, behind: &mut PageChain, at: usize, part: &[u8])
     requires { at + length part.now ≤ length (whole.old ++ behind.old.1.0) }
     ensures value { whole.new ++ behind.new.1.0
         ≡ with_part (whole.old ++ behind.old.1.0) at part.now }

@@ -1,8 +1,8 @@
 use Rattle.std.proofs.Common.{◌≡◌, ◌+◌, vec_len, vec_capacity}
 use Rattle.std.specs.List.{All}
 use Rattle.mc_slab.specs.Chunks.{AreChunks}
-use Rattle.mc_slab.specs.Stocks.{IsChunkOf}
-use Rattle.mc_slab.proofs.stock.give_apart.Given as goal
+use Rattle.mc_slab.specs.PagesByClass.{IsChunkOf}
+use Rattle.mc_slab.proofs.class_pages.give_apart.Given as goal
 
 abbrev pub invariant-loop : goal.invariant-loop
 invariant-loop l = record {

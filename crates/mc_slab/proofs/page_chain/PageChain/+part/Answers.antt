@@ -1,7 +1,7 @@
 use Rattle.std.proofs.Common.{◌≡◌, ◌+◌, ◌-◌, ◌*◌, List, ◌++◌, length, take, drop, ℕ, ap, sym, ◌∙◌, arith}
-use Rattle.mc_slab.specs.Sheets.{sheets_in}
+use Rattle.mc_slab.specs.PageChains.{sheets_in}
 use Rattle.mc_slab.proofs.SheetLemmas.{place_behind}
-use Rattle.mc_slab.proofs.sheet.Sheet.+part.Goals as goal
+use Rattle.mc_slab.proofs.page_chain.PageChain.+part.Goals as goal
 
 pub returns-then-at-eq0 : goal.returns-then-at-eq0
 returns-then-at-eq0 t c = c.first.ensures ∙ ap (λ (n : ℕ). take 1048576 (drop (n * 1048576) c.args.self.now.1.0)) (sym c.if-at-eq0.true)

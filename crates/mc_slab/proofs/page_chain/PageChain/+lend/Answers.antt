@@ -1,7 +1,7 @@
 use Rattle.std.proofs.Common.{◌≡◌, ◌-◌, ◌*◌, List, ◌++◌, take, drop, ℕ, ap, sym, ◌∙◌, arith}
-use Rattle.mc_slab.specs.Sheets.{sheets_in}
+use Rattle.mc_slab.specs.PageChains.{sheets_in}
 use Rattle.mc_slab.proofs.SheetLemmas.{place_behind, lent_of}
-use Rattle.mc_slab.proofs.sheet.Sheet.+lend.Goals as goal
+use Rattle.mc_slab.proofs.page_chain.PageChain.+lend.Goals as goal
 
 pub returns-then-at-eq0 : goal.returns-then-at-eq0
 returns-then-at-eq0 t c =

@@ -1,9 +1,9 @@
 use Rattle.std.proofs.Common.{◌≡◌, ◌+◌, ℕ, sym, subst, ◌∙◌, arith}
 use Rattle.std.proofs.lemmas.List.Elements.{All-push}
 use Rattle.std.specs.List.{All}
-use Rattle.mc_slab.specs.Stocks.{IsChunkOf}
+use Rattle.mc_slab.specs.PagesByClass.{IsChunkOf}
 use Rattle.mc_slab.proofs.ChunkLemmas.{chunks_of}
-use Rattle.mc_slab.proofs.stock.give_apart.Goals as goal
+use Rattle.mc_slab.proofs.class_pages.give_apart.Goals as goal
 
 pub returns-clause-free : goal.returns-clause-free
 returns-clause-free c =

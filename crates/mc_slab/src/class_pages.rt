@@ -5,7 +5,7 @@ ghost use Rattle.std.specs.List.{All};
 ghost use Rattle.mc_slab.specs.Chunks.{AreChunks, AreChunksOf, need_in};
 ghost use Rattle.mc_slab.specs.Classes.{chunks_a_page};
 ghost use Rattle.mc_slab.specs.Needs.{IsNeed};
-ghost use Rattle.mc_slab.specs.Stocks.{IsChunkOf, all_chunks};
+ghost use Rattle.mc_slab.specs.PagesByClass.{IsChunkOf, all_chunks};
 
 use crate::block::blank_memory;
 use crate::chunks::Chunks;
@@ -19,7 +19,7 @@ use std::sync::Arc;
 /// The pages of one class: how many there are, the chunks that are out, the free ones, and uncut
 /// runs.
 #[derive(Drop)]
-pub(crate) struct Stock {
+pub(crate) struct ClassPages {
     class: Class,
     pages: u32,
     out: u32,
@@ -29,9 +29,9 @@ pub(crate) struct Stock {
     blank: Option<Arc<Large>>,
 }
 
-impl Model for Stock {
+impl Model for ClassPages {
     ghost use Rattle.std.specs.Prelude.{vec_capacity};
-    ghost use Rattle.mc_slab.specs.Stocks.{StockState, coded_stock, IsStock};
+    ghost use Rattle.mc_slab.specs.PagesByClass.{StockState, coded_stock, IsStock};
 
     ghost Value = { StockState };
 
@@ -44,14 +44,14 @@ impl Model for Stock {
         s.free.items (vec_capacity s.free) s.uncut };
 }
 
-impl Stock {
+impl ClassPages {
     /// Returns the stock of a class without pages.
-    pub(crate) fn new(alloc: Global, class: Class) -> Stock
+    pub(crate) fn new(alloc: Global, class: Class) -> ClassPages
         ensures { result ≡ record { class = class; pages = 0; out = 0 } }
     {
         // what holds of every class, for the proof
         let _ = class.number();
-        Stock {
+        ClassPages {
             class,
             pages: 0,
             out: 0,

@@ -1,7 +1,7 @@
 use Rattle.std.proofs.Common.{◌≡◌, ℕ, List, ◌++◌, take, ap, sym, ◌∙◌}
-use Rattle.mc_slab.specs.Sheets.{sheets_in}
+use Rattle.mc_slab.specs.PageChains.{sheets_in}
 use Rattle.mc_slab.proofs.SheetLemmas.{first_here, first_alone, lent_of}
-use Rattle.mc_slab.proofs.sheet.Sheet.lend_first.Goals as goal
+use Rattle.mc_slab.proofs.page_chain.PageChain.lend_first.Goals as goal
 
 pub returns-in-Last : goal.returns-in-Last
 returns-in-Last c =

@@ -2,7 +2,7 @@ use Rattle.std.proofs.Common.{◌≡◌, ◌+◌, ◌-◌, ◌≤◌, List, ◌+
 use Rattle.std.proofs.lemmas.List.{take-append-drop}
 use Rattle.mc_slab.specs.Chunks.{with_part}
 use Rattle.mc_slab.proofs.SheetLemmas.{put_behind, put_across}
-use Rattle.mc_slab.proofs.sheet.+write_at.Goals as goal
+use Rattle.mc_slab.proofs.page_chain.+write_at.Goals as goal
 
 pub write_before-returns-then-at-ge-WHOLE-clause-value : goal.write_before-returns-then-at-ge-WHOLE-clause-value
 write_before-returns-then-at-ge-WHOLE-clause-value t c =
