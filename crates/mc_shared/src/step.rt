@@ -35,7 +35,7 @@ use crate::steps::{decide, lower_all, raise_for};
 use crate::store::{Caller, Shared};
 use mc_hop::KeyHash;
 use mc_protocol::{KeyStep, Reply, StepFault};
-use mc_shelf::{Brought, Desk, NUMBERS, Plan, Shelf};
+use mc_shelf::{Desk, NUMBERS, Plan, Shelf, StepMemory};
 use mc_slab::Pages;
 use mc_time::Moment;
 use std::alloc::{AllocError, Global};
@@ -46,7 +46,7 @@ use std::sync::Wait;
 struct Ready {
     /// Whether the shelf has room for the entry that the step inserts.
     room: bool,
-    brought: Brought,
+    brought: StepMemory,
 }
 
 /// What a step has at the desk: its shelf and the desk, its plan, and what was made ready.
@@ -182,7 +182,7 @@ impl<K: KeyHash + Drop> Shared<K> {
         alloc: Global,
         shelf: &Shelf,
         plan: &Plan<'_>,
-    ) -> Result<(Box<Desk>, Brought), B>
+    ) -> Result<(Box<Desk>, StepMemory), B>
         requires plan { (ask : Asked) × IsPlanned plan.now shelf.now.content ask }
         requires holds { HoldsSome K.hash_of self.now seat.old }
         ensures past { seat.new.me.0.past ≡ seat.old.me.0.past }
@@ -191,7 +191,7 @@ impl<K: KeyHash + Drop> Shared<K> {
         ensures err { IfErr result (P.busy seat.old.me.0.past self.now.began.settings.shelves) }
         ensures stays { OnErr result (KeepsShelf K.hash_of self.now seat.old seat.new) }
     {
-        let mut brought = Brought {
+        let mut brought = StepMemory {
             pages: None,
             exchange: None,
         };

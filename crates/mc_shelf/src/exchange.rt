@@ -32,7 +32,7 @@ const MOST: u32 = 8;
 
 /// Memory that was allocated for a step before the desk is held.
 #[derive(Drop)]
-pub struct Brought {
+pub struct StepMemory {
     /// Pages for the class of the item that is written.
     pub pages: Option<Pages>,
     /// Chunks in exchange for those of the key's item.

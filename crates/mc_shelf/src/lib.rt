@@ -44,7 +44,7 @@ mod write;
 pub use counts::ShelfCounts;
 pub use desk::{Desk, WantedPages};
 pub use entry::Entry;
-pub use exchange::Brought;
+pub use exchange::StepMemory;
 pub use hit::{Found, Hit};
 pub use mc_grow::Place;
 pub use mc_sizes::Settings;

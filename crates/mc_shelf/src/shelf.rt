@@ -28,7 +28,7 @@ ghost use Rattle.mc_shelf.specs.Sweeps.{AreOut, GivesFor};
 use crate::counts::{ShelfCounts, counted_up};
 use crate::desk::{Desk, WantedPages};
 use crate::entry::Entry;
-use crate::exchange::Brought;
+use crate::exchange::StepMemory;
 use crate::index::{EntryIndex, Place};
 use crate::plan::{Action, Plan, next_of};
 use crate::soonest::Soonest;
@@ -352,7 +352,7 @@ impl Shelf {
             return Ok(self.settle(plan));
         }
         let mut plan = plan;
-        let brought = Brought {
+        let brought = StepMemory {
             pages: None,
             exchange: None,
         };
@@ -413,7 +413,7 @@ impl Shelf {
         plan: &mut Plan<'_>,
         step: &KeyStep<'_>,
         desk: &mut Desk,
-        brought: Brought,
+        brought: StepMemory,
     ) -> Result<(), StepFault>
         requires plan { IsPlan plan.old self.old.content step.now plan.old.moment }
         requires room { CanWrite plan.old.next self.old.content (key_of step.now) plan.old.moment

@@ -22,7 +22,7 @@ ghost use Rattle.mc_shelf.specs.Plans.{made_block, told_next, waiting, writes, w
 
 use crate::desk::Desk;
 use crate::entry::{Entry, bare_parts};
-use crate::exchange::Brought;
+use crate::exchange::StepMemory;
 use crate::plan::{Action, Plan, is_gone};
 use crate::shelf::Shelf;
 use itoa::Buffer;
@@ -197,7 +197,7 @@ impl Shelf {
         plan: &Plan<'_>,
         step: &KeyStep<'_>,
         desk: &mut Desk,
-        brought: Brought,
+        brought: StepMemory,
     ) -> Result<Action, StepFault>
         requires writes { writes plan.now.next ≡ true }
         requires plan { IsPlan plan.now self.old.content step.now plan.now.moment }
@@ -239,7 +239,7 @@ impl Shelf {
             self.drop_dead(plan, step, desk);
             return Ok(Action::Answer(Reply::NoChunk));
         }
-        let Brought { pages, exchange } = brought;
+        let StepMemory { pages, exchange } = brought;
         if 0 < back {
             // it is dropped, so nothing is exchanged for its chunks
             desk.ready(alloc, need, back, pages)?;

@@ -8,7 +8,7 @@ ghost use Rattle.mc_shelf.specs.Plans.{CanLook, CanWrite, StepTaken, IsPlan, Has
 
 use mc_hop::KeyHash;
 use mc_protocol::{KeyStep, Reply, StepFault};
-use mc_shelf::{Brought, Desk, Plan, Shelf, Store, StoreParts};
+use mc_shelf::{Desk, Plan, Shelf, StepMemory, Store, StoreParts};
 use mc_time::Moment;
 use std::alloc::{AllocError, Global};
 
@@ -51,7 +51,7 @@ fn take_planned(
         ((shelf.new.content ≡ shelf.old.content) × (desk.new ≡ desk.old)) }
 {
     let exchange = shelf.exchange(alloc, &plan)?;
-    let brought = Brought {
+    let brought = StepMemory {
         pages: None,
         exchange,
     };
