@@ -6,23 +6,23 @@ use Rattle.mc_links.specs.Coming.{IsNext}
 use Rattle.mc_links.specs.declared.links.Next.TheVariants as next
 use Rattle.mc_guests.specs.Links.{LinkState}
 use Rattle.mc_guests.specs.Books.{BooksState}
-use Rattle.mc_guests.specs.Doors.{Opens, LinksCame, OpensForAll}
+use Rattle.mc_guests.specs.Admissions.{Opens, LinksCame, OpensForAll}
 use Rattle.mc_guests.specs.Arrivals.{Arrival, all_links_of, came_in, all_came_in, came_between, seen_by, ComeFirst, NoneToCome, Brings}
-use Rattle.mc_guests.specs.declared.door.Door.{Door}
+use Rattle.mc_guests.specs.declared.admission.Admission.{Admission}
 use Rattle.mc_guests.specs.declared.guests.WorkEnd.{WorkEnd}
 
 -- an opening of the door, and what it brings
-abbrev pub OpensTo : (is_quiet : Bool) (door later : Door) (old new : BooksState) (before after : WorkEnd) (goes_on : Bool) (coming left : Option (List LinkState)) → Type 0
+abbrev pub OpensTo : (is_quiet : Bool) (door later : Admission) (old new : BooksState) (before after : WorkEnd) (goes_on : Bool) (coming left : Option (List LinkState)) → Type 0
 OpensTo is_quiet door later old new before after goes_on coming left =
     (opens : Opens is_quiet door later old new before after goes_on) × Brings (came_in opens) goes_on coming left
 
 -- openings by each of which a link came
-abbrev pub CameTo : (count : ℕ) (door later : Door) (old new : BooksState) (before after : WorkEnd) (coming left : Option (List LinkState)) → Type 0
+abbrev pub CameTo : (count : ℕ) (door later : Admission) (old new : BooksState) (before after : WorkEnd) (coming left : Option (List LinkState)) → Type 0
 CameTo count door later old new before after coming left =
     (came : LinksCame count door later old new before after) × ComeFirst coming (all_came_in came) left
 
 -- the openings between two rounds
-abbrev pub OpensAllTo : (door later : Door) (old new : BooksState) (before after : WorkEnd) (goes_on : Bool) (coming left : Option (List LinkState)) → Type 0
+abbrev pub OpensAllTo : (door later : Admission) (old new : BooksState) (before after : WorkEnd) (goes_on : Bool) (coming left : Option (List LinkState)) → Type 0
 OpensAllTo door later old new before after goes_on coming left =
     (opens : OpensForAll door later old new before after goes_on) × Brings (came_between opens) goes_on coming left
 

@@ -9,7 +9,7 @@ use Rattle.mc_guests.specs.Books.{RowState, BooksState, HasNumber, SleepsAt, Wak
 use Rattle.mc_guests.specs.Books.{is_over, is_asleep, is_to_queue, LinesUp, IsFateOf, Settles, SettlesFrom, swapped, cut}
 use Rattle.mc_time.specs.Chains.{none_yet, one_more}
 use Rattle.mc_guests.proofs.BudgetLemmas.{counts_swapped}
-use Rattle.mc_guests.specs.declared.guests.Fate.{Fate}
+use Rattle.mc_guests.specs.declared.guests.NextState.{NextState}
 use Rattle.mc_guests.specs.declared.guests.WorkEnd.{WorkEnd}
 
 -- the guest at the place that was told for a number wakes, if it sleeps
@@ -39,7 +39,7 @@ no_true : {A : Type 0} (b : Bool) → b ≡ false → b ≡ true → A
 no_true b miss hit = absurd (cc)
 
 -- the guest at a place is settled as is its fate
-module _ (at : ℕ) (fate : Fate) (old new : BooksState) (before after : WorkEnd) (is : IsFateOf at old.row fate before after) where
+module _ (at : ℕ) (fate : NextState) (old new : BooksState) (before after : WorkEnd) (is : IsFateOf at old.row fate before after) where
   -- one that has ended goes
   pub settles_over : is_over fate ≡ true → LetsGo at old new → Settles at old new before after
   settles_over over goes = record {

@@ -4,23 +4,23 @@ use Rattle.std.proofs.Common.{◌≡◌, ◌↔◌, ◌<◌, ℕ, ◌+◌, Bool,
 use Rattle.mc_guests.specs.Links.{LinkState}
 use Rattle.mc_guests.specs.Guests.{welcomed}
 use Rattle.mc_guests.specs.Books.{BooksState, Wakes, quiet, let_in, one_more as one_more_of}
-use Rattle.mc_guests.specs.Doors.{unasked, came, heard, counted_in, WakesNamed, WakesAllNamed, WakesAfter, LetsIn, ComesNothing, Opens, link, none_now, none_more, over}
-use Rattle.mc_guests.specs.Doors.{as_many, then_none}
+use Rattle.mc_guests.specs.Admissions.{unasked, came, heard, counted_in, WakesNamed, WakesAllNamed, WakesAfter, LetsIn, ComesNothing, Opens, link, none_now, none_more, over}
+use Rattle.mc_guests.specs.Admissions.{as_many, then_none}
 use Rattle.mc_guests.specs.Arrivals.{Arrival, came_in, all_came_in, ComeFirst, NoneToCome}
 use Rattle.mc_time.specs.Chains.{one_more}
-use Rattle.mc_guests.specs.declared.door.Door.{Door}
+use Rattle.mc_guests.specs.declared.admission.Admission.{Admission}
 use Rattle.mc_guests.specs.declared.guests.WorkEnd.{WorkEnd}
-use Rattle.mc_guests.specs.declared.talk.Came.{Came}
-use Rattle.mc_guests.specs.declared.talk.Came.TheVariants.{Link, Later, Closed}
-use Rattle.mc_guests.specs.declared.talk.Talk.{Talk}
+use Rattle.mc_guests.specs.declared.link_calls.NextAnswer.{NextAnswer}
+use Rattle.mc_guests.specs.declared.link_calls.NextAnswer.TheVariants.{Link, Later, Closed}
+use Rattle.mc_guests.specs.declared.link_calls.LinkCalls.{LinkCalls}
 use Rattle.mc_guests.proofs.ArrivalLemmas.{OpensTo, CameTo, OpensAllTo, first_then}
 
 -- one more was named, and its guest woke
-pub named_more : (number counter : ℕ) (talk later last : Talk) (old mid new : BooksState) → last ≡ heard (Some number) later
+pub named_more : (number counter : ℕ) (talk later last : LinkCalls) (old mid new : BooksState) → last ≡ heard (Some number) later
     → WakesNamed talk old later mid × (later.names ≡ counter) → Wakes number mid new → WakesNamed talk old last new × (last.names ≡ counter + 1)
 named_more number counter talk later last old mid new is front wakes = (
   (front.0.0 + 1, one_more front.0.1 (record { number = number; talk = is; wakes = wakes })),
-  ap (λ (t : Talk). t.names) is ∙ ap (λ (n : ℕ). n + 1) front.1,
+  ap (λ (t : LinkCalls). t.names) is ∙ ap (λ (n : ℕ). n + 1) front.1,
 )
 
 -- a link came, and has a guest or is counted as refused
@@ -37,45 +37,45 @@ lets_in false greatest number state old new before after enters stays same count
 pub fails : {A : Type 0} (test : Bool) → (IsTrue test ↔ A) → test ≡ false → A → ⊥
 fails test says is holds = (let h : test ≡ true = says.1 holds in cc)
 
-module _ (is_quiet : Bool) (door : Door) (start asked : Talk) (begins : start ≡ unasked) where
-  asked_so : (what : Came) → asked ≡ came what start → asked ≡ came what unasked
+module _ (is_quiet : Bool) (door : Admission) (start asked : LinkCalls) (begins : start ≡ unasked) where
+  asked_so : (what : NextAnswer) → asked ≡ came what start → asked ≡ came what unasked
   asked_so what is = is ∙ ap (came what) begins
 
-  pub opens_link : (entered : Door) (talk : Talk) (old between new : BooksState) (before after : WorkEnd) (coming left : Option (List LinkState)) → asked ≡ came Link start
+  pub opens_link : (entered : Admission) (talk : LinkCalls) (old between new : BooksState) (before after : WorkEnd) (coming left : Option (List LinkState)) → asked ≡ came Link start
       → entered ≡ counted_in (record door { talk = asked }) → (lets : LetsIn door.greatest door.opened old between before after)
       → WakesAllNamed entered.talk between talk new → ((arrival : Arrival) → arrival.state ≡ lets.link → ComeFirst coming (arrival ∷ []) left)
       → OpensTo is_quiet door (record { greatest = entered.greatest; opened = entered.opened; talk = talk }) old new before after true coming left
   opens_link entered talk old between new before after coming left is counts lets wakes first =
-      subst (λ (e : Door). OpensTo is_quiet door (record { greatest = e.greatest; opened = e.opened; talk = talk }) old new before after true coming left) (sym counts) (
-        link lets (subst (λ (t : Talk). WakesAllNamed t between talk new) (ap (λ (e : Door). e.talk) counts ∙ asked_so Link is) wakes),
+      subst (λ (e : Admission). OpensTo is_quiet door (record { greatest = e.greatest; opened = e.opened; talk = talk }) old new before after true coming left) (sym counts) (
+        link lets (subst (λ (t : LinkCalls). WakesAllNamed t between talk new) (ap (λ (e : Admission). e.talk) counts ∙ asked_so Link is) wakes),
         record { first = first _ refl; all = λ no. absurd (cc) },
       )
 
-  pub opens_now : (talk : Talk) (old new : BooksState) (end : WorkEnd) (coming left : Option (List LinkState)) → asked ≡ came Later start → ComesNothing is_quiet asked old talk new
+  pub opens_now : (talk : LinkCalls) (old new : BooksState) (end : WorkEnd) (coming left : Option (List LinkState)) → asked ≡ came Later start → ComesNothing is_quiet asked old talk new
       → ComeFirst coming [] left → OpensTo is_quiet door (record door { talk = talk }) old new end end true coming left
   opens_now talk old new end coming left is nothing first =
-      (none_now (subst (λ (t : Talk). ComesNothing is_quiet t old talk new) (asked_so Later is) nothing), record { first = first; all = λ no. absurd (cc) })
+      (none_now (subst (λ (t : LinkCalls). ComesNothing is_quiet t old talk new) (asked_so Later is) nothing), record { first = first; all = λ no. absurd (cc) })
 
-  pub opens_more : (talk : Talk) (old new : BooksState) (end : WorkEnd) (coming left : Option (List LinkState)) → asked ≡ came Closed start → (length old.row.guests ≡ 0 → ⊥)
+  pub opens_more : (talk : LinkCalls) (old new : BooksState) (end : WorkEnd) (coming left : Option (List LinkState)) → asked ≡ came Closed start → (length old.row.guests ≡ 0 → ⊥)
       → ComesNothing is_quiet asked old talk new → ComeFirst coming [] left → OpensTo is_quiet door (record door { talk = talk }) old new end end true coming left
   opens_more talk old new end coming left is some nothing first =
-      (none_more some (subst (λ (t : Talk). ComesNothing is_quiet t old talk new) (asked_so Closed is) nothing), record { first = first; all = λ no. absurd (cc) })
+      (none_more some (subst (λ (t : LinkCalls). ComesNothing is_quiet t old talk new) (asked_so Closed is) nothing), record { first = first; all = λ no. absurd (cc) })
 
   pub opens_over : (books : BooksState) (end : WorkEnd) (coming left : Option (List LinkState)) → asked ≡ came Closed start → length books.row.guests ≡ 0
       → ComeFirst coming [] left × NoneToCome left → OpensTo is_quiet door (record door { talk = asked }) books books end end false coming left
   opens_over books end coming left is nobody first =
-      subst (λ (t : Talk). OpensTo is_quiet door (record door { talk = t }) books books end end false coming left) (sym (asked_so Closed is))
+      subst (λ (t : LinkCalls). OpensTo is_quiet door (record door { talk = t }) books books end end false coming left) (sym (asked_so Closed is))
       (over nobody, record { first = first.0; all = λ no. first.1 })
 
 -- more can come where a link came
-opens_on : {is_quiet : Bool} {door later : Door} {old new : BooksState} {before after : WorkEnd} {goes_on : Bool}
+opens_on : {is_quiet : Bool} {door later : Admission} {old new : BooksState} {before after : WorkEnd} {goes_on : Bool}
     → Opens is_quiet door later old new before after goes_on → later.talk.came ≡ Some Link → goes_on ≡ true
 opens_on (link _ _) is = refl
 opens_on (none_now _) is = refl
 opens_on (none_more _ _) is = refl
 opens_on (over _) is = cc
 
-module _ (count : ℕ) (door last later : Door) (old between new : BooksState) (before mid after : WorkEnd) (is_quiet goes_on gave : Bool)
+module _ (count : ℕ) (door last later : Admission) (old between new : BooksState) (before mid after : WorkEnd) (is_quiet goes_on gave : Bool)
     (coming amid left : Option (List LinkState)) where
   pub came_one_more : CameTo count door last old between before mid coming amid → is_quiet ≡ quiet between
       → OpensTo is_quiet last later between new mid after goes_on amid left → (IsTrue gave ↔ (later.talk.came ≡ Some Link)) → gave ≡ true
@@ -98,14 +98,14 @@ module _ (count : ℕ) (door last later : Door) (old between new : BooksState) (
       )
 
 -- a link came at each of 32 openings
-pub came_all : (count : ℕ) (door later : Door) (old new : BooksState) (before after : WorkEnd) (coming left : Option (List LinkState)) → count ≡ 32
+pub came_all : (count : ℕ) (door later : Admission) (old new : BooksState) (before after : WorkEnd) (coming left : Option (List LinkState)) → count ≡ 32
     → CameTo count door later old new before after coming left → OpensAllTo door later old new before after true coming left
 came_all count door later old new before after coming left all came =
     let many = subst (λ (n : ℕ). CameTo n door later old new before after coming left) all came in
     (as_many many.0, record { first = many.1; all = λ no. absurd (cc) })
 
 -- Nothing came: those woke whose links were named, and it rested or not.
-module _ (is_quiet rests : Bool) (talk last noted : Talk) (old between : BooksState) (wakes : WakesAllNamed talk old last between) (is : rests ≡ (is_quiet && last.names == 0))
+module _ (is_quiet rests : Bool) (talk last noted : LinkCalls) (old between : BooksState) (wakes : WakesAllNamed talk old last between) (is : rests ≡ (is_quiet && last.names == 0))
     (notes : noted ≡ record last { has_rested = rests }) where
   noted_so : noted ≡ record last { has_rested = is_quiet && last.names == 0 }
   noted_so = notes ∙ ap (λ (r : Bool). record last { has_rested = r }) is
@@ -118,11 +118,11 @@ module _ (is_quiet rests : Bool) (talk last noted : Talk) (old between : BooksSt
     rests = subst (λ (r : Bool). WakesAfter r (record last { has_rested = is_quiet && last.names == 0 }) between noted between) (sym stays ∙ is) (noted_so, refl);
   }
 
-  pub comes_nothing_then : (later : Talk) (new : BooksState) → rests ≡ true → WakesAllNamed noted between later new → ComesNothing is_quiet talk old later new
+  pub comes_nothing_then : (later : LinkCalls) (new : BooksState) → rests ≡ true → WakesAllNamed noted between later new → ComesNothing is_quiet talk old later new
   comes_nothing_then later new rested after = record {
     last = last;
     between = between;
     wakes = wakes;
     rests = subst (λ (r : Bool). WakesAfter r (record last { has_rested = is_quiet && last.names == 0 }) between later new) (sym rested ∙ is)
-        (subst (λ (t : Talk). WakesAllNamed t between later new) noted_so after);
+        (subst (λ (t : LinkCalls). WakesAllNamed t between later new) noted_so after);
   }

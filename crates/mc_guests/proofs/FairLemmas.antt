@@ -10,7 +10,7 @@ use Rattle.mc_protocol.specs.declared.step.Steps.{Ghosts as Relations}
 use Rattle.mc_guests.specs.Asks.{most}
 use Rattle.mc_guests.specs.Budgets.{has_left, promised_more, is_retry_due}
 use Rattle.mc_guests.specs.Guests.{RowGuest, is_queued, is_stray, is_in_queue, is_left_out, missing, in_line}
-use Rattle.mc_guests.specs.Paces.{age}
+use Rattle.mc_guests.specs.LinkRates.{age}
 use Rattle.mc_guests.specs.Books.{BooksState, HasNumber, StandsAt, woken}
 use Rattle.mc_guests.specs.Retries.{IsQueuedAt, NoneWaits, FindsNone, IsWhole, looks, waits_long, finds_room, in_turn, lined, tried_again, strays, stray_tried, strays_tried, all_strays_tried, begun_anew}
 use Rattle.mc_guests.specs.Retries.{TakesTurn, goes_on as turn_goes, is_gone as turn_gone, EndsTurns, nobody_waits as turn_none, finds_none as turn_lacks}
@@ -19,7 +19,7 @@ use Rattle.mc_guests.specs.Retries.{LooksAtFirst, goes_on, is_gone, nobody_waits
 use Rattle.mc_guests.specs.Turns.{VisitsAll}
 use Rattle.mc_guests.specs.Fairness.{IsIn, KeepsOrder, OldestLacksRoom, WaitsOn, misses, IsFair, NoneFindsRoom, StandsBy}
 use Rattle.mc_guests.specs.declared.budget.Budget.{Budget}
-use Rattle.mc_guests.specs.declared.weighed.Line.TheVariants.{Next}
+use Rattle.mc_guests.specs.declared.metered.WaitState.TheVariants.{Next}
 use Rattle.mc_guests.proofs.QueueLemmas.{same_order, order_trans, order_more, order_append, order_long, in_left, in_right, in_either, in_none, end_of, Leaves, first_leaves, turn_leaves}
 use Rattle.mc_guests.proofs.SwapLemmas.{Tried, tried}
 use Rattle.mc_guests.proofs.RetryLemmas.{long_stray}

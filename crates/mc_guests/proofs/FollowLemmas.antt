@@ -10,8 +10,8 @@ use Rattle.mc_guests.specs.Books.{BooksState, HasNumber, StandsAt}
 use Rattle.mc_guests.specs.Retries.{IsQueuedAt, NoneWaits, FindsNone, IsWhole, finds_room}
 use Rattle.mc_guests.specs.Fairness.{IsIn, FoundRoom, GoesOn, Stays, Fares, Stood, misses, OneAlone, Promises}
 use Rattle.mc_guests.specs.declared.budget.Budget.{Budget}
-use Rattle.mc_guests.specs.declared.weighed.Line.{Line}
-use Rattle.mc_guests.specs.declared.weighed.Line.TheVariants.{Out, Queued, Next}
+use Rattle.mc_guests.specs.declared.metered.WaitState.{WaitState}
+use Rattle.mc_guests.specs.declared.metered.WaitState.TheVariants.{Out, Queued, Next}
 use Rattle.mc_guests.proofs.QueueLemmas.{Leaves}
 use Rattle.mc_guests.proofs.SwapLemmas.{changed_sum, Tried}
 
@@ -67,7 +67,7 @@ next_not_queued guest = and_right guest.waits false refl
 pub next_not_stray : (guest : RowGuest) → is_stray (in_line Next guest) ≡ false
 next_not_stray guest = and_right guest.waits false refl
 
-not_both : (waits : Bool) (line : Line) → (waits && is_left_out line) ≡ true → (waits && is_in_queue line) ≡ false
+not_both : (waits : Bool) (line : WaitState) → (waits && is_left_out line) ≡ true → (waits && is_in_queue line) ≡ false
 not_both false line stray = refl
 not_both true Out stray = refl
 not_both true Queued stray = absurd (both_ways false refl stray)

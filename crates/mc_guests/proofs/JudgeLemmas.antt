@@ -9,7 +9,7 @@ use Rattle.mc_guests.specs.Budgets.{one_if, is_large, AreSums}
 use Rattle.mc_guests.specs.Guests.{RowGuest}
 use Rattle.mc_guests.specs.Books.{RowState, changed}
 use Rattle.mc_guests.specs.Judging.{undercuts, FindsSlowest, Judges, judged}
-use Rattle.mc_guests.specs.declared.weighed.Judged.{Judged}
+use Rattle.mc_guests.specs.declared.metered.Verdict.{Verdict}
 
 -- a place of a row that is shown is one of the row itself
 pub within_shown : (at : ℕ) (row shown : RowState) → row ≡ shown → at < length shown.guests → at < length row.guests
@@ -109,12 +109,12 @@ module _ (rate_of : RowGuest → Option ℕ) (at : ℕ) (guests : List RowGuest)
   }
 
 -- a judgement leaves how many stand in the row
-pub judges_long : (ticks : ℕ) (result : Option Judged) (old new : RowState) → Judges ticks result old new → length new.guests ≡ length old.guests
+pub judges_long : (ticks : ℕ) (result : Option Verdict) (old new : RowState) → Judges ticks result old new → length new.guests ≡ length old.guests
 judges_long ticks None old new judges = ap (λ (r : RowState). length r.guests) judges.1
 judges_long ticks (Some result) old new judges = ap (λ (r : RowState). length r.guests) judges.judges.row ∙ length_changed (judged ticks) judges.at old.guests
 
 -- a judgement leaves what guests are counted for
-pub judges_counts : (ticks held waiting large left : ℕ) (result : Option Judged) (old new : RowState) → Judges ticks result old new
+pub judges_counts : (ticks held waiting large left : ℕ) (result : Option Verdict) (old new : RowState) → Judges ticks result old new
     → AreSums held waiting large left old.guests → AreSums held waiting large left new.guests
 judges_counts ticks held waiting large left None old new judges counts = subst (λ (r : RowState). AreSums held waiting large left r.guests) (sym judges.1) counts
 judges_counts ticks held waiting large left (Some result) old new judges counts =

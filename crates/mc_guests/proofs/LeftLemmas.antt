@@ -8,7 +8,7 @@ use Rattle.mc_guests.specs.Budgets.{is_over, CountsAll, CountsLeft, RecountsLeft
 use Rattle.mc_guests.specs.Guests.{RowGuest, reads_left}
 use Rattle.mc_guests.specs.Books.{RowState, SameButLeft, changed}
 use Rattle.mc_guests.specs.Judging.{reading_rate, NoneIsSought, RecountsAt, EndsSlowest, EndsReader}
-use Rattle.mc_guests.specs.Paces.{rate}
+use Rattle.mc_guests.specs.LinkRates.{rate}
 use Rattle.mc_guests.specs.declared.budget.Budget.{Budget}
 use Rattle.mc_guests.proofs.JudgeLemmas.{length_changed, set_changed, sum_changed}
 use Rattle.mc_guests.proofs.SwapLemmas.{changed_sum}

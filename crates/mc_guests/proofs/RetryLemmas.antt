@@ -10,8 +10,8 @@ use Rattle.mc_guests.specs.Retries.{IsQueuedAt, NoneWaits, PromisesRoom, KeepsRo
 use Rattle.mc_guests.specs.Retries.{LooksAtFirst, goes_on, is_gone, nobody_waits, finds_none, finds_room, promised_to, room_kept, in_turn, struck_out, turn_passed, lined, woken_if, tried_again}
 use Rattle.mc_guests.specs.Retries.{first_dropped, first_behind, stray_tried, strays, strays_tried, waits_long}
 use Rattle.mc_guests.specs.declared.budget.Budget.{Budget}
-use Rattle.mc_guests.specs.declared.weighed.Line.{Line}
-use Rattle.mc_guests.specs.declared.weighed.Line.TheVariants.{Next}
+use Rattle.mc_guests.specs.declared.metered.WaitState.{WaitState}
+use Rattle.mc_guests.specs.declared.metered.WaitState.TheVariants.{Next}
 use Rattle.mc_guests.proofs.JudgeLemmas.{length_changed}
 
 -- one that sleeps wakes, and one that is awake stays so
@@ -28,7 +28,7 @@ pub queued_within : (number at : ℕ) (row : RowState) → IsQueuedAt number at 
 queued_within number at row waits = slice_get_within row.guests at waits.guest waits.stands
 
 -- all that stand in a row stay where one is tried again
-pub long_lined : (at : ℕ) (line : Line) (books : BooksState) → length (lined at line books).row.guests ≡ length books.row.guests
+pub long_lined : (at : ℕ) (line : WaitState) (books : BooksState) → length (lined at line books).row.guests ≡ length books.row.guests
 long_lined at line books = length_changed (in_line line) at books.row.guests
 
 pub long_woken : (at : ℕ) (books : BooksState) → length (woken_if at books).row.guests ≡ length books.row.guests

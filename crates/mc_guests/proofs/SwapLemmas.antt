@@ -12,7 +12,7 @@ use Rattle.std.proofs.lemmas.Option.{none-some, same_Some, slice_get-get_or, sli
 use Rattle.mc_guests.specs.Guests.{RowGuest, in_line}
 use Rattle.mc_guests.specs.Books.{BooksState, changed, woken}
 use Rattle.mc_guests.specs.Retries.{lined, tried_again}
-use Rattle.mc_guests.specs.declared.weighed.Line.TheVariants.{Next}
+use Rattle.mc_guests.specs.declared.metered.WaitState.TheVariants.{Next}
 use Rattle.mc_guests.proofs.JudgeLemmas.{length_changed}
 
 -- the place whose item stands at `k` once two places were swapped

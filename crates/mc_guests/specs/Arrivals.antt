@@ -3,9 +3,9 @@ use mathlib.Core.Logic.{inl, inr}
 use Rattle.std.specs.Prelude.{◌≡◌, ◌⊎◌, ℕ, List, [], ◌∷◌, ◌++◌, map, Option, Some, None, Bool, true, false, IsFalse, if◌then◌else◌}
 use Rattle.mc_guests.specs.Links.{LinkState}
 use Rattle.mc_guests.specs.Books.{BooksState}
-use Rattle.mc_guests.specs.Doors.{Opens, link as of_link, none_now, none_more, over, LinkCame, OpensForAll, as_many, then_none}
+use Rattle.mc_guests.specs.Admissions.{Opens, link as of_link, none_now, none_more, over, LinkCame, OpensForAll, as_many, then_none}
 use Rattle.mc_time.specs.Chains.{Repeats, none_yet, one_more}
-use Rattle.mc_guests.specs.declared.door.Door.{Door}
+use Rattle.mc_guests.specs.declared.admission.Admission.{Admission}
 use Rattle.mc_guests.specs.declared.guests.WorkEnd.{WorkEnd}
 
 -- A link that came to a worker's door, with the greatest charge of an item there, and whether it was admitted; if not, it
@@ -37,7 +37,7 @@ is_first (inl first) = true
 is_first (inr second) = false
 
 -- the link that came at an opening of the door, if one came
-abbrev pub came_in : {is_quiet goes_on : Bool} {door later : Door} {old new : BooksState} {before after : WorkEnd}
+abbrev pub came_in : {is_quiet goes_on : Bool} {door later : Admission} {old new : BooksState} {before after : WorkEnd}
     → Opens is_quiet door later old new before after goes_on → List Arrival
 came_in (of_link {door = door} lets wakes) =
     record { most = door.greatest; state = lets.link; is_admitted = is_first lets.either } ∷ []
@@ -46,12 +46,12 @@ came_in (none_more some nothing) = []
 came_in (over none) = []
 
 -- the links that came at these openings, in order
-abbrev pub all_came_in : {count : ℕ} {old new : Door × BooksState × WorkEnd} → Repeats LinkCame count old new → List Arrival
+abbrev pub all_came_in : {count : ℕ} {old new : Admission × BooksState × WorkEnd} → Repeats LinkCame count old new → List Arrival
 all_came_in none_yet = []
 all_came_in (one_more front one) = all_came_in front ++ came_in one.opens
 
 -- the links that came at the openings between two rounds
-abbrev pub came_between : {goes_on : Bool} {door later : Door} {old new : BooksState} {before after : WorkEnd}
+abbrev pub came_between : {goes_on : Bool} {door later : Admission} {old new : BooksState} {before after : WorkEnd}
     → OpensForAll door later old new before after goes_on → List Arrival
 came_between (as_many came) = all_came_in came
 came_between (then_none few came opens none) = all_came_in came ++ came_in opens

@@ -4,12 +4,12 @@ use Rattle.mc_guests.specs.Budgets.{rest_of, may_try}
 use Rattle.mc_guests.specs.Guests.{GuestState, RowGuest, newcomer, has_ended, is_to_sleep, is_stray, in_line, reads_left}
 use Rattle.mc_time.specs.Chains.{Repeats}
 use Rattle.mc_guests.specs.declared.budget.Budget.{Budget}
-use Rattle.mc_guests.specs.declared.weighed.Line.TheVariants.{Queued}
+use Rattle.mc_guests.specs.declared.metered.WaitState.TheVariants.{Queued}
 use Rattle.mc_guests.specs.declared.guest.Visit.{Visit}
 use Rattle.mc_guests.specs.declared.guest.Visit.TheVariants.{Served, Broken, Refused}
 use Rattle.mc_guests.specs.declared.guests.WorkEnd.{WorkEnd}
-use Rattle.mc_guests.specs.declared.guests.Fate.{Fate}
-use Rattle.mc_guests.specs.declared.guests.Fate.TheVariants.{Waits, Sleeps, Ended}
+use Rattle.mc_guests.specs.declared.guests.NextState.{NextState}
+use Rattle.mc_guests.specs.declared.guests.NextState.TheVariants.{Waits, Sleeps, Ended}
 
 -- guests in a row, and beside each the number of its link
 pub record RowState : Type 0 where
@@ -183,24 +183,24 @@ counted (Some Refused) count = record count { refused = one_more count.refused }
 counted last count = count
 
 -- whether a guest is to go
-abbrev pub is_over : Fate → Bool
+abbrev pub is_over : NextState → Bool
 is_over Ended = true
 is_over fate = false
 
 -- whether a guest is to sleep
-abbrev pub is_asleep : Fate → Bool
+abbrev pub is_asleep : NextState → Bool
 is_asleep Waits = true
 is_asleep Sleeps = true
 is_asleep fate = false
 
 -- whether a guest is to be put into the queue
-abbrev pub is_to_queue : Fate → Bool
+abbrev pub is_to_queue : NextState → Bool
 is_to_queue Waits = true
 is_to_queue fate = false
 
 -- what becomes of the guest at a place: it is to go if it has ended, which is counted, and else to sleep if it waits for
 -- room or its link gave or took nothing; if it waits and is left out of the queue it is put into it
-pub record IsFateOf (at : ℕ) (row : RowState) (fate : Fate) (before after : WorkEnd) : Type 0 where
+pub record IsFateOf (at : ℕ) (row : RowState) (fate : NextState) (before after : WorkEnd) : Type 0 where
   pub guest : RowGuest
   pub stands : StandsAt at row guest
   pub over : is_over fate ≡ has_ended guest.guest.last

@@ -6,7 +6,7 @@ use Rattle.mc_guests.specs.Guests.{RowGuest, is_queued, is_stray, missing, in_li
 use Rattle.mc_guests.specs.Books.{RowState, BooksState, HasNumber, StandsAt}
 use Rattle.mc_guests.specs.Retries.{looks, waits_long, finds_room, FindsNone, NoneWaits}
 use Rattle.mc_guests.specs.declared.budget.Budget.{Budget}
-use Rattle.mc_guests.specs.declared.weighed.Line.TheVariants.{Next}
+use Rattle.mc_guests.specs.declared.metered.WaitState.TheVariants.{Next}
 
 -- a number is in a list
 abbrev pub IsIn : (number : ℕ) → List ℕ → Type 0

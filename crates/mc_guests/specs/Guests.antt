@@ -3,12 +3,12 @@ use mathlib.Core.Logic.{inl, inr}
 use Rattle.std.specs.Prelude.{◌≡◌, ◌⊎◌, ◌||◌, ◌&&◌, ◌-◌, ◌<◌, ◌≤◌, ℕ, Bool, true, false, List, [], length, Option, Some, None, IsTrue}
 use Rattle.mc_session.specs.Turns.{SessionState, NoTurnDue, TurnIsDue, opened}
 use Rattle.mc_guests.specs.Links.{LinkState, IsRoom, grown}
-use Rattle.mc_guests.specs.Paces.{begun}
+use Rattle.mc_guests.specs.LinkRates.{begun}
 use Rattle.mc_guests.specs.declared.guest.Visit.{Visit}
 use Rattle.mc_guests.specs.declared.guest.Visit.TheVariants.{Later, Served, Broken, Refused}
-use Rattle.mc_guests.specs.declared.pace.Pace.{Pace}
-use Rattle.mc_guests.specs.declared.weighed.Line.{Line}
-use Rattle.mc_guests.specs.declared.weighed.Line.TheVariants.{Out, Queued}
+use Rattle.mc_guests.specs.declared.link_rate.LinkRate.{LinkRate}
+use Rattle.mc_guests.specs.declared.metered.WaitState.{WaitState}
+use Rattle.mc_guests.specs.declared.metered.WaitState.TheVariants.{Out, Queued}
 
 -- its session, its link, and the answer of its last visit
 pub record GuestState : Type 0 where
@@ -72,14 +72,14 @@ pub record RowGuest : Type 0 where
   pub guest : GuestState
   pub waits : Bool
   pub counted : ℕ
-  pub line : Line
+  pub line : WaitState
   pub wanted : ℕ
   pub lent : ℕ
   pub left : ℕ
-  pub pace : Pace
+  pub pace : LinkRate
 
 -- what contracts see of a guest of a worker with these fields
-abbrev pub row_guest : GuestState → (waits : Bool) → (counted : ℕ) → Line → (wanted lent left : ℕ) → Pace → RowGuest
+abbrev pub row_guest : GuestState → (waits : Bool) → (counted : ℕ) → WaitState → (wanted lent left : ℕ) → LinkRate → RowGuest
 row_guest guest waits counted line wanted lent left pace =
     record { guest = guest; waits = waits; counted = counted; line = line; wanted = wanted; lent = lent; left = left; pace = pace }
 
@@ -88,12 +88,12 @@ abbrev pub newcomer : GuestState → RowGuest
 newcomer guest = row_guest guest false 0 Out 0 0 0 (begun 0)
 
 -- whether a guest that waits is in the queue
-abbrev pub is_in_queue : Line → Bool
+abbrev pub is_in_queue : WaitState → Bool
 is_in_queue Queued = true
 is_in_queue line = false
 
 -- whether a guest that waits is left out: it isn't in the queue, and isn't tried again
-abbrev pub is_left_out : Line → Bool
+abbrev pub is_left_out : WaitState → Bool
 is_left_out Out = true
 is_left_out line = false
 
@@ -110,7 +110,7 @@ abbrev pub missing : RowGuest → ℕ
 missing guest = guest.wanted - guest.counted
 
 -- the guest stands there in the queue
-abbrev pub in_line : Line → RowGuest → RowGuest
+abbrev pub in_line : WaitState → RowGuest → RowGuest
 in_line line guest = record guest { line = line }
 
 -- a guest is counted for this many bytes that have left the store

@@ -2,13 +2,13 @@
 use Rattle.std.specs.Prelude.{◌≡◌, ◌<◌, ◌≤◌, ◌&&◌, nat_lt, ℕ, Bool, true, List, length, slice_get, Option, Some, None, if◌then◌else◌}
 use Rattle.mc_guests.specs.Budgets.{plus, own, CountsLeft}
 use Rattle.mc_guests.specs.Guests.{RowGuest, reads_left}
-use Rattle.mc_guests.specs.Paces.{begun, asked_again, rate, is_slow, was_asked}
+use Rattle.mc_guests.specs.LinkRates.{begun, asked_again, rate, is_slow, was_asked}
 use Rattle.mc_guests.specs.Books.{RowState, StandsAt, HasNumber, with_guest}
-use Rattle.mc_guests.specs.declared.weighed.Judged.{Judged}
-use Rattle.mc_guests.specs.declared.weighed.Judged.TheVariants.{Asks, Ends}
+use Rattle.mc_guests.specs.declared.metered.Verdict.{Verdict}
+use Rattle.mc_guests.specs.declared.metered.Verdict.TheVariants.{Asks, Ends}
 use Rattle.mc_guests.specs.declared.budget.Budget.{Budget}
-use Rattle.mc_guests.specs.declared.weighed.Sought.{Sought}
-use Rattle.mc_guests.specs.declared.weighed.Sought.TheVariants.{Hoarder, Reader}
+use Rattle.mc_guests.specs.declared.metered.Sought.{Sought}
+use Rattle.mc_guests.specs.declared.metered.Sought.TheVariants.{Hoarder, Reader}
 
 -- whether a guest holds more than its own bytes, and its link is slow for as much as it holds
 abbrev pub is_hoarding : (ticks : ℕ) → RowGuest → Bool
@@ -56,7 +56,7 @@ undercuts rate (Some found) = nat_lt rate found.1
 
 -- what is done with a guest whose link has this number: the link is closed if it was asked again in the last 2 s, and
 -- else is asked again
-abbrev pub verdict : (ticks number : ℕ) → RowGuest → Judged
+abbrev pub verdict : (ticks number : ℕ) → RowGuest → Verdict
 verdict ticks number guest = if was_asked ticks guest.pace then Ends number else Asks number
 
 -- a guest after that: its pace begins anew, or it was asked again
@@ -66,7 +66,7 @@ judged ticks guest = record guest {
 }
 
 -- the guest at a place was judged, by the number of its link; no other guest changes
-pub record JudgesAt (ticks at : ℕ) (result : Judged) (old new : RowState) : Type 0 where
+pub record JudgesAt (ticks at : ℕ) (result : Verdict) (old new : RowState) : Type 0 where
   pub guest : RowGuest
   pub stands : StandsAt at old guest
   pub number : ℕ
@@ -75,14 +75,14 @@ pub record JudgesAt (ticks at : ℕ) (result : Judged) (old new : RowState) : Ty
   pub row : new ≡ with_guest (judged ticks) at old
 
 -- the slowest guest was judged
-pub record JudgesSlowest (ticks : ℕ) (result : Judged) (old new : RowState) : Type 0 where
+pub record JudgesSlowest (ticks : ℕ) (result : Verdict) (old new : RowState) : Type 0 where
   pub at : ℕ
   pub lowest : ℕ
   pub slowest : IsSlowest (slowness ticks) (length old.guests) at lowest old.guests
   pub judges : JudgesAt ticks at result old new
 
 -- the slowest guest was judged, or none may be and nothing changes
-abbrev pub Judges : (ticks : ℕ) → Option Judged → (old new : RowState) → Type 0
+abbrev pub Judges : (ticks : ℕ) → Option Verdict → (old new : RowState) → Type 0
 Judges ticks None old new = NoneIsSought (slowness ticks) (length old.guests) old.guests × (new ≡ old)
 Judges ticks (Some result) old new = JudgesSlowest ticks result old new
 

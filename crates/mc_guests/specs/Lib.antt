@@ -1,5 +1,5 @@
 pub mod Links
-pub mod Paces
+pub mod LinkRates
 pub mod Guests
 pub mod Visits
 pub mod Budgets
@@ -11,5 +11,5 @@ pub mod Telling
 pub mod Outcomes
 pub mod Asks
 pub mod Turns
-pub mod Doors
+pub mod Admissions
 pub mod Arrivals

@@ -2,11 +2,11 @@
 use Rattle.std.specs.Prelude.{◌≡◌, ◌⊎◌, ◌<◌, ◌+◌, ◌-◌, ◌&&◌, not, nat_le, min, ℕ, zero, suc, Bool, false, [], ◌∷◌, ◌++◌, length, take, drop, slice_get, Option, Some, None, if◌then◌else◌, IsTrue, IsFalse}
 use Rattle.mc_guests.specs.Budgets.{promised_more, has_left, is_retry_due, retried}
 use Rattle.mc_guests.specs.Guests.{RowGuest, is_queued, is_stray, missing, in_line}
-use Rattle.mc_guests.specs.Paces.{age}
+use Rattle.mc_guests.specs.LinkRates.{age}
 use Rattle.mc_guests.specs.Books.{RowState, BooksState, HasNumber, StandsAt, with_guest, woken}
 use Rattle.mc_time.specs.Chains.{Repeats}
-use Rattle.mc_guests.specs.declared.weighed.Line.{Line}
-use Rattle.mc_guests.specs.declared.weighed.Line.TheVariants.{Next}
+use Rattle.mc_guests.specs.declared.metered.WaitState.{WaitState}
+use Rattle.mc_guests.specs.declared.metered.WaitState.TheVariants.{Next}
 
 -- how many that wait are looked at, at most
 abbrev pub looks : ℕ
@@ -30,7 +30,7 @@ abbrev pub waits_long : (ticks : ℕ) → RowGuest → Bool
 waits_long ticks guest = is_queued guest && nat_le 8 (age ticks guest.pace)
 
 -- the guest at a place stands there in the queue
-abbrev pub lined : (at : ℕ) → Line → BooksState → BooksState
+abbrev pub lined : (at : ℕ) → WaitState → BooksState → BooksState
 lined at line books = record books { row = with_guest (in_line line) at books.row }
 
 -- the guest at a place wakes if it sleeps

@@ -14,8 +14,8 @@ ghost use Rattle.mc_guests.specs.Asks.{StaysOrLosesLink};
 ghost use Rattle.mc_guests.specs.Outcomes.{too_large};
 
 use crate::budget::LITTLE;
+use crate::link_source::{LinkSource, SourceAnswer};
 use crate::measure::Naming;
-use crate::tap::{Tap, Tapped};
 use mc_bytes::{FIRST_PIECE, Spares};
 use mc_links::{Link, LinkFault, Took};
 use mc_protocol::Steps;
@@ -372,11 +372,11 @@ impl<L: Link + Drop> Guest<L> {
     {
         let filled = self.filled_bytes();
         let room = self.room_behind(filled);
-        let mut tap = Tap {
+        let mut tap = LinkSource {
             link: &mut self.link,
         };
         match self.session.feed_from(&mut tap, room) {
-            Ok(Tapped::Bytes(count)) => {
+            Ok(SourceAnswer::Bytes(count)) => {
                 if count == 0 {
                     return Visit::Later;
                 }
@@ -385,16 +385,16 @@ impl<L: Link + Drop> Guest<L> {
                 self.widen(count, room);
                 Visit::Read
             }
-            Ok(Tapped::Later) => Visit::Later,
-            Ok(Tapped::End) => {
+            Ok(SourceAnswer::Later) => Visit::Later,
+            Ok(SourceAnswer::End) => {
                 self.session.close();
                 Visit::Served
             }
-            Ok(Tapped::Broken) => {
+            Ok(SourceAnswer::Broken) => {
                 self.session.close();
                 Visit::Broken
             }
-            Ok(Tapped::NoRoom) => {
+            Ok(SourceAnswer::NoRoom) => {
                 self.session.close();
                 Visit::Refused
             }

@@ -20,9 +20,9 @@ ghost use Rattle.mc_guests.specs.Turns.{VisitsAll, VisitsAwake};
 
 use crate::budget::Budget;
 use crate::guest::{Guest, Visit};
+use crate::metered::{Verdict, WaitState};
 use crate::reports::Reports;
 use crate::row::GuestRow;
-use crate::weighed::{Judged, Line};
 use mc_bytes::Spares;
 use mc_links::{Link, Tally};
 use mc_protocol::Steps;
@@ -85,7 +85,7 @@ const LOOKS: usize = 256;
 
 /// What an awake guest does next.
 #[derive(Clone, Copy)]
-enum Fate {
+enum NextState {
     GoesOn,
     /// It waits for room from now on.
     Waits,
@@ -357,12 +357,12 @@ impl<L: Link + Drop> Guests<L> {
         requires { at < length self.old.row.guests }
         ensures { self.new ≡ tried_again at self.old }
     {
-        self.set_line(at, Line::Next);
+        self.set_line(at, WaitState::Next);
         self.wake_at(at);
     }
 
     /// Notes a guest's place in the queue of waiting guests.
-    fn set_line(&mut self, at: usize, line: Line)
+    fn set_line(&mut self, at: usize, line: WaitState)
         requires { at < length self.old.row.guests }
         ensures { self.new ≡ lined at line self.old }
     {
@@ -490,7 +490,7 @@ impl<L: Link + Drop> Guests<L> {
     /// Judges the slowest of the guests that hold more than 72 KiB, if it is slow: it moved nothing
     /// for 5 s, or for at least 5 s so little that what it holds takes more than 10 s. All guests are
     /// looked at.
-    pub fn judge_slowest(&mut self) -> Option<Judged>
+    pub fn judge_slowest(&mut self) -> Option<Verdict>
         ensures judges { Judges self.old.budget.ticks result self.old.row self.new.row }
         ensures rest { self.new ≡ record self.old { row = self.new.row } }
     {
@@ -515,15 +515,15 @@ impl<L: Link + Drop> Guests<L> {
         ensures { Settles at self.old self.new end.old end.new }
     {
         match self.fate_at(at, end) {
-            Fate::GoesOn => {}
-            Fate::Waits => self.line_up(at),
-            Fate::Sleeps => self.put_behind(at),
-            Fate::Ended => self.let_go(at),
+            NextState::GoesOn => {}
+            NextState::Waits => self.line_up(at),
+            NextState::Sleeps => self.put_behind(at),
+            NextState::Ended => self.let_go(at),
         }
     }
 
     /// Returns what an awake guest does next. An end is counted.
-    fn fate_at(&self, at: usize, end: &mut WorkEnd) -> Fate
+    fn fate_at(&self, at: usize, end: &mut WorkEnd) -> NextState
         requires { at < self.now.awake }
         ensures { IsFateOf at self.now.row result end.old end.new }
     {
@@ -543,7 +543,7 @@ impl<L: Link + Drop> Guests<L> {
     {
         let number = self.row.number_of(at);
         if self.queue.push_back(number).is_ok() {
-            self.set_line(at, Line::Queued);
+            self.set_line(at, WaitState::Queued);
         } else {
             self.has_strays = true;
         }
@@ -607,26 +607,26 @@ fn is_kept_for(is_last: bool, is_long: bool) -> bool
 }
 
 /// Returns what a guest does next after its last answer. An end is counted.
-fn fate_of(last: Option<Visit>, end: &mut WorkEnd) -> Fate
+fn fate_of(last: Option<Visit>, end: &mut WorkEnd) -> NextState
     ensures over { is_over result ≡ has_ended last }
     ensures asleep { is_asleep result ≡ is_later last }
     ensures queue { is_to_queue result ≡ false }
     ensures counts { end.new ≡ counted last end.old }
 {
     match last {
-        None | Some(Visit::Wrote | Visit::Turned | Visit::Read) => Fate::GoesOn,
-        Some(Visit::Later) => Fate::Sleeps,
+        None | Some(Visit::Wrote | Visit::Turned | Visit::Read) => NextState::GoesOn,
+        Some(Visit::Later) => NextState::Sleeps,
         Some(Visit::Served) => {
             end.served = end.served.saturating_add(1);
-            Fate::Ended
+            NextState::Ended
         }
         Some(Visit::Broken) => {
             end.broken = end.broken.saturating_add(1);
-            Fate::Ended
+            NextState::Ended
         }
         Some(Visit::Refused) => {
             end.refused = end.refused.saturating_add(1);
-            Fate::Ended
+            NextState::Ended
         }
     }
 }
@@ -634,14 +634,14 @@ fn fate_of(last: Option<Visit>, end: &mut WorkEnd) -> Fate
 /// Returns what a guest that waits for room does next.
 ///
 /// It is put into the queue if it isn't there, and sleeps. It goes if it has ended.
-fn fate_in_line(line: Line, fate: Fate) -> Fate
+fn fate_in_line(line: WaitState, fate: NextState) -> NextState
     ensures over { is_over result ≡ is_over fate }
     ensures asleep { IsFalse (is_over fate) → IsTrue (is_asleep result) }
     ensures queue { IsFalse (is_over fate) → is_to_queue result ≡ is_left_out line }
 {
     match (fate, line) {
-        (Fate::Ended, _) => Fate::Ended,
-        (_, Line::Out) => Fate::Waits,
-        (_, Line::Queued | Line::Next) => Fate::Sleeps,
+        (NextState::Ended, _) => NextState::Ended,
+        (_, WaitState::Out) => NextState::Waits,
+        (_, WaitState::Queued | WaitState::Next) => NextState::Sleeps,
     }
 }

@@ -9,7 +9,7 @@
 //! Links are those of `mc_links`. A [`Guest`] is a session with its link. A visit writes output,
 //! else takes a turn, else reads; [`round`] visits each guest once. [`Guests`] are those of one
 //! thread: a guest that answered `Later` sleeps until its link is named, and a guest that wants
-//! much memory waits while others use up their [`Budget`]. Guests come through a [`Door`], which
+//! much memory waits while others use up their [`Budget`]. Guests come through a [`Admission`], which
 //! gets links between two rounds. A [`Tally`] gets each step, each request that is too large, and
 //! what the guests hold; a store that [`Reports`] passes them on, and measures blocks without a
 //! report.
@@ -23,33 +23,33 @@
 //! Tests: mc_guests_tests, src/tests/visit_tests.rt.
 #![tactic(auto)]
 
+mod admission;
 mod budget;
-mod door;
 mod guest;
 mod guests;
 mod laws;
+mod link_calls;
+mod link_rate;
+mod link_source;
 mod measure;
+mod metered;
 mod numbers;
-mod pace;
 mod reports;
 mod rounds;
 mod row;
 mod seat;
-mod talk;
-mod tap;
-mod weighed;
 
+pub use admission::Admission;
 pub use budget::Budget;
-pub use door::Door;
 pub use guest::{Guest, Visit};
 pub use guests::{Guests, WorkEnd};
 pub use laws::{
     links_are_answered_what_they_gave, links_take_texts_of_turns, retries_are_fair,
     rounds_are_visits,
 };
+pub use link_calls::{LinkCalls, NextAnswer};
 pub use mc_links::{Gathering, Got, Link, LinkFault, Links, Next, NoTally, Outcome, Tally, Took};
 pub use measure::length_at;
+pub use metered::Verdict;
 pub use reports::Reports;
 pub use rounds::round;
-pub use talk::{Came, Talk};
-pub use weighed::Judged;

@@ -15,11 +15,11 @@ ghost use Rattle.mc_guests.specs.Judging.{sought_rate, undercuts};
 
 use crate::budget::Budget;
 use crate::guest::Guest;
+use crate::metered::{Metered, Sought, Verdict, WaitState};
 use crate::numbers::NumberList;
 use crate::reports::Reports;
 use crate::rounds::round_within;
 use crate::seat::GuestSeat;
-use crate::weighed::{Judged, Line, Sought, Weighed};
 use mc_links::Link;
 use mc_protocol::Steps;
 use mc_time::Moment;
@@ -105,7 +105,7 @@ impl<L: Link + Drop> GuestRow<L> {
     }
 
     /// Lends the guest at a place.
-    pub fn at(&self, at: usize) -> &Weighed<L>
+    pub fn at(&self, at: usize) -> &Metered<L>
         requires { at < length self.now.guests }
         ensures { StandsAt at self.now result.now }
     {
@@ -113,7 +113,7 @@ impl<L: Link + Drop> GuestRow<L> {
     }
 
     /// Notes a guest's place in the queue of waiting guests.
-    pub fn set_line(&mut self, at: usize, line: Line)
+    pub fn set_line(&mut self, at: usize, line: WaitState)
         requires { at < length self.old.guests }
         ensures { self.new ≡ with_guest (in_line line) at self.old }
     {
@@ -198,7 +198,7 @@ impl<L: Link + Drop> GuestRow<L> {
     }
 
     /// Judges the slowest guest that holds much, if one is slow. Of equal ones it is the first.
-    pub fn judge_slowest(&mut self, ticks: u64) -> Option<Judged>
+    pub fn judge_slowest(&mut self, ticks: u64) -> Option<Verdict>
         ensures { Judges ticks result self.old self.new }
     {
         match self.slowest(Sought::Hoarder, ticks) {
@@ -208,7 +208,7 @@ impl<L: Link + Drop> GuestRow<L> {
     }
 
     /// Judges the slow guest at a place.
-    fn judge_at(&mut self, at: usize, ticks: u64) -> Judged
+    fn judge_at(&mut self, at: usize, ticks: u64) -> Verdict
         requires { at < length self.old.guests }
         ensures { JudgesAt ticks at result self.old self.new }
     {

@@ -5,7 +5,7 @@ ghost use Rattle.std.specs.Prelude.{◌≡◌, IfSome};
 ghost use Rattle.mc_guests.specs.Guests.{newcomer};
 
 use crate::guest::Guest;
-use crate::weighed::Weighed;
+use crate::metered::Metered;
 use mc_links::Link;
 use std::alloc::{AllocFailed, Global};
 use std::marker::Model;
@@ -13,7 +13,7 @@ use std::marker::Model;
 /// A guest on the heap. Contracts see the guest.
 #[derive(Drop)]
 pub struct GuestSeat<L: Link + Drop> {
-    pub(crate) inner: Box<Weighed<L>>,
+    pub(crate) inner: Box<Metered<L>>,
 }
 
 impl<L: Link + Drop> Model for GuestSeat<L> {
@@ -30,7 +30,7 @@ impl<L: Link + Drop> GuestSeat<L> {
     pub fn new(alloc: Global, guest: Guest<L>) -> Option<GuestSeat<L>>
         ensures { IfSome result (λ seat. seat ≡ newcomer guest) }
     {
-        match Box::new(alloc, Weighed::new(guest)) {
+        match Box::new(alloc, Metered::new(guest)) {
             Ok(inner) => Some(GuestSeat { inner }),
             Err(AllocFailed { mut value }) => {
                 value.refuse();

@@ -16,7 +16,7 @@ use Rattle.mc_guests.specs.Retries.{TakesTurn, goes_on as turn_goes, is_gone as 
 use Rattle.mc_guests.specs.Retries.{LooksAtFirst, goes_on, is_gone, nobody_waits, finds_none, GoInTurn, GoBeside, LetsOnAll, LetsOn}
 use Rattle.mc_guests.specs.declared.budget.Budget.{Budget}
 use Rattle.mc_guests.specs.declared.guests.WorkEnd.{WorkEnd}
-use Rattle.mc_guests.specs.declared.weighed.Line.TheVariants.{Queued, Next}
+use Rattle.mc_guests.specs.declared.metered.WaitState.TheVariants.{Queued, Next}
 use Rattle.mc_guests.proofs.JudgeLemmas.{length_changed}
 use Rattle.mc_guests.proofs.LeftLemmas.{same_long}
 use Rattle.mc_workers.specs.Room.{EndsOne, JudgesOne, MakesRoom}

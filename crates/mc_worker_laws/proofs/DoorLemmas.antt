@@ -6,10 +6,10 @@ use Rattle.mc_shared.specs.Asking.{AskingState}
 use Rattle.mc_guests.specs.Links.{LinkState}
 use Rattle.mc_guests.specs.Guests.{GuestState, welcomed, newcomer}
 use Rattle.mc_guests.specs.Books.{BooksState, let_in as let_in_books, one_more as one_more_of}
-use Rattle.mc_guests.specs.Doors.{Opens, link as of_link, none_now, none_more, over, LinkCame, OpensForAll, as_many, then_none}
-use Rattle.mc_guests.specs.Doors.{WakesOneNamed, WakesAllNamed, WakesAfter, ComesNothing}
-use Rattle.mc_guests.specs.declared.door.Door.{Door}
-use Rattle.mc_guests.specs.declared.talk.Talk.{Talk}
+use Rattle.mc_guests.specs.Admissions.{Opens, link as of_link, none_now, none_more, over, LinkCame, OpensForAll, as_many, then_none}
+use Rattle.mc_guests.specs.Admissions.{WakesOneNamed, WakesAllNamed, WakesAfter, ComesNothing}
+use Rattle.mc_guests.specs.declared.admission.Admission.{Admission}
+use Rattle.mc_guests.specs.declared.link_calls.LinkCalls.{LinkCalls}
 use Rattle.mc_guests.specs.declared.guests.WorkEnd.{WorkEnd}
 use Rattle.mc_guests.specs.Arrivals.{Arrival, is_first, admitted, turned_away, came_in, all_came_in, came_between}
 use Rattle.mc_worker_laws.specs.Traces.{AreCounted}
@@ -17,19 +17,19 @@ use Rattle.mc_worker_laws.proofs.CountLemmas.{counts_refused}
 use Rattle.mc_worker_laws.proofs.CarryLemmas.{Sound, Carries, carries_then, carries_none, carries_to, wakes_carry, Leaves, counts_none, let_in_sound, let_in_moves}
 use Rattle.mc_worker_laws.proofs.TracedLemmas.{Traced, traced_moved, traced_more}
 
-named_carry : (count : ℕ) (old new : Talk × BooksState) → Repeats WakesOneNamed count old new → Carries [] old.1 new.1
+named_carry : (count : ℕ) (old new : LinkCalls × BooksState) → Repeats WakesOneNamed count old new → Carries [] old.1 new.1
 named_carry total old new none_yet = carries_none old.1
 named_carry total old new (one_more {count = count} {mid = mid} front last) =
     carries_then old.1 mid.1 new.1 (named_carry count old mid front) (wakes_carry last.number mid.1 new.1 last.wakes)
 
-all_named_carry : (talk : Talk) (old : BooksState) (later : Talk) (new : BooksState) → WakesAllNamed talk old later new → Carries [] old new
+all_named_carry : (talk : LinkCalls) (old : BooksState) (later : LinkCalls) (new : BooksState) → WakesAllNamed talk old later new → Carries [] old new
 all_named_carry talk old later new w = named_carry w.wakes.0 (talk, old) (w.last, new) w.wakes.1
 
-nothing_carries : (is_quiet : Bool) (talk : Talk) (old : BooksState) (later : Talk) (new : BooksState) → ComesNothing is_quiet talk old later new → Carries [] old new
+nothing_carries : (is_quiet : Bool) (talk : LinkCalls) (old : BooksState) (later : LinkCalls) (new : BooksState) → ComesNothing is_quiet talk old later new → Carries [] old new
 nothing_carries is_quiet talk old later new none =
     carries_then old none.between new (all_named_carry talk old none.last none.between none.wakes) (after _ none.between (is_quiet && none.last.names == 0) none.rests)
   where
-    after : (mid : Talk) (between : BooksState) (b : Bool) → WakesAfter b mid between later new → Carries [] between new
+    after : (mid : LinkCalls) (between : BooksState) (b : Bool) → WakesAfter b mid between later new → Carries [] between new
     after mid between true w = all_named_carry mid between later new w
     after mid between false w = carries_to (carries_none between) w.1
 
@@ -79,15 +79,15 @@ module _ {K : Type 0} (hash_of : K → List ℕ → ℕ) (may_give : ℕ → Typ
 
   module _ (a : AskingState K) where
     -- what came of a link
-    abbrev Came : (greatest number : ℕ) (link : LinkState) (old new : BooksState) (before after : WorkEnd) → Type 0
-    Came greatest number link old new before after =
+    abbrev NextAnswer : (greatest number : ℕ) (link : LinkState) (old new : BooksState) (before after : WorkEnd) → Type 0
+    NextAnswer greatest number link old new before after =
         ((new ≡ let_in_books (welcomed greatest link) number old) × (after ≡ before)) ⊎ ((new ≡ old) × (after ≡ record before { refused = one_more_of before.refused }))
 
     abbrev one_came : {A B : Type 0} → (greatest : ℕ) (link : LinkState) → A ⊎ B → List Arrival
     one_came greatest link e = record { most = greatest; state = link; is_admitted = is_first e } ∷ []
 
     comes_in : (came : List Arrival) (greatest number : ℕ) (link : LinkState) (old new : BooksState) (before after : WorkEnd)
-        → (e : Came greatest number link old new before after) → BooksTraced came old a before → BooksTraced (came ++ one_came greatest link e) new a after
+        → (e : NextAnswer greatest number link old new before after) → BooksTraced came old a before → BooksTraced (came ++ one_came greatest link e) new a after
     comes_in came greatest number link old new before after (inl is) t =
         let arrival : Arrival = record { most = greatest; state = link; is_admitted = true } in
         subst (λ (b : BooksState). BooksTraced (came ++ arrival ∷ []) b a after) (sym is.0) (
@@ -116,7 +116,7 @@ module _ {K : Type 0} (hash_of : K → List ℕ → ℕ) (may_give : ℕ → Typ
               (counts_refused t.gone (length (turned_away came)) before t.counted);
         }))
 
-    pub opens_traced : {is_quiet goes_on : Bool} {door later : Door} {old new : BooksState} {before after : WorkEnd} (came : List Arrival)
+    pub opens_traced : {is_quiet goes_on : Bool} {door later : Admission} {old new : BooksState} {before after : WorkEnd} (came : List Arrival)
         → (opens : Opens is_quiet door later old new before after goes_on) → BooksTraced came old a before → BooksTraced (came ++ came_in opens) new a after
     opens_traced came (of_link {door = door} {talk = talk} {old = old} {between = between} {new = new} {before = before} {after = after} lets wakes) t =
         traced_carried _ between new a after (all_named_carry _ between talk new wakes) (comes_in came door.greatest door.opened lets.link old between before after lets.either t)
@@ -126,14 +126,14 @@ module _ {K : Type 0} (hash_of : K → List ℕ → ℕ) (may_give : ℕ → Typ
         none_came came new a end (traced_carried came old new a end (nothing_carries is_quiet _ old talk new nothing) t)
     opens_traced {old = old} {after = end} came (over none) t = none_came came old a end t
 
-    pub came_traced : (count : ℕ) (old new : Door × BooksState × WorkEnd) (came : List Arrival) → (opens : Repeats LinkCame count old new)
+    pub came_traced : (count : ℕ) (old new : Admission × BooksState × WorkEnd) (came : List Arrival) → (opens : Repeats LinkCame count old new)
         → BooksTraced came old.1 a old.2 → BooksTraced (came ++ all_came_in opens) new.1 a new.2
     came_traced total old new came none_yet t = none_came came old.1 a old.2 t
     came_traced total old new came (one_more {count = count} {mid = mid} front last) t =
         subst (λ (l : List Arrival). BooksTraced l new.1 a new.2) (append_assoc came (all_came_in front) (came_in last.opens))
         (opens_traced (came ++ all_came_in front) last.opens (came_traced count old mid came front t))
 
-    pub all_traced : {goes_on : Bool} {door later : Door} {old new : BooksState} {before after : WorkEnd} (came : List Arrival)
+    pub all_traced : {goes_on : Bool} {door later : Admission} {old new : BooksState} {before after : WorkEnd} (came : List Arrival)
         → (opens : OpensForAll door later old new before after goes_on) → BooksTraced came old a before → BooksTraced (came ++ came_between opens) new a after
     all_traced {door = door} {later = later} {old = old} {new = new} {before = before} {after = after} came (as_many opens) t =
         came_traced 32 (door, old, before) (later, new, after) came opens t
@@ -141,7 +141,7 @@ module _ {K : Type 0} (hash_of : K → List ℕ → ℕ) (may_give : ℕ → Typ
         subst (λ (l : List Arrival). BooksTraced l new a after) (append_assoc came (all_came_in opens) (came_in last_opens))
         (opens_traced (came ++ all_came_in opens) last_opens (came_traced count (door, old, before) (last, between, mid) came opens t))
 
-opens_over : {is_quiet goes_on : Bool} {door later : Door} {old new : BooksState} {before after : WorkEnd}
+opens_over : {is_quiet goes_on : Bool} {door later : Admission} {old new : BooksState} {before after : WorkEnd}
     → Opens is_quiet door later old new before after goes_on → goes_on ≡ false → length new.row.guests ≡ 0
 opens_over (of_link lets wakes) is = absurd (cc)
 opens_over (none_now nothing) is = absurd (cc)
@@ -149,7 +149,7 @@ opens_over (none_more some nothing) is = absurd (cc)
 opens_over (over none) is = none
 
 -- where nothing can come any more no guest stands
-pub all_over : {goes_on : Bool} {door later : Door} {old new : BooksState} {before after : WorkEnd}
+pub all_over : {goes_on : Bool} {door later : Admission} {old new : BooksState} {before after : WorkEnd}
     → OpensForAll door later old new before after goes_on → goes_on ≡ false → length new.row.guests ≡ 0
 all_over (as_many came) is = absurd (cc)
 all_over (then_none few came opens none) is = opens_over opens is

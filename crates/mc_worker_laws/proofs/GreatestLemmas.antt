@@ -5,8 +5,8 @@ use Rattle.std.proofs.lemmas.Option.{none-some, same_Some}
 use Rattle.mc_time.specs.Chains.{Repeats, none_yet, one_more}
 use Rattle.mc_guests.specs.Links.{LinkState}
 use Rattle.mc_guests.specs.Books.{BooksState}
-use Rattle.mc_guests.specs.Doors.{Opens, link as of_link, none_now, none_more, over, LinkCame, OpensForAll, as_many, then_none}
-use Rattle.mc_guests.specs.declared.door.Door.{Door}
+use Rattle.mc_guests.specs.Admissions.{Opens, link as of_link, none_now, none_more, over, LinkCame, OpensForAll, as_many, then_none}
+use Rattle.mc_guests.specs.declared.admission.Admission.{Admission}
 use Rattle.mc_guests.specs.declared.guests.WorkEnd.{WorkEnd}
 use Rattle.mc_workers.specs.Rounds.{WorkState, WorksOn}
 use Rattle.mc_guests.specs.Arrivals.{Arrival, is_first, admitted, came_in, all_came_in, came_between}
@@ -41,25 +41,25 @@ admitted_may most (a ∷ came) may at p is =
     admitted_one most a came a.is_admitted (may 0 a refl) (admitted_may most came (λ k c there. may (suc k) c there)) at p is
 
 -- the door keeps it, and so may each link that came
-abbrev pub KeepsMost : Door → Door → List Arrival → Type 0
+abbrev pub KeepsMost : Admission → Admission → List Arrival → Type 0
 KeepsMost old new came = (new.greatest ≡ old.greatest) × AllMay old.greatest came
 
-opens_most : {is_quiet goes_on : Bool} {door later : Door} {old new : BooksState} {before after : WorkEnd}
+opens_most : {is_quiet goes_on : Bool} {door later : Admission} {old new : BooksState} {before after : WorkEnd}
     → (opens : Opens is_quiet door later old new before after goes_on) → KeepsMost door later (came_in opens)
 opens_most (of_link {door = door} lets wakes) = (refl, one_came (record { most = door.greatest; state = lets.link; is_admitted = is_first lets.either }))
 opens_most {door = door} (none_now nothing) = (refl, none_came door.greatest)
 opens_most {door = door} (none_more some nothing) = (refl, none_came door.greatest)
 opens_most {door = door} (over none) = (refl, none_came door.greatest)
 
-both_most : (a b c : Door) (xs ys : List Arrival) → KeepsMost a b xs → KeepsMost b c ys → KeepsMost a c (xs ++ ys)
+both_most : (a b c : Admission) (xs ys : List Arrival) → KeepsMost a b xs → KeepsMost b c ys → KeepsMost a c (xs ++ ys)
 both_most a b c xs ys f g = (g.0 ∙ f.0, all_both a.greatest xs ys f.1 (subst (λ (n : ℕ). AllMay n ys) f.0 g.1))
 
-came_most : (count : ℕ) (old new : Door × BooksState × WorkEnd) → (came : Repeats LinkCame count old new) → KeepsMost old.0 new.0 (all_came_in came)
+came_most : (count : ℕ) (old new : Admission × BooksState × WorkEnd) → (came : Repeats LinkCame count old new) → KeepsMost old.0 new.0 (all_came_in came)
 came_most total old new none_yet = (refl, none_came old.0.greatest)
 came_most total old new (one_more {count = count} {mid = mid} front last) =
     both_most old.0 mid.0 new.0 (all_came_in front) (came_in last.opens) (came_most count old mid front) (opens_most last.opens)
 
-pub all_most : {goes_on : Bool} {door later : Door} {old new : BooksState} {before after : WorkEnd}
+pub all_most : {goes_on : Bool} {door later : Admission} {old new : BooksState} {before after : WorkEnd}
     → (opens : OpensForAll door later old new before after goes_on) → KeepsMost door later (came_between opens)
 all_most {door = door} {later = later} {old = old} {new = new} {before = before} {after = after} (as_many came) = came_most 32 (door, old, before) (later, new, after) came
 all_most {door = door} {later = later} {old = old} {before = before} (then_none {count = count} {last = last} {between = between} {mid = mid} few came opens none) =

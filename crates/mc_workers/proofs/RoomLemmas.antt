@@ -4,11 +4,11 @@ use Rattle.mc_guests.specs.Books.{RowState, BooksState, SetsTicks, took_ending, 
 use Rattle.mc_guests.specs.Budgets.{is_over, to_end, to_judge}
 use Rattle.mc_guests.specs.Judging.{EndsSlowest, Judges, NoneIsSought, slowness}
 use Rattle.mc_time.specs.Chains.{one_more}
-use Rattle.mc_guests.specs.declared.weighed.Judged.{Judged}
+use Rattle.mc_guests.specs.declared.metered.Verdict.{Verdict}
 use Rattle.mc_workers.specs.Room.{EndsReaders, EndsUpTo, JudgesSlow, JudgesUpTo, MakesRoom}
 
 -- one more was judged
-pub judged_more : (count : ℕ) (verdict : Judged) (old mid new : BooksState) → JudgesSlow count old mid → Judges mid.budget.ticks (Some verdict) mid.row new.row
+pub judged_more : (count : ℕ) (verdict : Verdict) (old mid new : BooksState) → JudgesSlow count old mid → Judges mid.budget.ticks (Some verdict) mid.row new.row
     → new ≡ record mid { row = new.row } → JudgesSlow (count + 1) old new
 judged_more count verdict old mid new front judges is = one_more front (record { result = verdict; judges = judges; same = is })
 

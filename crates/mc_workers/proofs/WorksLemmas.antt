@@ -7,7 +7,7 @@ use Rattle.mc_shared.specs.Asking.{AskingState}
 use Rattle.mc_guests.specs.Books.{BooksState, no_books}
 use Rattle.mc_guests.specs.Budgets.{unused}
 use Rattle.mc_guests.specs.Links.{LinkState}
-use Rattle.mc_guests.specs.Doors.{OpensForAll, shut}
+use Rattle.mc_guests.specs.Admissions.{OpensForAll, shut}
 use Rattle.mc_guests.specs.Arrivals.{came_between, ComeFirst, Brings}
 use Rattle.mc_guests.proofs.ArrivalLemmas.{first_none, first_then, first_still}
 use Rattle.mc_workers.specs.Room.{MakesRoom}
@@ -16,11 +16,11 @@ use Rattle.mc_workers.specs.Came.{came_since, all_came}
 use Rattle.mc_workers.specs.Rounds.{MakesRounds}
 use Rattle.mc_workers.specs.Rounds.{WorkState, WorksOnce, WorksSince, WorksToEnd}
 use Rattle.mc_time.specs.Chains.{none_yet, one_more}
-use Rattle.mc_guests.specs.declared.door.Door.{Door}
+use Rattle.mc_guests.specs.declared.admission.Admission.{Admission}
 use Rattle.mc_guests.specs.declared.guests.WorkEnd.{WorkEnd}
 
 -- which links are to come is what it was before other calls
-pub opens_from : {door later : Door} {old new : BooksState} {before after : WorkEnd} {goes_on : Bool} {coming amid left : Option (List LinkState)} → amid ≡ coming
+pub opens_from : {door later : Admission} {old new : BooksState} {before after : WorkEnd} {goes_on : Bool} {coming amid left : Option (List LinkState)} → amid ≡ coming
     → (opens : OpensForAll door later old new before after goes_on) × Brings (came_between opens) goes_on amid left
     → (opens : OpensForAll door later old new before after goes_on) × Brings (came_between opens) goes_on coming left
 opens_from {goes_on = goes_on} {left = left} same opens = (opens.0, subst (λ (o : Option (List LinkState)). Brings (came_between opens.0) goes_on o left) same opens.1)
@@ -48,7 +48,7 @@ module _ {K : Type 0} {hash_of : K → List ℕ → ℕ} {may_give : ℕ → Typ
       )
 
 module _ {K : Type 0} {hash_of : K → List ℕ → ℕ} {may_give : ℕ → Type 0} {first share : ℕ} {began : StoreState K} {caller : CallerState} where
-  pub works_from : (moment : ℕ) (asking : AskingState K) (books : BooksState) (door : Door) (coming left : Option (List LinkState)) → may_give moment
+  pub works_from : (moment : ℕ) (asking : AskingState K) (books : BooksState) (door : Admission) (coming left : Option (List LinkState)) → may_give moment
       → asking ≡ asked_by began caller → (most : ℕ) → books ≡ no_books (unused share most) → most ≡ began.settings.greatest
       → (greatest : ℕ) → door ≡ shut greatest → greatest ≡ began.settings.greatest → left ≡ coming
       → WorksSinceTo hash_of may_give first share began caller (record { asking = asking; books = books; door = door; end = record { served = 0; broken = 0; refused = 0 }; turn = first; moment = moment }) coming left
@@ -57,7 +57,7 @@ module _ {K : Type 0} {hash_of : K → List ℕ → ℕ} {may_give : ℕ → Typ
       ap (λ (a : AskingState K). record { asking = a; books = books; door = door; end = record { served = 0; broken = 0; refused = 0 }; turn = first; moment = moment }) asks
       ∙ ap (λ (b : BooksState). record { asking = asked_by began caller; books = b; door = door; end = record { served = 0; broken = 0; refused = 0 }; turn = first; moment = moment })
       (none ∙ ap (λ (n : ℕ). no_books (unused share n)) so)
-      ∙ ap (λ (d : Door). record {
+      ∙ ap (λ (d : Admission). record {
         asking = asked_by began caller;
         books = no_books (unused share began.settings.greatest);
         door = d;

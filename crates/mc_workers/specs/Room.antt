@@ -4,7 +4,7 @@ use Rattle.mc_guests.specs.Books.{BooksState, SetsTicks, took_ending, took_judgi
 use Rattle.mc_guests.specs.Budgets.{is_over, to_end, to_judge}
 use Rattle.mc_guests.specs.Judging.{EndsSlowest, JudgesSlowest, NoneIsSought, slowness}
 use Rattle.mc_time.specs.Chains.{Repeats}
-use Rattle.mc_guests.specs.declared.weighed.Judged.{Judged}
+use Rattle.mc_guests.specs.declared.metered.Verdict.{Verdict}
 
 -- more than the share of what has left the store was read, and its slowest reader was ended; nothing else of the guests
 -- changed
@@ -26,7 +26,7 @@ pub record EndsUpTo (most : ℕ) (old new : BooksState) : Type 0 where
 
 -- the slowest guest was judged, and nothing else of the guests changed
 pub record JudgesOne (old new : BooksState) : Type 0 where
-  pub result : Judged
+  pub result : Verdict
   pub judges : JudgesSlowest old.budget.ticks result old.row new.row
   pub same : new ≡ record old { row = new.row }
 

@@ -7,11 +7,11 @@ use Rattle.mc_shared.specs.Shown.{CallerState}
 use Rattle.mc_shared.specs.Asking.{AskingState, AsksStep, AsksInVain}
 use Rattle.mc_guests.specs.Books.{BooksState, SettlesFrom, no_books, quiet}
 use Rattle.mc_guests.specs.Budgets.{unused}
-use Rattle.mc_guests.specs.Doors.{OpensForAll, shut}
+use Rattle.mc_guests.specs.Admissions.{OpensForAll, shut}
 use Rattle.mc_guests.specs.Turns.{VisitsAll}
 use Rattle.mc_workers.specs.Room.{MakesRoom}
 use Rattle.mc_workers.specs.Tending.{TidiesInTurn, asked_by}
-use Rattle.mc_guests.specs.declared.door.Door.{Door}
+use Rattle.mc_guests.specs.declared.admission.Admission.{Admission}
 use Rattle.mc_guests.specs.declared.guests.WorkEnd.{WorkEnd}
 
 -- how a caller takes steps
@@ -23,7 +23,7 @@ as_caller hash_of = record { took = AsksStep hash_of; spent = AsksInVain hash_of
 pub record WorkState (K : Type 0) : Type 0 where
   pub asking : AskingState K
   pub books : BooksState
-  pub door : Door
+  pub door : Admission
   pub end : WorkEnd
   pub turn : ℕ
   pub moment : ℕ

@@ -15,7 +15,7 @@ ghost use Rattle.mc_workers.specs.Tending.{GoesFurther, Further, TidiesInTurn};
 
 use crate::counting::Counting;
 use crate::tending::Tending;
-use mc_guests::{Budget, Door, Guests, Judged, Link, Links, NoTally, Tally, WorkEnd};
+use mc_guests::{Admission, Budget, Guests, Link, Links, NoTally, Tally, Verdict, WorkEnd};
 use mc_hop::KeyHash;
 use mc_shared::{Caller, Gate, Shared};
 use mc_time::{Clock, Moment};
@@ -76,7 +76,7 @@ impl<'a, G: Gate, T: Tally, C: Clock> Worker<'a, G, T, C> {
     {
         let tending = Tending::new(rt, shared, caller, self.gate);
         let mut counting = Counting::new(tending, self.tally);
-        let mut door = Door::new(shared.greatest());
+        let mut door = Admission::new(shared.greatest());
         let mut guests = Guests::new(alloc, Budget::new(self.share, shared.greatest()));
         let mut end = WorkEnd {
             served: 0,
@@ -242,11 +242,11 @@ fn judge_slow<L: Link + Drop, Q: Links<L>>(guests: &mut Guests<L>, links: &mut Q
 }
 
 /// Asks the link of a slow guest again, or closes it, as it was judged.
-fn carry_out<L: Link + Drop, Q: Links<L>>(links: &mut Q, judged: Judged)
+fn carry_out<L: Link + Drop, Q: Links<L>>(links: &mut Q, judged: Verdict)
     ensures { Q.coming links.new ≡ Q.coming links.old }
 {
     match judged {
-        Judged::Asks(number) => links.ask_again(number),
-        Judged::Ends(number) => links.end(number),
+        Verdict::Asks(number) => links.ask_again(number),
+        Verdict::Ends(number) => links.end(number),
     }
 }

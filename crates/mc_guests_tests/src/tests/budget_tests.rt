@@ -117,7 +117,7 @@ enum Case<'a> {
     /// What guests hold is reported.
     Reports,
     /// A guest has an input and so many bytes of its line behind it, and what it holds is reported.
-    Line(&'a [u8], usize),
+    WaitState(&'a [u8], usize),
     /// A guest has this input.
     TooLarge(&'a [u8]),
 }
@@ -143,7 +143,7 @@ fn counted_in<'a>(
         Case::Idle(has_left) => waits_beside(alloc, hall, has_left, is_over, goes_on),
         Case::Lines(lines) => let_lines_in(alloc, hall, lines, goes_on),
         Case::Reports => right_reports(alloc, hall, is_over),
-        Case::Line(input, more) => held_of_line(alloc, hall, input, more, goes_on),
+        Case::WaitState(input, more) => held_of_line(alloc, hall, input, more, goes_on),
         Case::TooLarge(input) => too_large_in(alloc, hall, input, goes_on),
     }
 }
@@ -476,11 +476,21 @@ fn held_of_line<'a>(
 /// A line that doesn't end is held within a guest's own bytes: alone, behind a request, and up to
 /// the longest.
 static LINES: [Row; 5] = [
-    (1, 1_000_000, Case::Line(b"get a ", 40_000), (0, 0)),
-    (1, 1_000_000, Case::Line(b"get a ", 60_000), (0, 0)),
-    (1, 1_000_000, Case::Line(b"get a ", 65_530), (0, 0)),
-    (1, 1_000_000, Case::Line(b"get b\r\nget a ", 60_000), (0, 0)),
-    (1, 1_000_000, Case::Line(b"get b\r\nget a ", 65_530), (0, 0)),
+    (1, 1_000_000, Case::WaitState(b"get a ", 40_000), (0, 0)),
+    (1, 1_000_000, Case::WaitState(b"get a ", 60_000), (0, 0)),
+    (1, 1_000_000, Case::WaitState(b"get a ", 65_530), (0, 0)),
+    (
+        1,
+        1_000_000,
+        Case::WaitState(b"get b\r\nget a ", 60_000),
+        (0, 0),
+    ),
+    (
+        1,
+        1_000_000,
+        Case::WaitState(b"get b\r\nget a ", 65_530),
+        (0, 0),
+    ),
 ];
 
 #[test]

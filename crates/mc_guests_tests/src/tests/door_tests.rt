@@ -1,6 +1,6 @@
 //! How many links are admitted between two rounds.
 
-use mc_guests::{Budget, Door, Got, Guests, Link, LinkFault, Links, Next, Took, WorkEnd};
+use mc_guests::{Admission, Budget, Got, Guests, Link, LinkFault, Links, Next, Took, WorkEnd};
 use std::alloc::Global;
 use std::test::*;
 
@@ -92,7 +92,7 @@ fn course_of(alloc: Global, waiting: u64) -> Course {
 
 /// Opens a new door before each of two rounds, and returns how many links were admitted by then.
 fn opens_twice(alloc: Global, crowd: &mut Crowd, guests: &mut Guests<Silent>) -> (u64, u64) {
-    let mut door = Door::new(1048576);
+    let mut door = Admission::new(1048576);
     let mut end = WorkEnd {
         served: 0,
         broken: 0,
