@@ -3,8 +3,8 @@ use Rattle.std.specs.Prelude.{◌≡◌, ◌≤◌, ℕ, ◌*◌, ◌/◌, max, 
 use Rattle.std.specs.Arc.{arc_value}
 use Rattle.mc_metrics.specs.declared.reading.SettingsReading.{SettingsReading}
 use Rattle.mc_options.specs.declared.options.Options.{Options}
-use Rattle.mc_sockets.specs.Crowds.{most_of}
-use Rattle.mc_sockets.specs.declared.connection.Crowd.{Crowd}
+use Rattle.mc_sockets.specs.ConnectionLimits.{most_of}
+use Rattle.mc_sockets.specs.declared.connection.ConnectionLimit.{ConnectionLimit}
 use Rattle.mc_run.specs.declared.plan.Entrance.{Entrance}
 use Rattle.mc_run.specs.declared.plan.OwnTask.{OwnTask}
 use Rattle.mc_run.specs.declared.plan.OwnTask.TheVariants.{Accept, AnswerScrapes}
@@ -45,7 +45,7 @@ pub record ArePlansOf (options : Options) (plans : List WorkerPlan) : Type 0 whe
 
 -- one thread accepts at the first listener, and counts connections in this crowd: the program's own, or another while that
 -- one answers scrapes
-abbrev pub IsOneAcceptor : Crowd → OwnTask → Option Entrance → Type 0
+abbrev pub IsOneAcceptor : ConnectionLimit → OwnTask → Option Entrance → Type 0
 IsOneAcceptor crowd (Accept entrance) None = arc_value entrance.crowd ≡ crowd
 IsOneAcceptor crowd (AnswerScrapes server) (Some entrance) = arc_value entrance.crowd ≡ crowd
 IsOneAcceptor crowd _ _ = ⊥

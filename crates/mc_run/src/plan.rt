@@ -5,7 +5,7 @@
 
 ghost use Rattle.std.specs.Prelude.{◌≡◌, ◌+◌, length, IfOk, OnOk, All};
 ghost use Rattle.std.specs.Arc.{arc_value};
-ghost use Rattle.mc_sockets.specs.Crowds.{most_of};
+ghost use Rattle.mc_sockets.specs.ConnectionLimits.{most_of};
 ghost use Rattle.mc_run.specs.Plans.{IsPlanOf, IsWorkerOf, IsOneAcceptor, ArePlansOf};
 ghost use Rattle.mc_run.specs.Plans.{held_of, settings_of};
 
@@ -15,7 +15,7 @@ use mc_host::{
 };
 use mc_metrics::{Counters, SettingsReading};
 use mc_options::Options;
-use mc_sockets::{Arrivals, Crowd, EVENTS, Inbox, Log, Share, WAKER};
+use mc_sockets::{Arrivals, ConnectionLimit, EVENTS, Inbox, Log, Share, WAKER};
 use mc_telemetry::{MetricsServer, Notice, Observer, Outlet, process_start};
 use mc_time::Moment;
 use mio::{Events, Poll, Waker};
@@ -57,7 +57,7 @@ pub enum OwnTask {
 #[derive(Drop)]
 pub struct Entrance {
     pub listener: TcpListener,
-    pub crowd: Arc<Crowd>,
+    pub crowd: Arc<ConnectionLimit>,
 }
 
 /// What the threads beside the program's own are to own.
@@ -68,7 +68,7 @@ pub struct ThreadPlan<'a> {
     pub first: Option<Entrance>,
     /// One listener for each further thread that accepts.
     pub listeners: Vec<TcpListener>,
-    pub crowd: Arc<Crowd>,
+    pub crowd: Arc<ConnectionLimit>,
     pub notice: Notice<'a>,
     /// Where the logger writes.
     pub outlet: Outlet,
@@ -165,7 +165,7 @@ fn plan_with<'a, R: AllocGlobal + Files + Clock>(
 fn share_out(
     metrics: Option<MetricsServer>,
     listener: TcpListener,
-    crowd: &Arc<Crowd>,
+    crowd: &Arc<ConnectionLimit>,
 ) -> Result<(OwnTask, Option<Entrance>), AllocError>
     ensures { IfOk result (λ tasks. IsOneAcceptor (arc_value crowd.now) tasks.0 tasks.1) }
 {
@@ -194,7 +194,11 @@ fn make_common<R: AllocGlobal + Clock>(
 }
 
 /// Returns a counter of connections. The one error is a refused allocation.
-fn make_crowd(alloc: Global, notice: Notice<'_>, log: &Arc<Log>) -> Result<Arc<Crowd>, AllocError>
+fn make_crowd(
+    alloc: Global,
+    notice: Notice<'_>,
+    log: &Arc<Log>,
+) -> Result<Arc<ConnectionLimit>, AllocError>
     ensures { IfOk result (λ crowd.
         most_of (arc_value crowd) ≡ notice.entry.options.now.connections) }
 {
@@ -204,7 +208,7 @@ fn make_crowd(alloc: Global, notice: Notice<'_>, log: &Arc<Log>) -> Result<Arc<C
         ..
     } = notice;
     let log = log.clone().map_err(|_| AllocError)?;
-    Crowd::new(alloc, options.connections, descriptors, Some(log))
+    ConnectionLimit::new(alloc, options.connections, descriptors, Some(log))
 }
 
 /// Returns the metrics server, if there is a listener for scrapes. The one error is a refused
@@ -213,7 +217,7 @@ fn make_metrics<R: AllocGlobal + Files + Clock>(
     rt: &R,
     notice: Notice<'_>,
     door: Option<ScrapeListener>,
-    crowd: &Arc<Crowd>,
+    crowd: &Arc<ConnectionLimit>,
     counts: Vec<Arc<Counters>>,
 ) -> Result<Option<MetricsServer>, AllocError> {
     let Some(door) = door else {

@@ -10,7 +10,9 @@ use crate::client::StoreClient;
 use crate::clock::SharedClock;
 use crate::plan::{Common, Entrance, OwnTask, ServerPlan, ThreadPlan, WorkerPlan};
 use mc_host::{AskedClock, Wanting};
-use mc_sockets::{ClosingLinks, Crowd, Poller, Refusals, SocketLinks, accept_all, accept_beside};
+use mc_sockets::{
+    ClosingLinks, ConnectionLimit, Poller, ShortageTally, SocketLinks, accept_all, accept_beside,
+};
 use mc_telemetry::{MetricsServer, Notice, Outlet, WorkerTally, write_lines};
 use mc_time::Clock;
 use mc_workers::{NoGate, Worker};
@@ -150,7 +152,7 @@ fn start_acceptors<'s, 'a: 's, 'd: 's, E, R>(
     scope: &Scope<'s, E>,
     rt: &'a R,
     listeners: Vec<TcpListener>,
-    crowd: &Arc<Crowd>,
+    crowd: &Arc<ConnectionLimit>,
     common: &'d Common,
 ) -> Result<(), Wanting>
 where
@@ -228,7 +230,7 @@ fn run_worker<R: AllocGlobal + Wait + time::Clock, S: Clock>(
     let mut links = ClosingLinks::new(links, arrivals);
     let tally = WorkerTally {
         counts: &counts,
-        refusals: Refusals::new(&common.log),
+        refusals: ShortageTally::new(&common.log),
     };
     let clock = AskedClock {
         asked: now,

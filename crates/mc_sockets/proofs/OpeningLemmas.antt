@@ -4,7 +4,7 @@ use Rattle.std.proofs.lemmas.List.{drop_more, length-append, length-set, length-
 use Rattle.std.proofs.Math.Seq.{take-append-add, take-length}
 use Rattle.mc_sockets.specs.Headers.{is_binary_header}
 use Rattle.mc_sockets.specs.declared.header.HeaderPart.{HeaderPart}
-use Rattle.mc_sockets.specs.declared.opening.Judged.TheVariants as verdict
+use Rattle.mc_sockets.specs.declared.opening.PieceOpening.TheVariants as verdict
 use Rattle.mc_sockets.specs.declared.opening.Opening.{Opening}
 use Rattle.mc_sockets.specs.declared.opening.Opening.TheVariants as opening
 use Rattle.mc_sockets.specs.declared.opening.Part.{Part}

@@ -1,17 +1,17 @@
 -- What is done behind a poll.
 use Rattle.std.proofs.Common.{◌≡◌, ℕ, Option, Some, subst, sym, true, MatchBool, nat_lt}
 use Rattle.std.specs.declared.time.Instant.{Instant}
-use Rattle.mc_sockets.specs.declared.connection.Parting.{Parting}
-use Rattle.mc_sockets.specs.declared.idle.Watch.{Watch}
+use Rattle.mc_sockets.specs.declared.connection.CloseReason.{CloseReason}
+use Rattle.mc_sockets.specs.declared.idle.SweepCursor.{SweepCursor}
 use Rattle.mc_sockets.specs.declared.readiness.Readiness.{Readiness}
-use Rattle.mc_sockets.specs.declared.seats.Patrol.TheVariants.{EndIdle}
-use Rattle.mc_sockets.specs.declared.seats.Seats.{Seats}
-use Rattle.mc_sockets.specs.Seats.{AsksUnheard, ByWatch, LooksAround, LooksInTurn}
-use Rattle.mc_sockets.specs.Watches.{IfAllHeard}
+use Rattle.mc_sockets.specs.declared.link_table.SweepAction.TheVariants.{EndIdle}
+use Rattle.mc_sockets.specs.declared.link_table.LinkTable.{LinkTable}
+use Rattle.mc_sockets.specs.LinkTables.{AsksUnheard, ByWatch, LooksAround, LooksInTurn}
+use Rattle.mc_sockets.specs.SweepCursors.{IfAllHeard}
 
 -- idle links were ended and then unheard ones asked, and neither changed the watch of the other
-pub looked_around : {F R : Type 0} (known : F → Option Readiness) (sends : R → ℕ → R → Type 0) (parting : Parting) (before now : Instant)
-    (idle later_idle last_idle unheard mid_unheard last_unheard : Option Watch) (old mid new : Seats F) (old_rests rests new_rests : R)
+pub looked_around : {F R : Type 0} (known : F → Option Readiness) (sends : R → ℕ → R → Type 0) (parting : CloseReason) (before now : Instant)
+    (idle later_idle last_idle unheard mid_unheard last_unheard : Option SweepCursor) (old mid new : LinkTable F) (old_rests rests new_rests : R)
     → ByWatch (LooksInTurn known sends (EndIdle parting) before now) idle later_idle old mid old_rests rests
     → ByWatch (AsksUnheard known sends 2_000_000_000 before now) mid_unheard last_unheard mid new rests new_rests
     → last_idle ≡ later_idle → mid_unheard ≡ unheard

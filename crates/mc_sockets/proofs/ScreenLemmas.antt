@@ -10,8 +10,8 @@ use Rattle.mc_links.specs.declared.link.Took.{Took}
 use Rattle.mc_links.specs.declared.link.Took.TheVariants.{Bytes as TookBytes, Later as TookNone}
 use Rattle.mc_sockets.specs.Openings.{Judges, ShowsAt, other_protocol, shown_behind}
 use Rattle.mc_sockets.specs.Screens.{EndsAt, HandsOn, IsHanded, IsRecognized, JudgesOn, Stands, StandsFor, handed_on, is_other, screened}
-use Rattle.mc_sockets.specs.declared.opening.Judged.{Judged}
-use Rattle.mc_sockets.specs.declared.opening.Judged.TheVariants as verdict
+use Rattle.mc_sockets.specs.declared.opening.PieceOpening.{PieceOpening}
+use Rattle.mc_sockets.specs.declared.opening.PieceOpening.TheVariants as verdict
 use Rattle.mc_sockets.specs.declared.opening.Opening.{Opening}
 use Rattle.mc_sockets.specs.declared.opening.Opening.TheVariants as opening
 use Rattle.mc_sockets.specs.declared.opening.Part.{Part}
@@ -108,7 +108,7 @@ module _ (before after : Opening) (old read new : Reads) (link mid : LinkState) 
         (ap (λ (r : Reads). r.is_ended) handed.2 ∙ ended_before) (ap (λ (r : Reads). r.was_read) handed.2 ∙ was_read),
   )
 
-  by_judged : (judged : Judged) → JudgesOn before (take count piece) judged → IsHanded judged count got after read new
+  by_judged : (judged : PieceOpening) → JudgesOn before (take count piece) judged → IsHanded judged count got after read new
       → Gives (screened before old link) piece (Ok got) (screened after new mid)
   by_judged (verdict.Open part) judges handed = all_on (opening.Open part) refl handed
   by_judged verdict.Settled judges handed = all_on opening.Settled refl handed
@@ -133,7 +133,7 @@ module _ (before after : Opening) (old read new : Reads) (link mid : LinkState) 
   hands_gives hands = by_judged hands.judged hands.judges hands.handed
 
   -- what is judged to be of no other protocol is what the link below gave
-  same_by : (judged : Judged) → IsHanded judged count got after read new → is_other after ≡ false → Gives link piece (Ok got) mid
+  same_by : (judged : PieceOpening) → IsHanded judged count got after read new → is_other after ≡ false → Gives link piece (Ok got) mid
   same_by (verdict.Open part) handed none_now = subst (λ g. Gives link piece (Ok g) mid) (sym handed.0) below
   same_by verdict.Settled handed none_now = subst (λ g. Gives link piece (Ok g) mid) (sym handed.0) below
   same_by (verdict.Other Http c) handed none_now = absurd (true_not_false (ap is_other (sym handed.1) ∙ none_now))
@@ -171,7 +171,7 @@ module _ (after : Opening) (read new : Reads) (withheld : ℕ) (known piece : Li
       ends = ends;
     }
 
-  by_part : (part : Part) → ((text : List ℕ) → other_protocol (known ++ text) ≡ shown_behind part text) → (judged : Judged) → Judges part (take count piece) judged
+  by_part : (part : Part) → ((text : List ℕ) → other_protocol (known ++ text) ≡ shown_behind part text) → (judged : PieceOpening) → Judges part (take count piece) judged
       → IsHanded judged count got after read new → StandsFor after new.withheld all
   by_part part stands (verdict.Open mid) judges handed = subst (λ k. StandsFor k new.withheld all) (sym handed.1) (λ text. open_on part stands text ∙ judges text)
   by_part part stands verdict.Settled judges handed = subst (λ k. StandsFor k new.withheld all) (sym handed.1) (λ text. open_on part stands text ∙ judges text)
@@ -182,7 +182,7 @@ module _ (after : Opening) (read new : Reads) (withheld : ℕ) (known piece : Li
       subst (λ k. StandsFor k new.withheld all) (sym handed.1) (subst (λ (r : Reads). IsRecognized Binary r.withheld all) (sym handed.2)
       (recognized part stands Binary c judges count (omega (arith, length_all, judges.some))))
 
-  by_before : (before : Opening) (judged : Judged) → StandsFor before withheld known → JudgesOn before (take count piece) judged → IsHanded judged count got after read new
+  by_before : (before : Opening) (judged : PieceOpening) → StandsFor before withheld known → JudgesOn before (take count piece) judged → IsHanded judged count got after read new
       → StandsFor after new.withheld all
   by_before (opening.Open part) judged stands judges handed = by_part part stands judged judges handed
   by_before opening.Settled verdict.Settled stands judges handed =

@@ -2,7 +2,7 @@
 use Rattle.std.proofs.Common.{◌≡◌, ℕ, ◌+◌, List, subst}
 use Rattle.mc_time.specs.Chains.{one_more}
 use Rattle.mc_sockets.specs.Streams.{AreInterrupted, into_some, Flow, MovesIn, MovesOut}
-use Rattle.mc_sockets.specs.declared.stream.Hindrance.TheVariants.{Interrupted}
+use Rattle.mc_sockets.specs.declared.stream.NoBytes.TheVariants.{Interrupted}
 use Rattle.mc_sockets.specs.declared.stream.Received.{Received}
 use Rattle.mc_sockets.specs.declared.stream.Received.TheVariants as received
 use Rattle.mc_sockets.specs.declared.stream.Sent.{Sent}

@@ -4,7 +4,7 @@ use Rattle.std.proofs.Common.{◌≡◌, ◌⊎◌, ℕ, Bool, true, false, not,
 use Rattle.mc_time.specs.Chains.{Repeats, none_yet, one_more}
 use Rattle.mc_sockets.specs.declared.readiness.Readiness.{Readiness}
 use Rattle.mc_sockets.specs.declared.readiness.Report.{Report}
-use Rattle.mc_sockets.specs.declared.stream.Hindrance.TheVariants.{WouldBlock, Interrupted, Fault}
+use Rattle.mc_sockets.specs.declared.stream.NoBytes.TheVariants.{WouldBlock, Interrupted, Fault}
 use Rattle.mc_sockets.specs.declared.stream.Received.{Received}
 use Rattle.mc_sockets.specs.declared.stream.Received.TheVariants as received
 use Rattle.mc_sockets.specs.declared.stream.Sent.{Sent}

@@ -9,10 +9,10 @@ use Rattle.mc_links.specs.Links.{LinkState}
 use Rattle.mc_metrics.specs.declared.counts.Counted.{Counted}
 use Rattle.mc_metrics.specs.declared.counts.Counted.TheVariants as counted
 use Rattle.mc_sockets.specs.declared.channel.Calls.{Calls}
-use Rattle.mc_sockets.specs.declared.connection.Parting.{Parting}
-use Rattle.mc_sockets.specs.declared.connection.Parting.TheVariants as parting
+use Rattle.mc_sockets.specs.declared.connection.CloseReason.{CloseReason}
+use Rattle.mc_sockets.specs.declared.connection.CloseReason.TheVariants as parting
 use Rattle.mc_sockets.specs.declared.readiness.Readiness.{Readiness}
-use Rattle.mc_sockets.specs.declared.stream.Hindrance.TheVariants.{WouldBlock, Interrupted, Fault}
+use Rattle.mc_sockets.specs.declared.stream.NoBytes.TheVariants.{WouldBlock, Interrupted, Fault}
 use Rattle.mc_sockets.specs.declared.stream.Received.{Received}
 use Rattle.mc_sockets.specs.declared.stream.Received.TheVariants as received
 use Rattle.mc_sockets.specs.declared.stream.Sent.{Sent}
@@ -84,7 +84,7 @@ IsTook known (sent.Hindered Interrupted) result = IsErr result
 IsTook known (sent.Hindered Fault) result = IsErr result
 
 -- the reason of a close, if the connection is closed after a read with this answer
-abbrev pub parting_after_read : Readiness → Received → Parting → Parting
+abbrev pub parting_after_read : Readiness → Received → CloseReason → CloseReason
 parting_after_read known (received.Bytes n) before = before
 parting_after_read known received.End before = unwrap_or known.ends parting.Ended
 parting_after_read known (received.Hindered WouldBlock) before = before
@@ -92,7 +92,7 @@ parting_after_read known (received.Hindered Interrupted) before = parting.ReadFa
 parting_after_read known (received.Hindered Fault) before = parting.ReadFault
 
 -- the same after a write that failed; what is noted after any other goes by its text
-abbrev pub parting_after_write : Readiness → Sent → Option Parting
+abbrev pub parting_after_write : Readiness → Sent → Option CloseReason
 parting_after_write known (sent.Bytes n) = None
 parting_after_write known (sent.Hindered WouldBlock) = known.ends
 parting_after_write known (sent.Hindered Interrupted) = Some parting.WriteFault
@@ -102,9 +102,9 @@ parting_after_write known (sent.Hindered Fault) = Some parting.WriteFault
 pub record ChannelState (S : Type 0) : Type 0 where
   pub stream : S
   pub known : Option Readiness
-  pub parting : Parting
+  pub parting : CloseReason
 
-abbrev pub at : {S : Type 0} → S → Option Readiness → Parting → ChannelState S
+abbrev pub at : {S : Type 0} → S → Option Readiness → CloseReason → ChannelState S
 at stream known parting = record { stream = stream; known = known; parting = parting }
 
 -- A read of a channel: it goes by what is known, answers as the stream did, and notes what that says

@@ -4,7 +4,7 @@ use Rattle.mc_time.specs.Chains.{Repeats}
 use Rattle.mc_sockets.specs.declared.dropping.Drain.{Drain}
 use Rattle.mc_sockets.specs.declared.dropping.Drain.TheVariants.{Going, Waiting, Done}
 use Rattle.mc_sockets.specs.declared.dropping.Dropping.{Dropping}
-use Rattle.mc_sockets.specs.declared.stream.Hindrance.TheVariants.{WouldBlock, Interrupted, Fault}
+use Rattle.mc_sockets.specs.declared.stream.NoBytes.TheVariants.{WouldBlock, Interrupted, Fault}
 use Rattle.mc_sockets.specs.declared.stream.Received.{Received}
 use Rattle.mc_sockets.specs.declared.stream.Received.TheVariants as received
 use Rattle.mc_sockets.specs.Streams.{into_some}

@@ -5,8 +5,8 @@ use Rattle.std.specs.Io.KnownBytes.{ReadConsumes, WriteAppends}
 use Rattle.std.specs.IoError.{error_kind}
 use Rattle.std.specs.declared.io.Error.{Error}
 use Rattle.std.specs.declared.io.ErrorKind.TheVariants as io_kind
-use Rattle.mc_sockets.specs.declared.stream.Hindrance.{Hindrance}
-use Rattle.mc_sockets.specs.declared.stream.Hindrance.TheVariants.{WouldBlock, Interrupted, Fault}
+use Rattle.mc_sockets.specs.declared.stream.NoBytes.{NoBytes}
+use Rattle.mc_sockets.specs.declared.stream.NoBytes.TheVariants.{WouldBlock, Interrupted, Fault}
 use Rattle.mc_sockets.specs.declared.stream.Received.{Received}
 use Rattle.mc_sockets.specs.declared.stream.Received.TheVariants as received
 use Rattle.mc_sockets.specs.declared.stream.Sent.{Sent}
@@ -14,7 +14,7 @@ use Rattle.mc_sockets.specs.declared.stream.Sent.TheVariants as sent
 
 -- what an error of the system says of a call: that it would block, that a signal interrupted it, or
 -- that the stream failed
-pub record IsHindrance (error : Error) (hindrance : Hindrance) : Type 0 where
+pub record IsHindrance (error : Error) (hindrance : NoBytes) : Type 0 where
   pub waits : error_kind error ≡ io_kind.WouldBlock → hindrance ≡ WouldBlock
   pub again : error_kind error ≡ io_kind.Interrupted → hindrance ≡ Interrupted
   pub fails : error_kind error ≢ io_kind.WouldBlock → error_kind error ≢ io_kind.Interrupted → hindrance ≡ Fault
@@ -22,12 +22,12 @@ pub record IsHindrance (error : Error) (hindrance : Hindrance) : Type 0 where
 -- the answer of the system to a read: no byte is the end of the stream
 abbrev pub IsReceived : Result ℕ Error → Received → Type 0
 IsReceived (Ok n) answer = (n ≡ 0 → answer ≡ received.End) × (0 < n → answer ≡ received.Bytes n)
-IsReceived (Err error) answer = (hindrance : Hindrance) × IsHindrance error hindrance × (answer ≡ received.Hindered hindrance)
+IsReceived (Err error) answer = (hindrance : NoBytes) × IsHindrance error hindrance × (answer ≡ received.Hindered hindrance)
 
 -- the answer of the system to a write
 abbrev pub IsSent : Result ℕ Error → Sent → Type 0
 IsSent (Ok n) answer = answer ≡ sent.Bytes n
-IsSent (Err error) answer = (hindrance : Hindrance) × IsHindrance error hindrance × (answer ≡ sent.Hindered hindrance)
+IsSent (Err error) answer = (hindrance : NoBytes) × IsHindrance error hindrance × (answer ≡ sent.Hindered hindrance)
 
 -- A stream was read by one call, which took from the known bytes what it gave, and answered by that call's
 -- answer. The end comes where no known byte is left.

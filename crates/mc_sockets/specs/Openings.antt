@@ -3,8 +3,8 @@ use Rattle.std.specs.Prelude.{◌≡◌, ◌<◌, ◌≤◌, ◌+◌, ◌*◌, �
 use Rattle.std.specs.Str.{byte}
 use Rattle.mc_sockets.specs.declared.header.HeaderPart.{HeaderPart}
 use Rattle.mc_sockets.specs.Headers.{is_binary_header}
-use Rattle.mc_sockets.specs.declared.opening.Judged.{Judged}
-use Rattle.mc_sockets.specs.declared.opening.Judged.TheVariants as verdict
+use Rattle.mc_sockets.specs.declared.opening.PieceOpening.{PieceOpening}
+use Rattle.mc_sockets.specs.declared.opening.PieceOpening.TheVariants as verdict
 use Rattle.mc_sockets.specs.declared.opening.Opening.{Opening}
 use Rattle.mc_sockets.specs.declared.opening.Opening.TheVariants as opening
 use Rattle.mc_sockets.specs.declared.opening.Part.{Part}
@@ -93,7 +93,7 @@ pub record ShowsAt (part : Part) (bytes : List ℕ) (protocol : Protocol) (count
   pub before : shown_behind part (take (count - 1) bytes) ≡ None
 
 -- a piece behind a beginning is judged by what both show
-abbrev pub Judges : Part → (bytes : List ℕ) → Judged → Type 0
+abbrev pub Judges : Part → (bytes : List ℕ) → PieceOpening → Type 0
 Judges part bytes (verdict.Open mid) = (text : List ℕ) → shown_behind part (bytes ++ text) ≡ shown_behind mid text
 Judges part bytes verdict.Settled = (text : List ℕ) → shown_behind part (bytes ++ text) ≡ None
 Judges part bytes (verdict.Other protocol count) = ShowsAt part bytes protocol count

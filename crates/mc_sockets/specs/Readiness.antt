@@ -2,10 +2,10 @@
 use Rattle.std.specs.Prelude.{ℕ, Bool, true, false, not, ◌&&◌, ◌||◌, nat_lt, is_none, Some}
 use Rattle.mio.specs.declared.event.event.Event.{Event}
 use Rattle.mio.specs.Event.{is_readable, is_writable, is_error, is_read_closed, is_write_closed, is_priority}
-use Rattle.mc_sockets.specs.declared.connection.Parting.{Parting}
+use Rattle.mc_sockets.specs.declared.connection.CloseReason.{CloseReason}
 use Rattle.mc_sockets.specs.declared.readiness.Readiness.{Readiness}
 use Rattle.mc_sockets.specs.declared.readiness.Report.{Report}
-use Rattle.mc_sockets.specs.declared.stream.Hindrance.TheVariants.{WouldBlock, Interrupted, Fault}
+use Rattle.mc_sockets.specs.declared.stream.NoBytes.TheVariants.{WouldBlock, Interrupted, Fault}
 use Rattle.mc_sockets.specs.declared.stream.Received.{Received}
 use Rattle.mc_sockets.specs.declared.stream.Received.TheVariants as received
 use Rattle.mc_sockets.specs.declared.stream.Sent.{Sent}
@@ -19,7 +19,7 @@ pub data Happening : Type 0 where
   Paused : Happening
   Reported : (report : Report) → Happening
   AskedAgain : Happening
-  Ended : (parting : Parting) → Happening
+  Ended : (parting : CloseReason) → Happening
 
 -- what an event reports
 abbrev pub report_of : Event → Report

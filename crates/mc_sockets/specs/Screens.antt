@@ -5,8 +5,8 @@ use Rattle.mc_links.specs.declared.link.Got.{Got}
 use Rattle.mc_links.specs.declared.link.Got.TheVariants.{Bytes, End}
 use Rattle.mc_links.specs.declared.link.LinkFault.{LinkFault}
 use Rattle.mc_sockets.specs.Openings.{Judges, other_protocol, shown_behind}
-use Rattle.mc_sockets.specs.declared.opening.Judged.{Judged}
-use Rattle.mc_sockets.specs.declared.opening.Judged.TheVariants as verdict
+use Rattle.mc_sockets.specs.declared.opening.PieceOpening.{PieceOpening}
+use Rattle.mc_sockets.specs.declared.opening.PieceOpening.TheVariants as verdict
 use Rattle.mc_sockets.specs.declared.opening.Opening.{Opening}
 use Rattle.mc_sockets.specs.declared.opening.Opening.TheVariants as opening
 use Rattle.mc_sockets.specs.declared.opening.Protocol.{Protocol}
@@ -60,14 +60,14 @@ abbrev pub Stands : Opening → Reads → Option (List ℕ) → Type 0
 Stands opening reads given = IfSome given (λ all. StandsFor opening reads.withheld all)
 
 -- a piece is judged by what was known before; nothing is judged any more once it is known
-abbrev pub JudgesOn : Opening → (bytes : List ℕ) → Judged → Type 0
+abbrev pub JudgesOn : Opening → (bytes : List ℕ) → PieceOpening → Type 0
 JudgesOn (opening.Open part) bytes judged = Judges part bytes judged
 JudgesOn opening.Settled bytes judged = judged ≡ verdict.Settled
 JudgesOn (opening.Other protocol) bytes judged = ⊥
 
 -- What is handed on of a piece of so many bytes that was judged so: all of it, or a request line, or nothing
 -- of a piece that shows a header. What isn't handed on is withheld.
-abbrev pub IsHanded : Judged → (bytes : ℕ) → Got → Opening → (old new : Reads) → Type 0
+abbrev pub IsHanded : PieceOpening → (bytes : ℕ) → Got → Opening → (old new : Reads) → Type 0
 IsHanded (verdict.Open part) bytes got known old new = (got ≡ Bytes bytes) × (known ≡ opening.Open part) × (new ≡ old)
 IsHanded verdict.Settled bytes got known old new = (got ≡ Bytes bytes) × (known ≡ opening.Settled) × (new ≡ old)
 IsHanded (verdict.Other Http count) bytes got known old new =
@@ -77,6 +77,6 @@ IsHanded (verdict.Other Binary count) bytes got known old new =
 
 -- a piece of the link below is judged and handed on
 pub record HandsOn (bytes : List ℕ) (count : ℕ) (got : Got) (before after : Opening) (old new : Reads) : Type 0 where
-  pub judged : Judged
+  pub judged : PieceOpening
   pub judges : JudgesOn before bytes judged
   pub handed : IsHanded judged count got after old new

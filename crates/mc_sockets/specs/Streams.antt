@@ -2,7 +2,7 @@
 use Rattle.std.specs.Prelude.{◌≡◌, ◌≤◌, ℕ, List, ◌++◌, length, take, Option, None, option_map}
 use Rattle.mc_links.specs.Links.{grown}
 use Rattle.mc_time.specs.Chains.{Repeats}
-use Rattle.mc_sockets.specs.declared.stream.Hindrance.TheVariants.{Interrupted}
+use Rattle.mc_sockets.specs.declared.stream.NoBytes.TheVariants.{Interrupted}
 use Rattle.mc_sockets.specs.declared.stream.Received.{Received}
 use Rattle.mc_sockets.specs.declared.stream.Received.TheVariants as received
 use Rattle.mc_sockets.specs.declared.stream.Sent.{Sent}

@@ -1,9 +1,9 @@
 -- Edge-triggered readiness: what the system owes to a connection that it watches.
 use Rattle.std.specs.Prelude.{◌≡◌, ◌⊎◌, ℕ, Bool, true, false, not, ◌||◌, nat_lt}
-use Rattle.mc_sockets.specs.declared.connection.Parting.{Parting}
+use Rattle.mc_sockets.specs.declared.connection.CloseReason.{CloseReason}
 use Rattle.mc_sockets.specs.declared.readiness.Readiness.{Readiness}
 use Rattle.mc_sockets.specs.declared.readiness.Report.{Report}
-use Rattle.mc_sockets.specs.declared.stream.Hindrance.TheVariants.{WouldBlock, Interrupted, Fault}
+use Rattle.mc_sockets.specs.declared.stream.NoBytes.TheVariants.{WouldBlock, Interrupted, Fault}
 use Rattle.mc_sockets.specs.declared.stream.Received.{Received}
 use Rattle.mc_sockets.specs.declared.stream.Received.TheVariants as received
 use Rattle.mc_sockets.specs.declared.stream.Sent.{Sent}
@@ -60,7 +60,7 @@ pub data Step : Watched → Watched → Type 0 where
   writes_nothing : (old : Watched) (offered : ℕ) → old.known.writes ≡ false → Step old (record old { known = after old.known (Wrote (sent.Hindered WouldBlock) offered) })
   pauses : (old : Watched) → Step old (record old { known = after old.known Paused })
   asks_again : (old : Watched) → Step old (record old { known = after old.known AskedAgain })
-  ends : (old : Watched) (parting : Parting) → Step old (record old { known = after old.known (Ended parting) })
+  ends : (old : Watched) (parting : CloseReason) → Step old (record old { known = after old.known (Ended parting) })
   pays : (old : Watched) (report : Report) → IsTrueReport report old → Step old (record old { known = after old.known (Reported report); owed = false })
   drops : (old : Watched) → old.input ≡ false → old.room ≡ false → old.end ≡ false → old.urgent ≡ false → Step old (record old { owed = false })
   reports_beside : (old : Watched) (report : Report) → Step old (record old { known = after old.known (Reported report) })

@@ -3,7 +3,7 @@
 ghost use Rattle.std.specs.Prelude.{◌≡◌, true, Ok, IfSome};
 
 use crate::arrivals::Arrivals;
-use crate::connection::{Connection, Crowd, Parting};
+use crate::connection::{CloseReason, Connection, ConnectionLimit};
 use crate::remedy::{Remedy, remedy_for};
 use crate::warning::Warning;
 use mio::net::TcpStream;
@@ -49,7 +49,7 @@ enum AcceptResult {
 struct ListenerWithSpare {
     listener: TcpListener,
     spare: Option<TcpListener>,
-    crowd: Arc<Crowd>,
+    crowd: Arc<ConnectionLimit>,
     /// Whether the previous accept failed too.
     has_failed: bool,
 }
@@ -61,7 +61,7 @@ struct ListenerWithSpare {
 pub fn accept_all<R: Wait + Clock>(
     rt: &R,
     listener: TcpListener,
-    crowd: Arc<Crowd>,
+    crowd: Arc<ConnectionLimit>,
     arrivals: &Arrivals,
 ) {
     let mut door = ListenerWithSpare::new(listener, crowd);
@@ -78,7 +78,7 @@ pub fn accept_all<R: Wait + Clock>(
 pub fn accept_beside<R: Wait + Clock>(
     rt: &R,
     listener: TcpListener,
-    crowd: Arc<Crowd>,
+    crowd: Arc<ConnectionLimit>,
     arrivals: &Arrivals,
     turn: usize,
 ) {
@@ -90,7 +90,7 @@ pub fn accept_beside<R: Wait + Clock>(
 
 impl ListenerWithSpare {
     /// Returns a listener with a spare descriptor; its connections count in this crowd.
-    fn new(listener: TcpListener, crowd: Arc<Crowd>) -> ListenerWithSpare {
+    fn new(listener: TcpListener, crowd: Arc<ConnectionLimit>) -> ListenerWithSpare {
         let spare = listener.try_clone().ok();
         ListenerWithSpare {
             listener,
@@ -175,7 +175,7 @@ impl ListenerWithSpare {
             return self.let_in(rt, stream, peer);
         }
         if let Some(mut connection) = self.count_connection(stream, peer) {
-            connection.entry.note(Parting::NoDescriptor);
+            connection.entry.note(CloseReason::NoDescriptor);
         }
         self.spare = self.listener.try_clone().ok();
         AcceptResult::Nothing

@@ -8,13 +8,13 @@ ghost use Rattle.std.specs.Prelude.{◌≡◌, ◌+◌, ◌++◌, length};
 ghost use Rattle.mc_sockets.specs.Channels.{ReadsBy, WritesBy};
 ghost use Rattle.mc_sockets.specs.Streams.{MovesIn, MovesOut};
 
-use crate::connection::{Parting, Registration};
+use crate::connection::{CloseReason, Registration};
 use crate::dropping::drop_input;
 use crate::io_stream::IoStream;
 use crate::meter::{Meter, SharedMeter};
 use crate::readiness::{Readiness, ReadinessCell, SharedReadiness};
 use crate::screen::{Peer, Screen};
-use crate::stream::{Hindrance, Received, Sent, Stream, receive_again, send_again};
+use crate::stream::{NoBytes, Received, Sent, Stream, receive_again, send_again};
 use mc_links::{Got, Link, LinkFault, Took};
 use mc_metrics::Counted;
 use mio::net::TcpStream;
@@ -81,7 +81,7 @@ impl<S: Stream + Drop, F: ReadinessCell + Drop, M: Meter + Drop> Channel<S, F, M
     }
 
     /// Notes a fault, for which the connection is to be closed.
-    fn fail<T>(&mut self, parting: Parting) -> Result<T, LinkFault>
+    fn fail<T>(&mut self, parting: CloseReason) -> Result<T, LinkFault>
         requires { self.old.calls.faults < 2 ^ 64 - 1 }
         ensures failed { IsErr result }
         ensures noted { self.new ≡ record self.old {
@@ -105,7 +105,7 @@ fn receive_by<S: Stream>(stream: &mut S, known: Readiness, piece: &mut [u8]) -> 
     } else if known.reads {
         receive_again(stream, piece)
     } else {
-        Received::Hindered(Hindrance::WouldBlock)
+        Received::Hindered(NoBytes::WouldBlock)
     }
 }
 
@@ -119,7 +119,7 @@ fn send_by<S: Stream>(stream: &mut S, known: Readiness, first: &[u8], second: &[
     if known.writes {
         send_again(stream, first, second)
     } else {
-        Sent::Hindered(Hindrance::WouldBlock)
+        Sent::Hindered(NoBytes::WouldBlock)
     }
 }
 
@@ -158,12 +158,12 @@ impl<S: Stream + Drop, F: ReadinessCell + Drop, M: Meter + Drop> Link for Channe
                 Ok(Got::Bytes(count))
             }
             Received::End => {
-                self.entry.note(known.ends.unwrap_or(Parting::Ended));
+                self.entry.note(known.ends.unwrap_or(CloseReason::Ended));
                 self.calls.is_ended = true;
                 Ok(Got::End)
             }
-            Received::Hindered(Hindrance::WouldBlock) => Ok(Got::Later),
-            Received::Hindered(_) => self.fail(Parting::ReadFault),
+            Received::Hindered(NoBytes::WouldBlock) => Ok(Got::Later),
+            Received::Hindered(_) => self.fail(CloseReason::ReadFault),
         }
     }
 
@@ -211,11 +211,11 @@ impl<S: Stream + Drop, F: ReadinessCell + Drop, M: Meter + Drop> Link for Channe
                 self.meter.count(Counted::Sent, count);
                 Ok(Took::Bytes(count))
             }
-            Sent::Hindered(Hindrance::WouldBlock) => match known.ends {
+            Sent::Hindered(NoBytes::WouldBlock) => match known.ends {
                 None => Ok(Took::Later),
                 Some(parting) => self.fail(parting),
             },
-            Sent::Hindered(_) => self.fail(Parting::WriteFault),
+            Sent::Hindered(_) => self.fail(CloseReason::WriteFault),
         }
     }
 
@@ -226,7 +226,7 @@ impl<S: Stream + Drop, F: ReadinessCell + Drop, M: Meter + Drop> Link for Channe
         let known = self.readiness.look();
         match known.ends {
             Some(parting) => self.fail(parting),
-            None if known.has_failed => self.fail(Parting::ReadFault),
+            None if known.has_failed => self.fail(CloseReason::ReadFault),
             None => {
                 self.readiness.note(known.after_pause());
                 Ok(())
@@ -235,7 +235,7 @@ impl<S: Stream + Drop, F: ReadinessCell + Drop, M: Meter + Drop> Link for Channe
     }
 
     fn refused(&mut self) {
-        self.entry.note(Parting::OutOfMemory);
+        self.entry.note(CloseReason::OutOfMemory);
     }
 
     fn faults(&self) -> u64 {
@@ -245,7 +245,7 @@ impl<S: Stream + Drop, F: ReadinessCell + Drop, M: Meter + Drop> Link for Channe
 
 impl<S: Stream + Drop, F: ReadinessCell + Drop, M: Meter + Drop> Peer for Channel<S, F, M> {
     fn note_other(&mut self) {
-        self.entry.note(Parting::OtherProtocol);
+        self.entry.note(CloseReason::OtherProtocol);
     }
 }
 

@@ -4,7 +4,7 @@
 //! Workers and links know nothing else of the shutdown.
 
 ghost use Rattle.std.specs.Prelude.{◌≡◌, None};
-ghost use Rattle.mc_sockets.specs.declared.connection.Parting.{Parting as Reason};
+ghost use Rattle.mc_sockets.specs.declared.connection.CloseReason.{CloseReason as Reason};
 
 use crate::arrivals::Arrivals;
 use crate::link::SocketLink;
@@ -48,7 +48,7 @@ impl<'a, R: Wait + Clock> ClosingLinks<'a, R> {
 }
 
 impl<'a, R: Wait + Clock> Links<SocketLink> for ClosingLinks<'a, R> {
-    ghost use Rattle.mc_sockets.specs.Seats.{CountsNext, HappensToLink, Names};
+    ghost use Rattle.mc_sockets.specs.LinkTables.{CountsNext, HappensToLink, Names};
     ghost use Rattle.mc_sockets.specs.Readiness.{AskedAgain, Ended};
 
     fn next(&mut self) -> Next<SocketLink>

@@ -6,7 +6,7 @@
 //! in its [`Registration`].
 
 ghost use Rattle.std.specs.Prelude.{◌≡◌};
-ghost use Rattle.mc_sockets.specs.Crowds.{most_lingering};
+ghost use Rattle.mc_sockets.specs.ConnectionLimits.{most_lingering};
 
 use crate::lines::LogLine;
 use crate::log::Log;
@@ -33,7 +33,7 @@ const TOO_MANY: &[u8] = b"ERROR Too many open connections\r\n";
 
 /// Why a connection is closed.
 #[derive(Clone, Copy)]
-pub enum Parting {
+pub enum CloseReason {
     /// The connection limit is reached.
     OneTooMany,
     /// The system has no descriptor for it.
@@ -68,9 +68,9 @@ pub const PARTINGS: usize = 14;
 /// The reply to a line that is too long. Nothing is sent behind it.
 const TOO_LONG: &[u8] = b"CLIENT_ERROR line too long\r\n";
 
-impl Parting {
+impl CloseReason {
     ghost use Rattle.std.specs.Prelude.{◌≡◌};
-    ghost use Rattle.mc_sockets.specs.Partings.{parting_place};
+    ghost use Rattle.mc_sockets.specs.CloseReasons.{parting_place};
 
     /// Returns its index.
     pub fn place(self) -> usize
@@ -82,27 +82,27 @@ impl Parting {
     /// Returns its text.
     pub fn text(self) -> &'static str {
         match self {
-            Parting::OneTooMany => "one more than -c allows",
-            Parting::NoDescriptor => "no descriptor is left",
-            Parting::NoRoom => "no memory for it",
-            Parting::Ended => "the client closed it",
-            Parting::ReadFault => "read fault",
-            Parting::WriteFault => "write fault",
-            Parting::SessionOver => "quit",
-            Parting::Idle => "idle for as long as --idle-timeout allows",
-            Parting::ListenerFailed => "the listener failed",
-            Parting::Hoarding => "it held much and was slow while others waited for memory",
-            Parting::LineTooLong => "a line was too long",
-            Parting::Stopped => "the program was asked to end",
-            Parting::OutOfMemory => "out of memory",
-            Parting::OtherProtocol => "the client speaks another protocol",
+            CloseReason::OneTooMany => "one more than -c allows",
+            CloseReason::NoDescriptor => "no descriptor is left",
+            CloseReason::NoRoom => "no memory for it",
+            CloseReason::Ended => "the client closed it",
+            CloseReason::ReadFault => "read fault",
+            CloseReason::WriteFault => "write fault",
+            CloseReason::SessionOver => "quit",
+            CloseReason::Idle => "idle for as long as --idle-timeout allows",
+            CloseReason::ListenerFailed => "the listener failed",
+            CloseReason::Hoarding => "it held much and was slow while others waited for memory",
+            CloseReason::LineTooLong => "a line was too long",
+            CloseReason::Stopped => "the program was asked to end",
+            CloseReason::OutOfMemory => "out of memory",
+            CloseReason::OtherProtocol => "the client speaks another protocol",
         }
     }
 }
 
 /// The connections that are open.
 #[derive(Drop)]
-pub struct Crowd {
+pub struct ConnectionLimit {
     /// The limit of open connections.
     most: u32,
     /// The limit of those that linger beside them.
@@ -118,10 +118,10 @@ pub struct Crowd {
     log: Option<Arc<Log>>,
 }
 
-impl Crowd {
+impl ConnectionLimit {
     ghost use Rattle.std.specs.Prelude.{◌≡◌, ◌≤◌, ◌↔◌, IfOk, IsTrue};
     ghost use Rattle.std.specs.Arc.{arc_value};
-    ghost use Rattle.mc_sockets.specs.Crowds.{most_lingering, most_lingering_of, most_of, share};
+    ghost use Rattle.mc_sockets.specs.ConnectionLimits.{most_lingering, most_lingering_of, most_of, share};
 
     /// Creates the connection counter, where the process may have this many descriptors. The only
     /// error is a refused allocation.
@@ -130,12 +130,12 @@ impl Crowd {
         most: u32,
         descriptors: Option<u64>,
         log: Option<Arc<Log>>,
-    ) -> Result<Arc<Crowd>, AllocError>
+    ) -> Result<Arc<ConnectionLimit>, AllocError>
         ensures most { IfOk result (λ crowd. most_of (arc_value crowd) ≡ most) }
         ensures lingering { IfOk result (λ crowd.
             most_lingering_of (arc_value crowd) ≡ most_lingering most descriptors) }
     {
-        let crowd = Crowd {
+        let crowd = ConnectionLimit {
             most,
             most_lingering: most_lingering(most, descriptors),
             open: AtomicU32::new(0),
@@ -216,7 +216,7 @@ impl Crowd {
     }
 
     /// Uncounts a connection that was closed for this reason, and that lingered or didn't.
-    fn leave(&self, number: u64, parting: Parting, lingered: bool) {
+    fn leave(&self, number: u64, parting: CloseReason, lingered: bool) {
         let count = if lingered {
             &self.lingering
         } else {
@@ -228,7 +228,7 @@ impl Crowd {
         }
         if let Some(log) = &self.log {
             log.say(LogLine::Closed { number, parting });
-            if matches!(parting, Parting::OutOfMemory | Parting::NoRoom) {
+            if matches!(parting, CloseReason::OutOfMemory | CloseReason::NoRoom) {
                 log.note_starved();
             }
         }
@@ -249,9 +249,9 @@ fn most_lingering(most: u32, descriptors: Option<u64>) -> u32
 
 /// The entry of a connection among the open ones. It is counted until it is dropped.
 pub struct Registration {
-    crowd: Arc<Crowd>,
+    crowd: Arc<ConnectionLimit>,
     number: u64,
-    parting: Parting,
+    parting: CloseReason,
     /// Whether it lingers behind its last answer.
     lingers: Cell<bool>,
 }
@@ -260,12 +260,12 @@ impl Registration {
     ghost use Rattle.std.specs.Prelude.{◌≡◌};
 
     /// Counts a connection. It takes no memory.
-    pub fn new(crowd: Arc<Crowd>, peer: SocketAddr) -> Registration {
+    pub fn new(crowd: Arc<ConnectionLimit>, peer: SocketAddr) -> Registration {
         let number = crowd.enter(peer);
         let parting = if crowd.open_one() {
-            Parting::OneTooMany
+            CloseReason::OneTooMany
         } else {
-            Parting::NoRoom
+            CloseReason::NoRoom
         };
         Registration {
             crowd,
@@ -290,11 +290,11 @@ impl Registration {
 
     /// Returns whether it exceeds the limit of connections.
     pub fn is_one_too_many(&self) -> bool {
-        matches!(self.parting, Parting::OneTooMany)
+        matches!(self.parting, CloseReason::OneTooMany)
     }
 
     /// Notes the reason for which it will be closed, if it is closed next.
-    pub fn note(&mut self, parting: Parting)
+    pub fn note(&mut self, parting: CloseReason)
         ensures { self.new ≡ record self.old { parting = parting } }
     {
         self.parting = parting;
@@ -304,9 +304,10 @@ impl Registration {
     /// session's last. What the system didn't take of it comes once more.
     pub fn note_output(&mut self, end: &[u8]) {
         match self.parting {
-            Parting::SessionOver if end.ends_with(TOO_LONG) => self.parting = Parting::LineTooLong,
-            Parting::LineTooLong if !(end.ends_with(TOO_LONG) || TOO_LONG.ends_with(end)) => {
-                self.parting = Parting::SessionOver;
+            CloseReason::SessionOver if end.ends_with(TOO_LONG) => self.parting =
+                CloseReason::LineTooLong,
+            CloseReason::LineTooLong if !(end.ends_with(TOO_LONG) || TOO_LONG.ends_with(end)) => {
+                self.parting = CloseReason::SessionOver;
             }
             _ => {}
         }
@@ -336,7 +337,7 @@ pub struct Connection {
 
 impl Connection {
     /// Returns a counted connection. It takes no memory.
-    pub fn new(crowd: Arc<Crowd>, stream: TcpStream, peer: SocketAddr) -> Connection {
+    pub fn new(crowd: Arc<ConnectionLimit>, stream: TcpStream, peer: SocketAddr) -> Connection {
         let entry = Registration::new(crowd, peer);
         Connection { stream, entry }
     }

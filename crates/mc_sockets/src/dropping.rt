@@ -5,7 +5,7 @@
 ghost use Rattle.std.specs.Prelude.{◌≡◌, ◌↔◌, IsTrue};
 ghost use Rattle.mc_sockets.specs.Dropping.{after_drop, state_after, DropsInput};
 
-use crate::stream::{Hindrance, Received, Stream};
+use crate::stream::{NoBytes, Received, Stream};
 
 /// The most input bytes that are dropped behind the last answer.
 const MOST_DROPPED: usize = 1_048_576;
@@ -64,12 +64,12 @@ impl Dropping {
     {
         match answer {
             Received::Bytes(count) => Dropping::of(self.bytes.saturating_add(count)),
-            Received::Hindered(Hindrance::Interrupted) => self,
-            Received::Hindered(Hindrance::WouldBlock) => Dropping {
+            Received::Hindered(NoBytes::Interrupted) => self,
+            Received::Hindered(NoBytes::WouldBlock) => Dropping {
                 bytes: self.bytes,
                 drain: Drain::Waiting,
             },
-            Received::End | Received::Hindered(Hindrance::Fault) => Dropping {
+            Received::End | Received::Hindered(NoBytes::Fault) => Dropping {
                 bytes: self.bytes,
                 drain: Drain::Done,
             },

@@ -3,10 +3,10 @@
 //! A connection is idle since a look at it and not since its event, so an event reads no clock.
 //! About once a second a worker looks at its places, a few at a time. An idle connection ends as if
 //! its client had closed it. A connection with unread input, whose guest waits for memory, isn't
-//! idle (`place.rt`).
+//! idle (`link_record.rt`).
 ghost use Rattle.std.specs.Prelude.{◌≡◌, ◌↔◌, ◌<◌, ◌≤◌, ◌+◌, ◌*◌, Some, None, IfSome, IsNone, if◌then◌else◌};
 ghost use Rattle.std.specs.Duration.{as_nanos};
-ghost use Rattle.mc_sockets.specs.Watches.{due, is_too_soon, turn, worth};
+ghost use Rattle.mc_sockets.specs.SweepCursors.{due, is_too_soon, turn, worth};
 
 use std::time::{Duration, Instant};
 
@@ -24,7 +24,7 @@ const LEAST: usize = 256;
 /// A look takes as many places as the time since the last look is worth, so that a worker with many
 /// connections isn't away for long.
 #[derive(Clone, Copy)]
-pub struct Watch {
+pub struct SweepCursor {
     limit: Duration,
     /// The moment of the last look.
     looked: Option<Instant>,
@@ -32,9 +32,9 @@ pub struct Watch {
     at: usize,
 }
 
-impl Watch {
+impl SweepCursor {
     /// Returns the watch of an idle timeout in seconds, or `None` for 0, which disables it.
-    pub fn new(seconds: u32) -> Option<Watch>
+    pub fn new(seconds: u32) -> Option<SweepCursor>
         ensures none { IsNone result ↔ (seconds ≡ 0) }
         ensures limit { IfSome result (λ watch.
             as_nanos watch.limit ≡ seconds * 1_000_000_000) }
@@ -43,7 +43,7 @@ impl Watch {
         if seconds == 0 {
             return None;
         }
-        Some(Watch {
+        Some(SweepCursor {
             limit: Duration::from_secs(u64::from(seconds)),
             looked: None,
             at: 0,

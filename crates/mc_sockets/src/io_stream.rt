@@ -8,7 +8,7 @@ ghost use Rattle.std.specs.Io.{WritesAtMost};
 ghost use Rattle.std.specs.Io.KnownBytes.{WriteAppends};
 ghost use Rattle.mc_sockets.specs.IoStreams.{IsHindrance, IsReceived, IsSent};
 
-use crate::stream::{Hindrance, Received, Sent, Stream};
+use crate::stream::{NoBytes, Received, Sent, Stream};
 use mio::net::TcpStream;
 use std::io::{self, ErrorKind, IoSlice, Read, Write};
 
@@ -124,14 +124,14 @@ fn sent_from(answer: io::Result<usize>) -> Sent
 }
 
 /// Returns what hindered a call that the system answered with this error.
-fn hindrance_of(error: &io::Error) -> Hindrance
+fn hindrance_of(error: &io::Error) -> NoBytes
     ensures { IsHindrance error.now result }
 {
     if error.kind() == ErrorKind::WouldBlock {
-        return Hindrance::WouldBlock;
+        return NoBytes::WouldBlock;
     }
     if error.kind() == ErrorKind::Interrupted {
-        return Hindrance::Interrupted;
+        return NoBytes::Interrupted;
     }
-    Hindrance::Fault
+    NoBytes::Fault
 }

@@ -4,7 +4,7 @@ ghost use Rattle.std.specs.Prelude.{◌≡◌, ◌⊎◌, ℕ, true};
 ghost use Rattle.mc_time.specs.Chains.{Repeats};
 ghost use Rattle.mc_sockets.specs.declared.readiness.Readiness.{Readiness};
 ghost use Rattle.mc_sockets.specs.declared.readiness.Report.{Report};
-ghost use Rattle.mc_sockets.specs.declared.stream.Hindrance.TheVariants.{WouldBlock};
+ghost use Rattle.mc_sockets.specs.declared.stream.NoBytes.TheVariants.{WouldBlock};
 ghost use Rattle.mc_sockets.specs.declared.stream.Received.TheVariants as received;
 ghost use Rattle.mc_sockets.specs.Readiness.{Happening, Read, Reported, after, names};
 ghost use Rattle.mc_sockets.specs.Wakeups.{Watched, Step, MissesNothing, IsCall};

@@ -3,7 +3,7 @@
 //! The way of a connection: it is accepted and counted (`accepting.rt`, `connection.rt`), dealt to
 //! a worker (`arrivals.rt`), and made a link (`links.rt`, `link.rt`). A [`Channel`] owns it from
 //! then on (`channel.rt`), over a [`Stream`] that never blocks (`stream.rt`, `io_stream.rt`). The
-//! poll is asked for its events (`registering.rt`), which wake its guest (`seats.rt`, `place.rt`,
+//! poll is asked for its events (`registering.rt`), which wake its guest (`link_table.rt`, `link_record.rt`,
 //! `idle.rt`). Output that isn't sent when its session ends is sent later, and input is dropped
 //! (`yard.rt`, `dropping.rt`). `closing.rt` is how all of it ends when it is asked to, `phase.rt`
 //! how far that is.
@@ -39,17 +39,17 @@ mod io_stream;
 mod laws;
 mod lines;
 mod link;
+mod link_record;
+mod link_table;
 mod links;
 mod log;
 mod meter;
 mod opening;
 mod phase;
-mod place;
 mod readiness;
 mod registering;
 mod remedy;
 mod screen;
-mod seats;
 mod shortage;
 mod stream;
 mod warning;
@@ -59,19 +59,19 @@ pub use accepting::{accept_all, accept_beside};
 pub use arrivals::{Arrivals, Inbox, Share};
 pub use channel::{Channel, SocketChannel};
 pub use closing::ClosingLinks;
-pub use connection::{Connection, Crowd, PARTINGS, Parting, Registration};
+pub use connection::{CloseReason, Connection, ConnectionLimit, PARTINGS, Registration};
 pub use header::HeaderPart;
-pub use idle::Watch;
+pub use idle::SweepCursor;
 pub use io_stream::{Duplex, IoStream};
 pub use laws::no_wake_up_is_lost;
-pub use lines::{Lines, LogLine, WaitingLine};
+pub use lines::{LogLine, LogQueue, WaitingLine};
 pub use link::SocketLink;
 pub use links::{EVENTS, Poller, SocketLinks, WAKER};
 pub use log::Log;
 pub use meter::{Meter, SharedMeter};
-pub use opening::{Judged, Opening, Part, Protocol};
+pub use opening::{Opening, Part, PieceOpening, Protocol};
 pub use readiness::{Readiness, ReadinessCell, Report, SharedReadiness};
 pub use screen::{Peer, Reads, Screen};
-pub use shortage::{Refusals, Wanted};
-pub use stream::{Hindrance, Received, Sent, Stream};
+pub use shortage::{ShortageTally, Wanted};
+pub use stream::{NoBytes, Received, Sent, Stream};
 pub use warning::Warning;

@@ -4,7 +4,7 @@
 //! `Wait`, and a connection logs its end in a drop, which has none. A line without a place is
 //! dropped and counted.
 
-use crate::connection::Parting;
+use crate::connection::CloseReason;
 use crate::warning::Warning;
 use std::alloc::{AllocError, Global};
 use std::net::SocketAddr;
@@ -15,7 +15,7 @@ use std::sync::atomic::{AtomicBool, AtomicU64, Ordering};
 #[derive(Clone, Copy)]
 pub enum LogLine {
     Opened { number: u64, peer: SocketAddr },
-    Closed { number: u64, parting: Parting },
+    Closed { number: u64, parting: CloseReason },
     Warned(Warning),
 }
 
@@ -74,7 +74,7 @@ impl Slot {
 /// A thread that finds the queue full drops its line. So there are at most as many turns in
 /// progress as slots, those after the last line written, and no two of them have the same slot.
 #[derive(Drop)]
-pub struct Lines {
+pub struct LogQueue {
     slots: Vec<Slot>,
     /// The places that are taken or being searched.
     taken: AtomicU64,
@@ -84,16 +84,16 @@ pub struct Lines {
     dropped: AtomicU64,
 }
 
-impl Lines {
+impl LogQueue {
     /// Makes a queue with `most` places. The only error is a refused allocation.
-    pub fn new(alloc: Global, most: usize) -> Result<Lines, AllocError> {
+    pub fn new(alloc: Global, most: usize) -> Result<LogQueue, AllocError> {
         let mut slots = Vec::with_capacity(alloc, most)?;
         for _place in 0..most {
             if slots.push(Slot::new()).is_err() {
                 return Err(AllocError);
             }
         }
-        Ok(Lines {
+        Ok(LogQueue {
             slots,
             taken: AtomicU64::new(0),
             dealt: AtomicU64::new(0),

@@ -4,19 +4,19 @@
 //! when, is unspecified.
 ghost use Rattle.std.specs.Prelude.{◌≡◌, [], length, None, Some, IfSome, IfNone, IsTrue, IsFalse, ⊤};
 ghost use Rattle.std.specs.Duration.{as_nanos};
-ghost use Rattle.mc_sockets.specs.Watches.{ticked_after, ticks_after, ticks_in};
-ghost use Rattle.mc_sockets.specs.declared.connection.Parting.{Parting as Reason};
+ghost use Rattle.mc_sockets.specs.SweepCursors.{ticked_after, ticks_after, ticks_in};
+ghost use Rattle.mc_sockets.specs.declared.connection.CloseReason.{CloseReason as Reason};
 
 use crate::arrivals::{Arrivals, Share};
 use crate::channel::Channel;
-use crate::connection::{Connection, Parting};
-use crate::idle::Watch;
+use crate::connection::{CloseReason, Connection};
+use crate::idle::SweepCursor;
 use crate::io_stream::IoStream;
 use crate::link::SocketLink;
+use crate::link_table::{LinkTable, Rests, SweepAction};
 use crate::meter::SharedMeter;
 use crate::readiness::{Readiness, SharedReadiness};
 use crate::registering::register_at;
-use crate::seats::{Patrol, Rests, Seats};
 use crate::yard::SocketYard;
 use mc_links::{Links, Next};
 use mc_metrics::Counters;
@@ -118,15 +118,15 @@ pub struct SocketLinks<'a, R: Wait + Clock> {
     share: Share,
     poller: Poller,
     /// The records of the links, and those to be named.
-    seats: Seats<SharedReadiness>,
+    seats: LinkTable<SharedReadiness>,
     /// What the links share; `None` before the first link.
     common: Option<LinkContext>,
     /// Whether the last call for a link returned one.
     gave: bool,
     /// Finds idle connections; `None` without an idle timeout.
-    watch: Option<Watch>,
+    watch: Option<SweepCursor>,
     /// The reason for which idle connections are closed.
-    quiet: Parting,
+    quiet: CloseReason,
     /// The time in ticks of 0.25 s.
     ticks: u64,
     /// When a tick was last counted.
@@ -134,15 +134,15 @@ pub struct SocketLinks<'a, R: Wait + Clock> {
     /// When the last poll returned.
     polled: Option<Instant>,
     /// Finds connections that are to be tried again.
-    unheard: Option<Watch>,
+    unheard: Option<SweepCursor>,
     counts: Arc<Counters>,
 }
 
 impl<'a, R: Wait + Clock> SocketLinks<'a, R> {
     ghost use Rattle.mio.specs.Events.{items, capacity};
-    ghost use Rattle.mc_sockets.specs.Seats.{AreHeard, AsksUnheard, ByWatch, EndsAll, HandsOut};
-    ghost use Rattle.mc_sockets.specs.Seats.{Hears, LooksAround, LooksInTurn};
-    ghost use Rattle.mc_sockets.specs.Watches.{IfAllHeard};
+    ghost use Rattle.mc_sockets.specs.LinkTables.{AreHeard, AsksUnheard, ByWatch, EndsAll, HandsOut};
+    ghost use Rattle.mc_sockets.specs.LinkTables.{Hears, LooksAround, LooksInTurn};
+    ghost use Rattle.mc_sockets.specs.SweepCursors.{IfAllHeard};
 
     /// Returns links without a connection, which count what they move. It takes no memory.
     pub fn new(
@@ -159,30 +159,30 @@ impl<'a, R: Wait + Clock> SocketLinks<'a, R> {
             arrivals,
             share,
             poller,
-            seats: Seats::new(alloc),
+            seats: LinkTable::new(alloc),
             common: None,
             gave: false,
             watch: None,
-            quiet: Parting::Idle,
+            quiet: CloseReason::Idle,
             ticks: 0,
             ticked: None,
             polled: None,
-            unheard: Watch::new(UNHEARD),
+            unheard: SweepCursor::new(UNHEARD),
             counts,
         }
     }
 
     /// Closes connections that were idle for `seconds`. 0 disables it.
     pub fn close_idle(&mut self, seconds: u32) {
-        self.watch = Watch::new(seconds);
+        self.watch = SweepCursor::new(seconds);
     }
 
     /// Closes connections that were idle for `seconds`, because the program was asked to end.
     pub fn stop_idle(&mut self, seconds: u32)
         ensures { self.new ≡ record self.old { watch = self.new.watch; quiet = Reason.Stopped } }
     {
-        self.watch = Watch::new(seconds);
-        self.quiet = Parting::Stopped;
+        self.watch = SweepCursor::new(seconds);
+        self.quiet = CloseReason::Stopped;
     }
 
     /// Polls the system for events, and waits at most `timeout` for the first.
@@ -283,7 +283,7 @@ impl<'a, R: Wait + Clock> SocketLinks<'a, R> {
     /// Closes connections in turn that were idle for too long before the last poll.
     fn end_idle(&mut self, before: Instant, now: Instant)
         ensures looks { ByWatch (LooksInTurn (λ _. None) (λ _ _ _. ⊤)
-            (Patrol.EndIdle self.old.quiet) before now) self.old.watch self.new.watch
+            (SweepAction.EndIdle self.old.quiet) before now) self.old.watch self.new.watch
             self.old.seats self.new.seats self.old.common self.new.common }
         ensures same { self.new ≡ record self.old {
           watch = self.new.watch;
@@ -292,7 +292,7 @@ impl<'a, R: Wait + Clock> SocketLinks<'a, R> {
         } }
     {
         if let Some(watch) = &mut self.watch {
-            let patrol = Patrol::EndIdle(self.quiet);
+            let patrol = SweepAction::EndIdle(self.quiet);
             self.seats
                 .look_in_turn(watch, patrol, before, now, &mut self.common);
         }
@@ -311,7 +311,7 @@ impl<'a, R: Wait + Clock> SocketLinks<'a, R> {
           common = self.new.common;
         } }
     {
-        let patrol = Patrol::AskUnheard(Duration::from_secs(LINGER));
+        let patrol = SweepAction::AskUnheard(Duration::from_secs(LINGER));
         if let Some(watch) = &mut self.unheard {
             self.seats
                 .look_in_turn(watch, patrol, before, now, &mut self.common);
@@ -343,7 +343,7 @@ impl<'a, R: Wait + Clock> SocketLinks<'a, R> {
         let at = self.settle(&yard, readiness.clone().ok()?)?;
         let registered = register_at(self.poller.poll.registry(), &mut connection.stream, at);
         if registered.is_ok() {
-            connection.entry.note(Parting::SessionOver);
+            connection.entry.note(CloseReason::SessionOver);
         }
         if registered.is_err() {
             // it is closed at once, as no event of it would be reported
@@ -402,9 +402,9 @@ impl<'a, R: Wait + Clock> SocketLinks<'a, R> {
             return Next::Later;
         }
         let parting = if self.arrivals.is_over_as_asked() {
-            Parting::Stopped
+            CloseReason::Stopped
         } else {
-            Parting::ListenerFailed
+            CloseReason::ListenerFailed
         };
         self.seats.end_all(parting);
         Next::Closed
@@ -426,7 +426,7 @@ fn ticks_in(time: Duration) -> u64
 }
 
 impl<'a, R: Wait + Clock> Links<SocketLink> for SocketLinks<'a, R> {
-    ghost use Rattle.mc_sockets.specs.Seats.{CountsNext, HappensToLink, Names};
+    ghost use Rattle.mc_sockets.specs.LinkTables.{CountsNext, HappensToLink, Names};
     ghost use Rattle.mc_sockets.specs.Readiness.{AskedAgain, Ended};
 
     fn next(&mut self) -> Next<SocketLink>
@@ -464,7 +464,7 @@ impl<'a, R: Wait + Clock> Links<SocketLink> for SocketLinks<'a, R> {
         ensures { HappensToLink (λ _. None) (Ended Reason.Hoarding) number self.old.seats
             self.new.seats }
     {
-        self.seats.end(number, Parting::Hoarding);
+        self.seats.end(number, CloseReason::Hoarding);
     }
 
     fn ticks(&mut self) -> u64

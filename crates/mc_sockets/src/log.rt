@@ -1,6 +1,6 @@
 //! Lines for standard error, on their way to the thread that writes them.
 
-use crate::lines::{Lines, LogLine, WaitingLine};
+use crate::lines::{LogLine, LogQueue, WaitingLine};
 use crate::shortage::{Shortage, Wanted};
 use crate::warning::{Warning, Warnings};
 use mc_protocol::KeyStep;
@@ -21,7 +21,7 @@ const FEW: usize = 16;
 /// Only that thread waits if standard error blocks.
 #[derive(Drop)]
 pub struct Log {
-    lines: Lines,
+    lines: LogQueue,
     /// Whether the connections that open and close are logged.
     tells_connections: bool,
     shortage: Shortage,
@@ -43,7 +43,7 @@ impl Log {
         tells_connections: bool,
     ) -> Result<Arc<Log>, AllocError> {
         let log = Log {
-            lines: Lines::new(alloc, if tells_connections { MOST } else { FEW })?,
+            lines: LogQueue::new(alloc, if tells_connections { MOST } else { FEW })?,
             tells_connections,
             shortage: Shortage::new(),
             warnings: Warnings::new(Instant::now(rt).ok()),

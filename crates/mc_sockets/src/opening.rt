@@ -50,7 +50,7 @@ pub enum Opening {
 
 /// What is known behind a piece of more bytes.
 #[derive(Clone, Copy)]
-pub enum Judged {
+pub enum PieceOpening {
     /// They may be those of another protocol.
     Open(Part),
     /// They are of no other protocol that is known here.
@@ -87,18 +87,18 @@ impl Part {
     }
 
     /// Judges a piece of more bytes.
-    pub fn judge(self, bytes: &[u8]) -> Judged
+    pub fn judge(self, bytes: &[u8]) -> PieceOpening
         ensures { Judges self bytes.now result }
     {
         let mut part = self;
         for at in 0..bytes.len() {
             match part.after(bytes[at]) {
                 Opening::Open(next) => part = next,
-                Opening::Settled => return Judged::Settled,
-                Opening::Other(protocol) => return Judged::Other(protocol, at + 1),
+                Opening::Settled => return PieceOpening::Settled,
+                Opening::Other(protocol) => return PieceOpening::Other(protocol, at + 1),
             }
         }
-        Judged::Open(part)
+        PieceOpening::Open(part)
     }
 }
 

@@ -9,11 +9,11 @@
 //! change for which a link waits is reported.
 ghost use Rattle.std.specs.Prelude.{◌≡◌, true};
 ghost use Rattle.mc_sockets.specs.Readiness.{after, going, report_of, takes_all};
-ghost use Rattle.mc_sockets.specs.Places.{waits_for_client};
+ghost use Rattle.mc_sockets.specs.LinkRecords.{waits_for_client};
 ghost use Rattle.mc_sockets.specs.Readiness.{Read, Wrote, Paused, Reported, AskedAgain, Ended};
 
-use crate::connection::Parting;
-use crate::stream::{Hindrance, Received, Sent};
+use crate::connection::CloseReason;
+use crate::stream::{NoBytes, Received, Sent};
 use mio::event::Event;
 use std::cell::Cell;
 use std::rc::Rc;
@@ -42,7 +42,7 @@ pub struct Readiness {
     /// The time for its client to read its last answers is over.
     pub has_lingered: bool,
     /// The reason for which it is to be closed.
-    pub ends: Option<Parting>,
+    pub ends: Option<CloseReason>,
 }
 
 /// What an event reports of a connection.
@@ -110,7 +110,7 @@ impl Readiness {
                 waits: false,
                 ..self
             },
-            Received::Hindered(Hindrance::WouldBlock) => Readiness {
+            Received::Hindered(NoBytes::WouldBlock) => Readiness {
                 reads: false,
                 waits: true,
                 is_fresh: true,
@@ -137,7 +137,7 @@ impl Readiness {
                 waits: false,
                 ..self
             },
-            Sent::Hindered(Hindrance::WouldBlock) => {
+            Sent::Hindered(NoBytes::WouldBlock) => {
                 let waits = self.ends.is_none();
                 Readiness {
                     writes: false,
@@ -210,7 +210,7 @@ impl Readiness {
     }
 
     /// Returns what is known once it is to be closed for this reason.
-    pub fn ending(self, parting: Parting) -> Readiness
+    pub fn ending(self, parting: CloseReason) -> Readiness
         ensures { result ≡ after self (Ended parting) }
     {
         Readiness {

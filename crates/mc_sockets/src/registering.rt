@@ -5,7 +5,7 @@
 ghost use Rattle.std.specs.Prelude.{◌<◌, ◌-◌, ◌^◌};
 ghost use Rattle.mc_sockets.specs.Registering.{AsksAll};
 
-use crate::seats::token_of;
+use crate::link_table::token_of;
 use mio::net::TcpStream;
 use mio::{Interest, Registry, Token};
 use std::io;

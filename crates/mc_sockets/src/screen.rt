@@ -10,7 +10,7 @@
 //! proved for any link.
 ghost use Rattle.std.specs.Prelude.{◌≡◌, ◌^◌, ◌-◌, ◌++◌, ◌≤◌, length, Ok, IfSome, Some, []};
 
-use crate::opening::{Judged, Opening, Part, Protocol};
+use crate::opening::{Opening, Part, PieceOpening, Protocol};
 use mc_links::{Got, Link, LinkFault, Took};
 
 /// A link that can be closed as that of another protocol's peer.
@@ -104,22 +104,22 @@ impl<L: Peer + Drop> Screen<L> {
         };
         let (read, _) = piece.split_at(count);
         match part.judge(read) {
-            Judged::Open(part) => {
+            PieceOpening::Open(part) => {
                 self.opening = Opening::Open(part);
                 Got::Bytes(count)
             }
-            Judged::Settled => {
+            PieceOpening::Settled => {
                 self.opening = Opening::Settled;
                 Got::Bytes(count)
             }
-            Judged::Other(protocol, shown) => self.end_at(protocol, count, shown),
+            PieceOpening::Other(protocol, shown) => self.end_at(protocol, count, shown),
         }
     }
 
     /// Ends at the first bytes of a piece of `count` bytes, which show another protocol.
     fn end_at(&mut self, protocol: Protocol, count: usize, shown: usize) -> Got
         requires { shown ≤ count }
-        ensures handed { IsHanded (Judged.Other protocol shown) count result self.new.opening
+        ensures handed { IsHanded (PieceOpening.Other protocol shown) count result self.new.opening
             self.old.reads self.new.reads }
         ensures same { L.shown self.new.link ≡ L.shown self.old.link }
     {

@@ -96,18 +96,18 @@ impl Shortage {
 
 /// A tally that wakes the logger at the first step that is refused for want of a chunk.
 #[derive(Clone, Copy)]
-pub struct Refusals<'a> {
+pub struct ShortageTally<'a> {
     log: &'a Log,
 }
 
-impl<'a> Refusals<'a> {
+impl<'a> ShortageTally<'a> {
     /// Returns a tally that reports to this log.
-    pub fn new(log: &'a Log) -> Refusals<'a> {
-        Refusals { log }
+    pub fn new(log: &'a Log) -> ShortageTally<'a> {
+        ShortageTally { log }
     }
 }
 
-impl Tally for Refusals<'_> {
+impl Tally for ShortageTally<'_> {
     fn took(&self, step: &KeyStep<'_>, outcome: Outcome) {
         if let Outcome::NoChunk = outcome {
             self.log.note_refused(step);

@@ -11,7 +11,7 @@ const INTERRUPTIONS: u32 = 1000;
 
 /// Why a call moved no bytes.
 #[derive(Clone, Copy)]
-pub enum Hindrance {
+pub enum NoBytes {
     /// Nothing is there to be read, or nothing can be taken, now.
     WouldBlock,
     /// A signal interrupted the call.
@@ -27,7 +27,7 @@ pub enum Received {
     Bytes(usize),
     /// Nothing more comes.
     End,
-    Hindered(Hindrance),
+    Hindered(NoBytes),
 }
 
 /// The answer to a write.
@@ -35,17 +35,17 @@ pub enum Received {
 pub enum Sent {
     /// This many bytes, from the first on.
     Bytes(usize),
-    Hindered(Hindrance),
+    Hindered(NoBytes),
 }
 
 impl Received {
     /// Returns whether a signal interrupted the read.
     fn is_interrupted(self) -> bool
-        ensures { IsTrue result ↔ (self ≡ Received.Hindered Hindrance.Interrupted) }
+        ensures { IsTrue result ↔ (self ≡ Received.Hindered NoBytes.Interrupted) }
     {
         match self {
-            Received::Hindered(Hindrance::Interrupted) => true,
-            Received::Hindered(Hindrance::WouldBlock | Hindrance::Fault) => false,
+            Received::Hindered(NoBytes::Interrupted) => true,
+            Received::Hindered(NoBytes::WouldBlock | NoBytes::Fault) => false,
             Received::Bytes(_) | Received::End => false,
         }
     }
@@ -54,11 +54,11 @@ impl Received {
 impl Sent {
     /// Returns whether a signal interrupted the write.
     fn is_interrupted(self) -> bool
-        ensures { IsTrue result ↔ (self ≡ Sent.Hindered Hindrance.Interrupted) }
+        ensures { IsTrue result ↔ (self ≡ Sent.Hindered NoBytes.Interrupted) }
     {
         match self {
-            Sent::Hindered(Hindrance::Interrupted) => true,
-            Sent::Hindered(Hindrance::WouldBlock | Hindrance::Fault) => false,
+            Sent::Hindered(NoBytes::Interrupted) => true,
+            Sent::Hindered(NoBytes::WouldBlock | NoBytes::Fault) => false,
             Sent::Bytes(_) => false,
         }
     }

@@ -14,9 +14,9 @@ use Rattle.mc_metrics.specs.declared.reading.SlabFigure.{SlabFigure}
 use Rattle.mc_metrics.specs.declared.reading.SlabFigure.TheVariants as slab
 use Rattle.mc_metrics.specs.declared.reading.ProcessFigure.{ProcessFigure}
 use Rattle.mc_metrics.specs.declared.reading.ProcessFigure.TheVariants as process
-use Rattle.mc_sockets.specs.declared.connection.Parting.{Parting}
-use Rattle.mc_sockets.specs.declared.connection.Parting.TheVariants as parting
-use Rattle.mc_sockets.specs.Partings.{parting_place}
+use Rattle.mc_sockets.specs.declared.connection.CloseReason.{CloseReason}
+use Rattle.mc_sockets.specs.declared.connection.CloseReason.TheVariants as parting
+use Rattle.mc_sockets.specs.CloseReasons.{parting_place}
 use Rattle.mc_telemetry.specs.Labels.{commands_name, labels_of}
 
 -- the name of a counter that stands alone; the others stand among those of commands
@@ -96,7 +96,7 @@ process_name process.OpenFds = codes "process_open_fds"
 process_name process.MostFds = codes "process_max_fds"
 
 -- the label of a reason of a close
-abbrev pub reason_of : Parting → List ℕ
+abbrev pub reason_of : CloseReason → List ℕ
 reason_of parting.OneTooMany = codes "one_too_many"
 reason_of parting.NoDescriptor = codes "no_descriptor"
 reason_of parting.NoRoom = codes "no_memory"
@@ -113,14 +113,14 @@ reason_of parting.OutOfMemory = codes "out_of_memory"
 reason_of parting.OtherProtocol = codes "other_protocol"
 
 -- all reasons
-abbrev pub partings : List Parting
+abbrev pub partings : List CloseReason
 partings =
     parting.OneTooMany ∷ parting.NoDescriptor ∷ parting.NoRoom ∷ parting.Ended ∷ parting.ReadFault
     ∷ parting.WriteFault ∷ parting.SessionOver ∷ parting.Idle ∷ parting.ListenerFailed ∷ parting.Hoarding
     ∷ parting.LineTooLong ∷ parting.Stopped ∷ parting.OutOfMemory ∷ parting.OtherProtocol ∷ []
 
 -- the label of the reason with this place
-abbrev pub reason_at : (place : ℕ) → List Parting → List ℕ
+abbrev pub reason_at : (place : ℕ) → List CloseReason → List ℕ
 reason_at place [] = []
 reason_at place (ended ∷ others) = if parting_place ended == place then reason_of ended else reason_at place others
 

@@ -6,7 +6,7 @@ use Figure::{Closed, Count};
 use Kind::{Counter, Gauge};
 use Samples::{Each, Hundredths, Numbers, One, Process, Refused, Slabs};
 use mc_metrics::{Counted, Family, Figure, Kind, ProcessFigure, Samples, SlabFigure};
-use mc_sockets::Parting;
+use mc_sockets::CloseReason;
 
 /// The program's own version, as `--version` prints it.
 const VERSION: &[(&str, Figure)] = &[(r#"{version="0.9.0"}"#, Figure::One)];
@@ -46,47 +46,56 @@ const COMMANDS: &[(&str, Figure)] = &[
 const REASONS: &[(&str, Figure)] = &[
     (
         r#"{reason="client_closed"}"#,
-        Closed(Parting::Ended as usize),
+        Closed(CloseReason::Ended as usize),
     ),
     (
         r#"{reason="session_over"}"#,
-        Closed(Parting::SessionOver as usize),
+        Closed(CloseReason::SessionOver as usize),
     ),
-    (r#"{reason="idle"}"#, Closed(Parting::Idle as usize)),
+    (r#"{reason="idle"}"#, Closed(CloseReason::Idle as usize)),
     (
         r#"{reason="read_fault"}"#,
-        Closed(Parting::ReadFault as usize),
+        Closed(CloseReason::ReadFault as usize),
     ),
     (
         r#"{reason="write_fault"}"#,
-        Closed(Parting::WriteFault as usize),
+        Closed(CloseReason::WriteFault as usize),
     ),
     (
         r#"{reason="one_too_many"}"#,
-        Closed(Parting::OneTooMany as usize),
+        Closed(CloseReason::OneTooMany as usize),
     ),
     (
         r#"{reason="no_descriptor"}"#,
-        Closed(Parting::NoDescriptor as usize),
+        Closed(CloseReason::NoDescriptor as usize),
     ),
-    (r#"{reason="no_memory"}"#, Closed(Parting::NoRoom as usize)),
+    (
+        r#"{reason="no_memory"}"#,
+        Closed(CloseReason::NoRoom as usize),
+    ),
     (
         r#"{reason="listener_failed"}"#,
-        Closed(Parting::ListenerFailed as usize),
+        Closed(CloseReason::ListenerFailed as usize),
     ),
-    (r#"{reason="hoarding"}"#, Closed(Parting::Hoarding as usize)),
+    (
+        r#"{reason="hoarding"}"#,
+        Closed(CloseReason::Hoarding as usize),
+    ),
     (
         r#"{reason="line_too_long"}"#,
-        Closed(Parting::LineTooLong as usize),
+        Closed(CloseReason::LineTooLong as usize),
     ),
-    (r#"{reason="stopped"}"#, Closed(Parting::Stopped as usize)),
+    (
+        r#"{reason="stopped"}"#,
+        Closed(CloseReason::Stopped as usize),
+    ),
     (
         r#"{reason="out_of_memory"}"#,
-        Closed(Parting::OutOfMemory as usize),
+        Closed(CloseReason::OutOfMemory as usize),
     ),
     (
         r#"{reason="other_protocol"}"#,
-        Closed(Parting::OtherProtocol as usize),
+        Closed(CloseReason::OtherProtocol as usize),
     ),
 ];
 
@@ -138,7 +147,7 @@ pub const FAMILIES: [Family; 44] = [
         Counter,
         "memcached_connections_rejected_total",
         "Connections closed because -c was reached.",
-        One(Closed(Parting::OneTooMany as usize)),
+        One(Closed(CloseReason::OneTooMany as usize)),
     ),
     Family(
         Gauge,

@@ -7,7 +7,7 @@ use mc_metrics::{
     SettingsReading, SlabReading,
 };
 use mc_sizes::{PAGE_SIZE, class_of};
-use mc_sockets::{Crowd, PARTINGS};
+use mc_sockets::{ConnectionLimit, PARTINGS};
 use std::alloc::{AllocError, AllocGlobal, Global};
 use std::fs::Files;
 use std::sync::{Arc, Wait};
@@ -23,7 +23,7 @@ const CLASSES: usize = 64;
 #[derive(Drop)]
 pub struct Observer {
     /// The connections of the server.
-    pub crowd: Arc<Crowd>,
+    pub crowd: Arc<ConnectionLimit>,
     /// The counters of each worker.
     pub counts: Vec<Arc<Counters>>,
     /// The number of pages that items may take.

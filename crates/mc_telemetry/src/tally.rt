@@ -8,7 +8,7 @@ use mc_links::{Outcome, Tally};
 use mc_metrics::{Counted, Counters};
 use mc_protocol::KeyStep;
 use mc_sizes::need_of;
-use mc_sockets::{Refusals, Wanted};
+use mc_sockets::{ShortageTally, Wanted};
 
 /// Counts a worker's steps and what its connections hold, and notes in the log each step that is
 /// refused for want of a chunk.
@@ -17,7 +17,7 @@ pub struct WorkerTally<'a> {
     /// The counters of the worker.
     pub counts: &'a Counters,
     /// Where refused steps are noted.
-    pub refusals: Refusals<'a>,
+    pub refusals: ShortageTally<'a>,
 }
 
 impl Tally for WorkerTally<'_> {

@@ -1,6 +1,6 @@
 //! How many places are looked at, and which.
 
-use mc_sockets::Watch;
+use mc_sockets::SweepCursor;
 use std::test::Fail;
 use std::time::{Duration, Instant};
 
@@ -19,7 +19,7 @@ const LOOKS: [(u64, usize, usize); 9] = [
 
 #[test]
 fn looks_at_each_place_once_a_second(rt: HostRuntime) -> Result<(), Fail> {
-    let Some(mut watch) = Watch::new(1) else {
+    let Some(mut watch) = SweepCursor::new(1) else {
         return Err(Fail::new("nothing is looked at"));
     };
     let start = Instant::now(&rt)?;
@@ -34,7 +34,7 @@ fn looks_at_each_place_once_a_second(rt: HostRuntime) -> Result<(), Fail> {
 
 #[test]
 fn looks_at_one_place_after_another(rt: HostRuntime) -> Result<(), Fail> {
-    let Some(mut watch) = Watch::new(1) else {
+    let Some(mut watch) = SweepCursor::new(1) else {
         return Err(Fail::new("nothing is looked at"));
     };
     for (places, turn) in [(3, 0), (3, 1), (3, 2), (3, 0), (3, 1), (2, 0), (4, 1)] {
@@ -45,6 +45,6 @@ fn looks_at_one_place_after_another(rt: HostRuntime) -> Result<(), Fail> {
 
 #[test]
 fn looks_at_nothing_with_no_limit(rt: HostRuntime) -> Result<(), Fail> {
-    assert!(rt; Watch::new(0).is_none());
+    assert!(rt; SweepCursor::new(0).is_none());
     Ok(())
 }

@@ -1,11 +1,11 @@
 //! Which lines wait, and how many are counted as dropped.
 
-use mc_sockets::{Lines, LogLine, Parting, WaitingLine};
+use mc_sockets::{CloseReason, LogLine, LogQueue, WaitingLine};
 use std::test::*;
 
 /// Appends a line of the connection with this number.
-fn push(lines: &Lines, number: u64) {
-    let parting = Parting::Ended;
+fn push(lines: &LogQueue, number: u64) {
+    let parting = CloseReason::Ended;
     lines.push(LogLine::Closed { number, parting });
 }
 
@@ -20,7 +20,7 @@ fn told(waiting: Option<WaitingLine>) -> Option<(u64, u64)> {
 
 #[test]
 fn lines_without_a_place_are_counted(rt: HostRuntime) -> Result<(), Fail> {
-    let lines = Lines::new(rt.alloc(), 2)?;
+    let lines = LogQueue::new(rt.alloc(), 2)?;
     for number in 0..5 {
         push(&lines, number);
     }

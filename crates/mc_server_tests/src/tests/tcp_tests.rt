@@ -6,7 +6,8 @@ use mc_host::bind_listener;
 use mc_metrics::Counters;
 use mc_shared::Shared;
 use mc_sockets::{
-    Arrivals, ClosingLinks, Connection, Crowd, EVENTS, Inbox, Poller, Share, SocketLinks, WAKER,
+    Arrivals, ClosingLinks, Connection, ConnectionLimit, EVENTS, Inbox, Poller, Share, SocketLinks,
+    WAKER,
 };
 use mc_time::{Fixed, Moment};
 use mc_workers::{NoGate, work};
@@ -35,7 +36,7 @@ where
     let mut inboxes = Vec::new(alloc);
     inboxes.push(Inbox::new(alloc, Waker::new(poll.registry(), WAKER)?)?)?;
     let arrivals = Arrivals::new(inboxes, Vec::new(alloc));
-    let crowd = Crowd::new(alloc, 1, None, None)?;
+    let crowd = ConnectionLimit::new(alloc, 1, None, None)?;
     let stream = Stream::from_std(stream);
     arrivals.deal(rt, Connection::new(crowd, stream, peer), 0);
     arrivals.end();

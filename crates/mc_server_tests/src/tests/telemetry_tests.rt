@@ -2,7 +2,7 @@
 
 use mc_metrics::{Counted, Counters, Figure, SettingsReading, TablesReading, number_at};
 use mc_slab::{Account, Class};
-use mc_sockets::{Crowd, PARTINGS};
+use mc_sockets::{ConnectionLimit, PARTINGS};
 use mc_telemetry::{Observer, StoreStats};
 use std::alloc::{AllocError, Global};
 use std::sync::{Arc, Wait};
@@ -52,7 +52,7 @@ fn observer_of_two(alloc: Global) -> Result<Observer, AllocError> {
         counts.push(worker)?;
     }
     Ok(Observer {
-        crowd: Crowd::new(alloc, 7, None, None)?,
+        crowd: ConnectionLimit::new(alloc, 7, None, None)?,
         counts,
         pages: 64,
         buffers: 4096,
@@ -100,7 +100,7 @@ fn a_scrape_adds_up_workers(rt: HostRuntime) -> Result<(), Fail> {
 fn a_scrape_has_the_classes_with_a_page(rt: HostRuntime) -> Result<(), Fail> {
     let alloc = rt.alloc();
     let observer = Observer {
-        crowd: Crowd::new(alloc, 1, None, None)?,
+        crowd: ConnectionLimit::new(alloc, 1, None, None)?,
         counts: Vec::new(alloc),
         pages: 1,
         buffers: 0,

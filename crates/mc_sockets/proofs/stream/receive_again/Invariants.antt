@@ -1,6 +1,6 @@
 use Rattle.std.proofs.Common.{◌≡◌}
 use Rattle.mc_sockets.specs.Streams.{AreInterrupted, into_some}
-use Rattle.mc_sockets.specs.declared.stream.Hindrance.TheVariants.{Interrupted}
+use Rattle.mc_sockets.specs.declared.stream.NoBytes.TheVariants.{Interrupted}
 use Rattle.mc_sockets.specs.declared.stream.Received.TheVariants.{Hindered}
 use Rattle.mc_sockets.proofs.stream.receive_again.Given as goal
 

@@ -1,6 +1,6 @@
 use Rattle.std.proofs.Common.{◌≡◌, ◌++◌}
 use Rattle.mc_sockets.specs.Streams.{AreInterrupted}
-use Rattle.mc_sockets.specs.declared.stream.Hindrance.TheVariants.{Interrupted}
+use Rattle.mc_sockets.specs.declared.stream.NoBytes.TheVariants.{Interrupted}
 use Rattle.mc_sockets.specs.declared.stream.Sent.TheVariants.{Hindered}
 use Rattle.mc_sockets.proofs.stream.send_again.Given as goal
 

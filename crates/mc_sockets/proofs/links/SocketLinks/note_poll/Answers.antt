@@ -1,7 +1,7 @@
 use Rattle.std.proofs.Common.{subst, rules, tests}
 use Rattle.std.specs.Prelude.{⊤, None}
 use Rattle.mio.specs.Events.{capacity}
-use Rattle.mc_sockets.specs.Seats.{LooksAround}
+use Rattle.mc_sockets.specs.LinkTables.{LooksAround}
 use Rattle.mc_sockets.proofs.PollLemmas.{all_heard}
 use Rattle.mc_sockets.proofs.links.SocketLinks.note_poll.Goals as goal
 

@@ -1,0 +1,10 @@
+use Rattle.std.proofs.Common.{refl, ◌∙◌}
+use Rattle.mc_sockets.proofs.SeatLemmas.{made_none, made_more}
+use Rattle.mc_sockets.proofs.link_table.LinkTable.end_all.Goals as goal
+
+pub loop-at-init : goal.loop-at-init
+loop-at-init g c = (made_none _ _, refl)
+
+pub loop-at-preserved : goal.loop-at-preserved
+loop-at-preserved g c =
+    (made_more _ _ _ _ _ c.loop-at.invariant.0 c.end_whose.ensures.ends, c.end_whose.ensures.given ∙ c.loop-at.invariant.1)

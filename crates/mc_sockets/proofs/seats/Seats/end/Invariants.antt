@@ -1,9 +1,0 @@
-use Rattle.mc_sockets.specs.Places.{HappensIf}
-use Rattle.mc_sockets.specs.Readiness.{Ended}
-use Rattle.mc_sockets.specs.Seats.{ActsAt, IsFull}
-use Rattle.mc_sockets.proofs.SeatLemmas.{MadeBefore}
-use Rattle.mc_sockets.proofs.seats.Seats.end.Given as goal
-
-abbrev pub invariant-loop-at : goal.invariant-loop-at
-invariant-loop-at g l =
-    MadeBefore (λ at mid. ActsAt (HappensIf g.F.ReadinessCell.known (Ended l.parting) l.number (IsFull mid)) at mid) l.at l.fn.self l.self

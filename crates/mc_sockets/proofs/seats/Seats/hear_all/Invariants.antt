@@ -1,9 +1,0 @@
-use Rattle.std.specs.Slice.Iter.{iter_rest}
-use Rattle.mio.specs.Events.{items}
-use Rattle.mc_sockets.specs.Seats.{Hears}
-use Rattle.mc_sockets.proofs.SeatLemmas.{HeardBut}
-use Rattle.mc_sockets.proofs.seats.Seats.hear_all.Given as goal
-
-abbrev pub invariant-loop-event : goal.invariant-loop-event
-invariant-loop-event g l =
-    HeardBut (Hears g.F.ReadinessCell.known g.R.Rests.sends) (iter_rest l.event-iterator) (items l.events) l.fn.self l.self l.fn.rests l.rests
