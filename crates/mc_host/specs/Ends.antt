@@ -1,11 +1,11 @@
 -- The exit status of the program, and what it writes to standard error at its end.
 use Rattle.std.specs.Prelude.{◌≡◌, ◌⊎◌, ℕ, Bool, true, List, slice_get, Option, Some, None, Ok, Err, codes}
 use Rattle.mc_protocol.specs.declared.serving.ServeFault.TheVariants as fault
-use Rattle.mc_host.specs.declared.end.Obstacle.{Obstacle}
-use Rattle.mc_host.specs.declared.end.Obstacle.TheVariants.{Taken, NotAllowed, NotHere, NoDescriptor, Other}
+use Rattle.mc_host.specs.declared.end.ListenFaultKind.{ListenFaultKind}
+use Rattle.mc_host.specs.declared.end.ListenFaultKind.TheVariants.{Taken, NotAllowed, NotHere, NoDescriptor, Other}
 use Rattle.mc_host.specs.declared.end.ListenFault.{ListenFault}
-use Rattle.mc_host.specs.declared.end.Denied.{Denied}
-use Rattle.mc_host.specs.declared.end.Denied.TheVariants as denied
+use Rattle.mc_host.specs.declared.end.QuitFaultKind.{QuitFaultKind}
+use Rattle.mc_host.specs.declared.end.QuitFaultKind.TheVariants as denied
 use Rattle.mc_options.specs.declared.endpoints.ListenAddress.{ListenAddress}
 use Rattle.mc_options.specs.declared.endpoints.Endpoints.{Endpoints}
 use Rattle.mc_host.specs.declared.end.End.{End}
@@ -49,7 +49,7 @@ text_of end.Accepted = codes ""
 text_of (end.Denied _) = codes "mcserver: --quit"
 
 -- why it can't listen
-abbrev pub reason_of : Obstacle → List ℕ
+abbrev pub reason_of : ListenFaultKind → List ℕ
 reason_of Taken = codes "something listens there already"
 reason_of NotAllowed = codes "the port isn't allowed to this user"
 reason_of NotHere = codes "the address isn't one of this machine"
@@ -57,7 +57,7 @@ reason_of NoDescriptor = codes "the system gives too few descriptors (ulimit -n)
 reason_of Other = codes "the system refuses it"
 
 -- why a server doesn't end
-abbrev pub denial_of : Denied → List ℕ
+abbrev pub denial_of : QuitFaultKind → List ℕ
 denial_of denied.Unreached = codes "nothing answers there"
 denial_of denied.Silent = codes "no answer came within 5 seconds"
 denial_of denied.Unoffered = codes "the server has no --allow-quit"
@@ -65,7 +65,7 @@ denial_of denied.Forbidden = codes "the server ends only for its own machine"
 denial_of denied.Refused = codes "the server doesn't accept it"
 
 -- an obstacle that has no kind of error in std
-abbrev pub IsUnnamed : Obstacle → Type 0
+abbrev pub IsUnnamed : ListenFaultKind → Type 0
 IsUnnamed NoDescriptor = Unit {0}
 IsUnnamed Other = Unit {0}
 IsUnnamed _ = ⊥

@@ -2,7 +2,7 @@
 ghost use Rattle.std.specs.Prelude.{◌≡◌, ◌+◌, length, IfOk, IfErr};
 ghost use Rattle.mc_host.specs.Ends.{EndsUnbound, EndsUnboundAt};
 
-use crate::end::{End, Obstacle};
+use crate::end::{End, ListenFaultKind};
 use mc_options::{Endpoints, ListenAddress};
 use std::alloc::{AllocError, Global};
 use std::io::{self, ErrorKind};
@@ -20,7 +20,7 @@ pub struct Listeners {
 #[derive(Drop)]
 pub enum Wanting {
     /// A descriptor.
-    Descriptor(Obstacle),
+    Descriptor(ListenFaultKind),
     Memory,
     Thread,
 }
@@ -30,7 +30,7 @@ impl From<io::Error> for Wanting {
         if error.kind() == ErrorKind::OutOfMemory {
             Wanting::Memory
         } else {
-            Wanting::Descriptor(Obstacle::of(&error))
+            Wanting::Descriptor(ListenFaultKind::of(&error))
         }
     }
 }

@@ -41,19 +41,19 @@ pub enum End {
     /// The server that was asked to end accepted.
     Accepted,
     /// The server that was asked to end didn't accept.
-    Denied(Denial),
+    Denied(QuitFault),
 }
 
 /// The endpoint at which it can't listen, and why.
 #[derive(Clone, Copy, Drop)]
 pub struct ListenFault {
     pub endpoint: ListenAddress,
-    pub why: Obstacle,
+    pub why: ListenFaultKind,
 }
 
 /// Why it can't listen.
 #[derive(Clone, Copy, Drop)]
-pub enum Obstacle {
+pub enum ListenFaultKind {
     /// Something listens there already.
     Taken,
     /// The port isn't allowed to this user.
@@ -68,15 +68,15 @@ pub enum Obstacle {
 
 /// The server that was asked to end and didn't accept, and why.
 #[derive(Clone, Copy, Drop)]
-pub struct Denial {
+pub struct QuitFault {
     /// Its port of metrics.
     pub endpoint: ListenAddress,
-    pub why: Denied,
+    pub why: QuitFaultKind,
 }
 
 /// Why a server doesn't end.
 #[derive(Clone, Copy, Drop)]
-pub enum Denied {
+pub enum QuitFaultKind {
     /// Nothing listens there, or nothing takes the request.
     Unreached,
     /// No answer came in time, or none that is whole.
@@ -89,7 +89,7 @@ pub enum Denied {
     Refused,
 }
 
-impl Denied {
+impl QuitFaultKind {
     ghost use Rattle.std.specs.Prelude.{◌≡◌};
     ghost use Rattle.mc_host.specs.Ends.{denial_of};
 
@@ -98,11 +98,11 @@ impl Denied {
         ensures { result.now ≡ denial_of self }
     {
         match self {
-            Denied::Unreached => "nothing answers there",
-            Denied::Silent => "no answer came within 5 seconds",
-            Denied::Unoffered => "the server has no --allow-quit",
-            Denied::Forbidden => "the server ends only for its own machine",
-            Denied::Refused => "the server doesn't accept it",
+            QuitFaultKind::Unreached => "nothing answers there",
+            QuitFaultKind::Silent => "no answer came within 5 seconds",
+            QuitFaultKind::Unoffered => "the server has no --allow-quit",
+            QuitFaultKind::Forbidden => "the server ends only for its own machine",
+            QuitFaultKind::Refused => "the server doesn't accept it",
         }
     }
 }
@@ -110,30 +110,30 @@ impl Denied {
 /// The system's errors for a missing descriptor: `ENFILE` and `EMFILE`.
 const NO_DESCRIPTOR: [i32; 2] = [23, 24];
 
-impl Obstacle {
+impl ListenFaultKind {
     ghost use Rattle.std.specs.Prelude.{◌≡◌, ◌≢◌};
     ghost use Rattle.std.specs.IoError.{error_kind};
     ghost use Rattle.std.specs.declared.io.ErrorKind.TheVariants as io_kind;
     ghost use Rattle.mc_host.specs.Ends.{reason_of, IsUnnamed};
 
     /// Returns the obstacle of a system error.
-    pub fn of(error: &io::Error) -> Obstacle
-        ensures taken { error_kind error.now ≡ io_kind.AddrInUse → result ≡ Obstacle.Taken }
+    pub fn of(error: &io::Error) -> ListenFaultKind
+        ensures taken { error_kind error.now ≡ io_kind.AddrInUse → result ≡ ListenFaultKind.Taken }
         ensures not_allowed { error_kind error.now ≡ io_kind.PermissionDenied
-            → result ≡ Obstacle.NotAllowed }
-        ensures not_here { error_kind error.now ≡ io_kind.AddrNotAvailable → result ≡ Obstacle.NotHere }
+            → result ≡ ListenFaultKind.NotAllowed }
+        ensures not_here { error_kind error.now ≡ io_kind.AddrNotAvailable → result ≡ ListenFaultKind.NotHere }
         ensures others { error_kind error.now ≢ io_kind.AddrInUse
             → error_kind error.now ≢ io_kind.PermissionDenied
             → error_kind error.now ≢ io_kind.AddrNotAvailable → IsUnnamed result }
     {
         if error.kind() == io::ErrorKind::AddrInUse {
-            return Obstacle::Taken;
+            return ListenFaultKind::Taken;
         }
         if error.kind() == io::ErrorKind::PermissionDenied {
-            return Obstacle::NotAllowed;
+            return ListenFaultKind::NotAllowed;
         }
         if error.kind() == io::ErrorKind::AddrNotAvailable {
-            return Obstacle::NotHere;
+            return ListenFaultKind::NotHere;
         }
         unnamed_obstacle(error)
     }
@@ -143,22 +143,22 @@ impl Obstacle {
         ensures { result.now ≡ reason_of self }
     {
         match self {
-            Obstacle::Taken => "something listens there already",
-            Obstacle::NotAllowed => "the port isn't allowed to this user",
-            Obstacle::NotHere => "the address isn't one of this machine",
-            Obstacle::NoDescriptor => "the system gives too few descriptors (ulimit -n)",
-            Obstacle::Other => "the system refuses it",
+            ListenFaultKind::Taken => "something listens there already",
+            ListenFaultKind::NotAllowed => "the port isn't allowed to this user",
+            ListenFaultKind::NotHere => "the address isn't one of this machine",
+            ListenFaultKind::NoDescriptor => "the system gives too few descriptors (ulimit -n)",
+            ListenFaultKind::Other => "the system refuses it",
         }
     }
 }
 
 /// Returns `NoDescriptor` for a missing descriptor, and `Other` for any other error.
-fn unnamed_obstacle(error: &io::Error) -> Obstacle
+fn unnamed_obstacle(error: &io::Error) -> ListenFaultKind
     ensures { IsUnnamed result }
 {
     match error.raw_os_error() {
-        Some(number) if NO_DESCRIPTOR.contains(&number) => Obstacle::NoDescriptor,
-        _ => Obstacle::Other,
+        Some(number) if NO_DESCRIPTOR.contains(&number) => ListenFaultKind::NoDescriptor,
+        _ => ListenFaultKind::Other,
     }
 }
 
@@ -192,7 +192,7 @@ impl End {
         }
         End::CannotListen(ListenFault {
             endpoint,
-            why: Obstacle::of(error),
+            why: ListenFaultKind::of(error),
         })
     }
 

@@ -6,7 +6,7 @@
 //! beside the table of ends; serving connections is in `mc_server`.
 //!
 //! An [`End`] is how the program ends, with its status and its text (`End::ending`). A [`ListenFault`]
-//! is the endpoint at which it can't listen, and the [`Obstacle`]. [`bound_all`] binds the
+//! is the endpoint at which it can't listen, and the [`ListenFaultKind`]. [`bound_all`] binds the
 //! [`Listeners`], one for each endpoint; [`bind_needed`] leaves out 0.0.0.0 if `::` at the same port
 //! accepts IPv4, too. [`sockets_of`] returns streams of them, whose shutdown
 //! wakes the threads that accept. [`look_for_descriptors`] checks that there are enough to begin
@@ -41,6 +41,6 @@ pub use covers::bind_needed;
 pub use descriptors::most_descriptors;
 pub use diagnostics::{Diagnostics, Level};
 pub use door::{ScrapeListener, open_door};
-pub use end::{Denial, Denied, End, ListenFault, Obstacle, ending};
+pub use end::{End, ListenFault, ListenFaultKind, QuitFault, QuitFaultKind, ending};
 pub use quit::{ask_server, ask_to_end};
 pub use stack::has_small_stack;

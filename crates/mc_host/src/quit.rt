@@ -3,7 +3,7 @@ ghost use Rattle.std.specs.Prelude.{◌≡◌, ◌≢◌, OnOk, OnErr, IfErr};
 ghost use Rattle.std.specs.Io.KnownBytes.{Appends, Consumes};
 ghost use Rattle.mc_host.specs.Quits.{quit_request, accepting_line, end_of_asking, EndsAsking, RefusesBy};
 
-use crate::end::{Denial, Denied, End};
+use crate::end::{End, QuitFault, QuitFaultKind};
 use mc_options::ListenAddress;
 use std::io::{self, ErrorKind, Read, Write};
 use std::net::{Net, OpenStream, SocketAddr, TcpStream};
@@ -30,26 +30,26 @@ pub fn ask_server<R: Net + Clock>(rt: &R, endpoint: ListenAddress) -> End
 }
 
 /// Returns how the program ends if the server at this endpoint answered so.
-fn end_of_asking(endpoint: ListenAddress, answer: Result<(), Denied>) -> End
+fn end_of_asking(endpoint: ListenAddress, answer: Result<(), QuitFaultKind>) -> End
     ensures { result ≡ end_of_asking endpoint answer }
 {
     match answer {
         Ok(()) => End::Accepted,
-        Err(why) => End::Denied(Denial { endpoint, why }),
+        Err(why) => End::Denied(QuitFault { endpoint, why }),
     }
 }
 
 /// Asks the server at this address to end.
-fn ask_at<R: Net + Clock>(rt: &R, place: SocketAddr) -> Result<(), Denied> {
+fn ask_at<R: Net + Clock>(rt: &R, place: SocketAddr) -> Result<(), QuitFaultKind> {
     let limit = Duration::from_secs(LIMIT);
     let Ok(since) = Instant::now(rt) else {
-        return Err(Denied::Silent);
+        return Err(QuitFaultKind::Silent);
     };
     let Ok(stream) = TcpStream::connect_timeout(rt, &place, limit) else {
-        return Err(Denied::Unreached);
+        return Err(QuitFaultKind::Unreached);
     };
     let Ok(mut writer) = stream.try_clone() else {
-        return Err(Denied::Unreached);
+        return Err(QuitFaultKind::Unreached);
     };
     let _ = writer.set_write_timeout(Some(limit));
     let mut reader = Patient { rt, stream, since };
@@ -59,7 +59,7 @@ fn ask_at<R: Net + Clock>(rt: &R, place: SocketAddr) -> Result<(), Denied> {
 /// Writes the request, and reads the first line of the answer. Returns whether it accepts.
 ///
 /// An answer whose first 17 bytes are another line refuses.
-pub fn ask_to_end<R: Read, W: Write>(reader: &mut R, writer: &mut W) -> Result<(), Denied>
+pub fn ask_to_end<R: Read, W: Write>(reader: &mut R, writer: &mut W) -> Result<(), QuitFaultKind>
     ensures sends { OnOk result
         (Appends (W.contents writer.old) (W.contents writer.new) quit_request) }
     ensures accepts { OnOk result
@@ -68,17 +68,17 @@ pub fn ask_to_end<R: Read, W: Write>(reader: &mut R, writer: &mut W) -> Result<(
         (RefusesBy (Consumes (R.remaining reader.old) (R.remaining reader.new))) }
 {
     if writer.write_all(REQUEST).is_err() {
-        return Err(Denied::Unreached);
+        return Err(QuitFaultKind::Unreached);
     }
     let mut line = [0u8; LINE];
     if reader.read_exact(&mut line).is_err() {
-        return Err(Denied::Silent);
+        return Err(QuitFaultKind::Silent);
     }
     judge(&line)
 }
 
 /// Returns whether the first line of an answer accepts, and why not.
-fn judge(line: &[u8]) -> Result<(), Denied>
+fn judge(line: &[u8]) -> Result<(), QuitFaultKind>
     ensures accepts { OnOk result (line.now ≡ accepting_line) }
     ensures refuses { OnErr result (line.now ≢ accepting_line) }
 {
@@ -86,12 +86,12 @@ fn judge(line: &[u8]) -> Result<(), Denied>
         return Ok(());
     }
     if line.starts_with(b"HTTP/1.1 404") {
-        return Err(Denied::Unoffered);
+        return Err(QuitFaultKind::Unoffered);
     }
     if line.starts_with(b"HTTP/1.1 403") {
-        return Err(Denied::Forbidden);
+        return Err(QuitFaultKind::Forbidden);
     }
-    Err(Denied::Refused)
+    Err(QuitFaultKind::Refused)
 }
 
 /// A stream that is read for at most 5 seconds from a moment on.

@@ -17,7 +17,7 @@ ghost use Rattle.std.specs.Process.{exit_status};
 ghost use Rattle.mc_host.specs.Ends.{status_of};
 
 use clap::error::ErrorKind;
-use mc_host::{Denial, Diagnostics, End, Level, ListenFault, ask_server, has_small_stack};
+use mc_host::{Diagnostics, End, Level, ListenFault, QuitFault, ask_server, has_small_stack};
 use mc_options::{Options, Unfit};
 use mc_run::run;
 use std::process::ExitCode;
@@ -99,7 +99,7 @@ fn tell_why(diagnostics: Diagnostics, end: &End, text: &str) {
             let reason = why.reason();
             eprintln!(stderr; "{level}{text} on {endpoint}: {reason}")
         }
-        End::Denied(Denial { endpoint, why }) => {
+        End::Denied(QuitFault { endpoint, why }) => {
             let reason = why.reason();
             eprintln!(stderr; "{level}{text} {endpoint}: {reason}")
         }

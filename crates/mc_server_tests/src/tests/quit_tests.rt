@@ -1,6 +1,6 @@
 //! The request by which a server is asked to end, over streams in memory.
 
-use mc_host::{Denied, ask_to_end};
+use mc_host::{QuitFaultKind, ask_to_end};
 use mc_testing::{Drip, Sip};
 use std::alloc::Global;
 use std::io::ErrorKind;
@@ -36,7 +36,7 @@ const ANSWERS: [(&[u8], &str); 9] = [
 ];
 
 /// Returns the text of an outcome; nothing if the server accepted.
-fn text_of(outcome: Result<(), Denied>) -> &'static str {
+fn text_of(outcome: Result<(), QuitFaultKind>) -> &'static str {
     match outcome {
         Ok(()) => "",
         Err(why) => why.reason(),
