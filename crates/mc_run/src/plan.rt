@@ -16,7 +16,7 @@ use mc_host::{
 use mc_metrics::{Counters, SettingsReading};
 use mc_options::Options;
 use mc_sockets::{Arrivals, ConnectionLimit, EVENTS, Inbox, Log, Share, WAKER};
-use mc_telemetry::{MetricsServer, Notice, Observer, Outlet, process_start};
+use mc_telemetry::{ErrorOutput, MetricsServer, Observer, StartLines, process_start};
 use mc_time::Moment;
 use mio::{Events, Poll, Waker};
 use std::alloc::{AllocError, AllocGlobal, Global};
@@ -69,9 +69,9 @@ pub struct ThreadPlan<'a> {
     /// One listener for each further thread that accepts.
     pub listeners: Vec<TcpListener>,
     pub crowd: Arc<ConnectionLimit>,
-    pub notice: Notice<'a>,
+    pub notice: StartLines<'a>,
     /// Where the logger writes.
-    pub outlet: Outlet,
+    pub outlet: ErrorOutput,
 }
 
 /// What the thread of a worker is to own.
@@ -119,20 +119,20 @@ pub fn make_plan<'a, R: Net + Files + AllocGlobal + Clock>(
     ensures { IfOk result (λ made. IsPlanOf options.entry.now made.0) }
 {
     let workers = make_workers(rt, options)?;
-    let notice = Notice {
+    let notice = StartLines {
         diagnostics,
         options,
         descriptors: most_descriptors(rt),
     };
-    let outlet = Outlet::new(rt, rt.alloc(), diagnostics.stderr)?;
+    let outlet = ErrorOutput::new(rt, rt.alloc(), diagnostics.stderr)?;
     plan_with(rt, notice, outlet, bound, workers)
 }
 
 /// Returns the plan of a server with these workers, and what its threads borrow.
 fn plan_with<'a, R: AllocGlobal + Files + Clock>(
     rt: &R,
-    notice: Notice<'a>,
-    outlet: Outlet,
+    notice: StartLines<'a>,
+    outlet: ErrorOutput,
     bound: Bound,
     workers: Workers,
 ) -> Result<(ServerPlan<'a>, Common), Wanting>
@@ -196,13 +196,13 @@ fn make_common<R: AllocGlobal + Clock>(
 /// Returns a counter of connections. The one error is a refused allocation.
 fn make_crowd(
     alloc: Global,
-    notice: Notice<'_>,
+    notice: StartLines<'_>,
     log: &Arc<Log>,
 ) -> Result<Arc<ConnectionLimit>, AllocError>
     ensures { IfOk result (λ crowd.
         most_of (arc_value crowd) ≡ notice.entry.options.now.connections) }
 {
-    let Notice {
+    let StartLines {
         options,
         descriptors,
         ..
@@ -215,7 +215,7 @@ fn make_crowd(
 /// allocation.
 fn make_metrics<R: AllocGlobal + Files + Clock>(
     rt: &R,
-    notice: Notice<'_>,
+    notice: StartLines<'_>,
     door: Option<ScrapeListener>,
     crowd: &Arc<ConnectionLimit>,
     counts: Vec<Arc<Counters>>,

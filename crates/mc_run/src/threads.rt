@@ -13,7 +13,7 @@ use mc_host::{AskedClock, Wanting};
 use mc_sockets::{
     ClosingLinks, ConnectionLimit, Poller, ShortageTally, SocketLinks, accept_all, accept_beside,
 };
-use mc_telemetry::{MetricsServer, Notice, Outlet, WorkerTally, write_lines};
+use mc_telemetry::{ErrorOutput, MetricsServer, StartLines, WorkerTally, write_lines};
 use mc_time::Clock;
 use mc_workers::{NoGate, Worker};
 use std::alloc::{AllocError, AllocGlobal};
@@ -176,8 +176,8 @@ where
 fn start_logger<'s, 'a: 's, 'b: 's, 'c: 's, 'd: 's, E, R>(
     scope: &Scope<'s, E>,
     rt: &'a R,
-    notice: Notice<'b>,
-    outlet: Outlet,
+    notice: StartLines<'b>,
+    outlet: ErrorOutput,
     client: StoreClient<'c>,
     common: &'d Common,
 ) -> Result<(), Wanting>
@@ -260,8 +260,8 @@ fn answer_scrapes<R: Files + AllocGlobal + Wait + time::Clock>(
 /// Writes to standard error until the server ends.
 fn write_log<R: Wait + time::Clock>(
     rt: &R,
-    notice: Notice<'_>,
-    outlet: Outlet,
+    notice: StartLines<'_>,
+    outlet: ErrorOutput,
     client: StoreClient<'_>,
     common: &Common,
 ) {

@@ -27,24 +27,24 @@
 #![tactic(auto)]
 
 mod counting;
-mod exchange;
+mod error_output;
 mod families;
 mod full;
 mod laws;
 mod logger;
 mod observer;
-mod outlet;
 mod page;
 mod process;
 mod scrape;
+mod scrape_connection;
 mod stats;
 mod tally;
 
 pub use counting::counted_as;
+pub use error_output::ErrorOutput;
 pub use laws::steps_are_shown_as_they_came_out;
-pub use logger::{Notice, write_lines};
+pub use logger::{StartLines, write_lines};
 pub use observer::Observer;
-pub use outlet::Outlet;
 pub use page::metrics_page;
 pub use process::process_start;
 pub use scrape::MetricsServer;

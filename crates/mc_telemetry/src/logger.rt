@@ -3,8 +3,8 @@
 //! One thread writes to standard error, so a full pipe stops no worker. The same thread reports
 //! that the store is full, and reads the class's counts by a caller of its own.
 
+use crate::error_output::ErrorOutput;
 use crate::full::{ClassState, Full};
-use crate::outlet::Outlet;
 use crate::stats::StoreStats;
 use mc_host::{Diagnostics, Level};
 use mc_options::{Endpoints, Options};
@@ -20,7 +20,7 @@ const QUIET: u64 = 60;
 
 /// What the first lines report.
 #[derive(Clone, Copy, Drop)]
-pub struct Notice<'a> {
+pub struct StartLines<'a> {
     pub diagnostics: Diagnostics,
     pub options: &'a Options,
     /// How many descriptors the process may have, if the system reports it.
@@ -34,8 +34,8 @@ pub struct Notice<'a> {
 pub fn write_lines<R: Wait + Clock, S: StoreStats>(
     rt: &R,
     log: &Log,
-    notice: Notice<'_>,
-    outlet: &mut Outlet,
+    notice: StartLines<'_>,
+    outlet: &mut ErrorOutput,
     stats: &mut S,
 ) {
     let settings = notice.options.settings;
@@ -218,8 +218,8 @@ fn warn(diagnostics: Diagnostics, address: IpAddr) {
 }
 
 /// Writes where the server listens, its pages and workers, and warnings.
-fn say(notice: Notice<'_>) {
-    let Notice {
+fn say(notice: StartLines<'_>) {
+    let StartLines {
         diagnostics,
         options,
         descriptors,

@@ -1,8 +1,8 @@
 //! Answers requests over HTTP, of several clients at once.
 
-use crate::exchange::{Due, Exchange};
 use crate::observer::Observer;
 use crate::page::metrics_page;
+use crate::scrape_connection::{Due, ScrapeConnection};
 use crate::stats::StoreStats;
 use mc_host::ScrapeListener;
 use mc_metrics::{HttpAnswer, HttpReply, response};
@@ -28,7 +28,7 @@ pub struct MetricsServer {
     /// Whether peers of this machine may ask the program to end.
     may_quit: bool,
     /// The open connections, the oldest first.
-    exchanges: Vec<Exchange>,
+    exchanges: Vec<ScrapeConnection>,
 }
 
 impl MetricsServer {
@@ -94,7 +94,7 @@ impl MetricsServer {
     /// Opens an exchange with a peer, in place of the oldest if there are too many. Without memory
     /// the connection is closed.
     fn open<R: AllocGlobal + Clock>(&mut self, rt: &R, stream: TcpStream, peer: SocketAddr) {
-        let opened = Exchange::new(rt, rt.alloc(), stream, self.may_quit, peer.ip());
+        let opened = ScrapeConnection::new(rt, rt.alloc(), stream, self.may_quit, peer.ip());
         if let Ok(exchange) = opened {
             if self.exchanges.len() >= MOST {
                 drop(self.exchanges.remove(0));
@@ -133,7 +133,7 @@ impl MetricsServer {
 /// Lets an exchange go on, and answers its request if that is due. Returns what is due then.
 fn go_on<R: Files + AllocGlobal + Wait + Clock, S: StoreStats>(
     rt: &R,
-    exchange: &mut Exchange,
+    exchange: &mut ScrapeConnection,
     observer: &Observer,
     arrivals: &Arrivals,
     stats: &mut S,

@@ -2,8 +2,8 @@ use denote.Param.{param}
 use denote.Param.Send.{IsSync, param_sync, sendable}
 use Rattle.std.proofs.Common.{rules}
 use Rattle.mc_shared.proofs.Sent.{tuple_send, lent}
-use Rattle.mc_telemetry.proofs.logger.Notice.TheSendSync as notice
-use Rattle.mc_telemetry.proofs.outlet.Outlet.TheSendSync as outlet
+use Rattle.mc_telemetry.proofs.logger.StartLines.TheSendSync as notice
+use Rattle.mc_telemetry.proofs.error_output.ErrorOutput.TheSendSync as outlet
 use Rattle.mc_run.proofs.Sent.{client_send, common_lent}
 use Rattle.mc_run.proofs.threads.start_logger.Goals as goal
 

@@ -13,20 +13,20 @@ const REST: u64 = 500;
 
 /// Standard error, and a poll that reports whether it has room for a line.
 #[derive(Drop)]
-pub struct Outlet {
+pub struct ErrorOutput {
     stderr: Stderr,
     /// None if the system gives no poll: each write may wait then.
     poll: Option<Poll>,
     events: Events,
 }
 
-impl Outlet {
+impl ErrorOutput {
     /// Makes an outlet. The one error is a refused allocation.
-    pub fn new<R: Net>(rt: &R, alloc: Global, stderr: Stderr) -> Result<Outlet, AllocError> {
+    pub fn new<R: Net>(rt: &R, alloc: Global, stderr: Stderr) -> Result<ErrorOutput, AllocError> {
         let Ok(events) = Events::with_capacity(alloc, 1) else {
             return Err(AllocError);
         };
-        Ok(Outlet {
+        Ok(ErrorOutput {
             stderr,
             poll: Poll::new(rt).ok(),
             events,

@@ -3,8 +3,8 @@ use Rattle.std.specs.Prelude.{◌≡◌, ℕ, Bool, List, length, take, min, ⊤
 use Rattle.std.specs.declared.net.ip_addr.IpAddr.{IpAddr}
 use Rattle.mc_metrics.specs.Scrapes.{IsAskedToEnd}
 use Rattle.mc_metrics.specs.declared.answer.HttpAnswer.TheVariants.{Stopping}
-use Rattle.mc_telemetry.specs.declared.exchange.Due.{Due}
-use Rattle.mc_telemetry.specs.declared.exchange.Due.TheVariants.{Answer}
+use Rattle.mc_telemetry.specs.declared.scrape_connection.Due.{Due}
+use Rattle.mc_telemetry.specs.declared.scrape_connection.Due.TheVariants.{Answer}
 
 -- the bytes of a request that came, in the room for one
 abbrev pub come : (came : ℕ) → (room : List ℕ) → List ℕ

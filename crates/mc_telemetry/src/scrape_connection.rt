@@ -4,7 +4,7 @@
 //! the bytes that came.
 ghost use Rattle.std.specs.Prelude.{◌≡◌, IfOk, IfSome};
 ghost use Rattle.mc_metrics.specs.Scrapes.{IsAskedToEnd};
-ghost use Rattle.mc_telemetry.specs.Exchanges.{come, EndsRightly, EndsNothing};
+ghost use Rattle.mc_telemetry.specs.ScrapeConnections.{come, EndsRightly, EndsNothing};
 
 use mc_metrics::{HttpAnswer, HttpReply, NO_MEMORY, read_request};
 use mio::net::TcpStream;
@@ -50,7 +50,7 @@ pub enum Due {
 
 /// A request over HTTP and its answer, on a connection that doesn't block.
 #[derive(Drop)]
-pub struct Exchange {
+pub struct ScrapeConnection {
     stream: TcpStream,
     /// Whether peers of this machine may end the program.
     may_quit: bool,
@@ -68,7 +68,7 @@ pub struct Exchange {
     may_leave_input: bool,
 }
 
-impl Exchange {
+impl ScrapeConnection {
     /// Makes an exchange with a peer. The one error is a refused allocation.
     pub fn new<R: Clock>(
         rt: &R,
@@ -76,11 +76,11 @@ impl Exchange {
         stream: TcpStream,
         may_quit: bool,
         peer: IpAddr,
-    ) -> Result<Exchange, AllocError>
+    ) -> Result<ScrapeConnection, AllocError>
         ensures { IfOk result (λ exchange. (exchange.may_quit ≡ may_quit)
             × (exchange.peer ≡ peer)) }
     {
-        Ok(Exchange {
+        Ok(ScrapeConnection {
             stream,
             may_quit,
             peer,

@@ -1,5 +1,5 @@
 use Rattle.std.proofs.Common.{◌≡◌}
-use Rattle.mc_telemetry.proofs.exchange.Exchange.drop_on.Given as goal
+use Rattle.mc_telemetry.proofs.scrape_connection.ScrapeConnection.read_on.Given as goal
 
 abbrev pub invariant-loop-call : goal.invariant-loop-call
 invariant-loop-call g l =
