@@ -285,7 +285,8 @@ impl<T: Keyed + Drop> Strays<T> {
         went
     }
 
-    /// Tries a stray as `try_in` does, and returns its home if it stays: no bucket can be had there.
+    /// Tries a stray as `try_in` does, and returns its home if it stays: no bucket can be had
+    /// there.
     ///
     /// `crowded` is a home of which that is known. A stray of that home stays without a search.
     pub(crate) fn try_unless(

@@ -164,8 +164,8 @@ impl Budget {
         }
     }
 
-    /// Returns how many readers of what has left the store may be ended now: once a tick 16 if that is
-    /// more than the share, else none.
+    /// Returns how many readers of what has left the store may be ended now: once a tick 16 if that
+    /// is more than the share, else none.
     pub(crate) fn takes_turn_to_end(&mut self) -> usize
         ensures ends { result ≡ to_end self.old }
         ensures notes { self.new ≡ record self.old { ended = self.old.ticks } }

@@ -107,8 +107,8 @@ impl<L: Link + Drop> Guest<L> {
 
     /// Does the one thing that is due: writes output, else takes a turn, else reads, or ends.
     ///
-    /// A write offers the link a front of the output, and a read lends it room for 1 to 16384 bytes.
-    /// A guest that has ended does nothing, and answers what ended it.
+    /// A write offers the link a front of the output, and a read lends it room for 1 to 16384
+    /// bytes. A guest that has ended does nothing, and answers what ended it.
     pub fn visit<S: Steps>(&mut self, alloc: Global, store: &mut S, now: Moment) -> Visit
         ensures { Visited S.Steps now result self.old self.new store.old store.new }
     {
@@ -126,8 +126,8 @@ impl<L: Link + Drop> Guest<L> {
         answer
     }
 
-    /// Returns the bytes reserved for its session, but for what is lent, and for output that its link
-    /// still has.
+    /// Returns the bytes reserved for its session, but for what is lent, and for output that its
+    /// link still has.
     pub(crate) fn capacity(&self) -> usize
         ensures { length self.now.session.unread.bytes ≤ result }
     {

@@ -173,8 +173,8 @@ impl<L: Link + Drop> Guests<L> {
     /// Sets the time, in ticks of 0.25 s.
     ///
     /// In a new tick, quiet guests free the memory that they keep, guests are counted anew for what
-    /// they read that has left the store, and spares are freed that, with what guests hold, are more
-    /// than the share. Every fourth tick frees unused spares.
+    /// they read that has left the store, and spares are freed that, with what guests hold, are
+    /// more than the share. Every fourth tick frees unused spares.
     pub fn tick(&mut self, ticks: u64)
         ensures { SetsTicks ticks self.old self.new }
     {
@@ -186,7 +186,8 @@ impl<L: Link + Drop> Guests<L> {
         }
     }
 
-    /// Frees spares that, with what guests hold, are more than the share, and unused ones if wanted.
+    /// Frees spares that, with what guests hold, are more than the share, and unused ones if
+    /// wanted.
     fn bound_spares(&self, are_unused_freed: bool) {
         let Some(spares) = &self.spares else {
             return;
@@ -459,8 +460,8 @@ impl<L: Link + Drop> Guests<L> {
         self.budget.takes_turn_to_judge()
     }
 
-    /// Returns how many readers of what has left the store may be ended now: once a tick 16 if that is
-    /// more than the share, else none.
+    /// Returns how many readers of what has left the store may be ended now: once a tick 16 if that
+    /// is more than the share, else none.
     pub fn takes_turn_to_end(&mut self) -> usize
         ensures ends { result ≡ to_end self.old.budget }
         ensures notes { self.new ≡ took_ending self.old }
@@ -488,8 +489,8 @@ impl<L: Link + Drop> Guests<L> {
     }
 
     /// Judges the slowest of the guests that hold more than 72 KiB, if it is slow: it moved nothing
-    /// for 5 s, or for at least 5 s so little that what it holds takes more than 10 s. All guests are
-    /// looked at.
+    /// for 5 s, or for at least 5 s so little that what it holds takes more than 10 s. All guests
+    /// are looked at.
     pub fn judge_slowest(&mut self) -> Option<Verdict>
         ensures judges { Judges self.old.budget.ticks result self.old.row self.new.row }
         ensures rest { self.new ≡ record self.old { row = self.new.row } }

@@ -9,9 +9,9 @@
 //! Links are those of `mc_links`. A [`Guest`] is a session with its link. A visit writes output,
 //! else takes a turn, else reads; [`round`] visits each guest once. [`Guests`] are those of one
 //! thread: a guest that answered `Later` sleeps until its link is named, and a guest that wants
-//! much memory waits while others use up their [`Budget`]. Guests come through a [`Admission`], which
-//! gets links between two rounds. A [`Tally`] gets each step, each request that is too large, and
-//! what the guests hold; a store that [`Reports`] passes them on, and measures blocks without a
+//! much memory waits while others use up their [`Budget`]. Guests come through a [`Admission`],
+//! which gets links between two rounds. A [`Tally`] gets each step, each request that is too large,
+//! and what the guests hold; a store that [`Reports`] passes them on, and measures blocks without a
 //! report.
 //!
 //! Contracts see the bytes that a link gave and took, unless they are unspecified, and describe a

@@ -1,7 +1,7 @@
 //! A worker's calls of its links between two rounds.
 //!
-//! Names and rests show nothing to contracts, so the calls are noted in `LinkCalls`: the next link, the
-//! names, the rest. That the notes are true is read in three short functions.
+//! Names and rests show nothing to contracts, so the calls are noted in `LinkCalls`: the next link,
+//! the names, the rest. That the notes are true is read in three short functions.
 ghost use Rattle.std.specs.Prelude.{◌≡◌, ◌↔◌, ◌<◌, ◌&&◌, ◌==◌, Some, IsTrue};
 ghost use Rattle.mc_guests.specs.Admissions.{unasked, came, came_of, heard, most_names, WakesAllNamed, ComesNothing};
 ghost use Rattle.mc_guests.specs.declared.link_calls.NextAnswer.TheVariants.{Link as ALink};

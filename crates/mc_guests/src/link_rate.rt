@@ -64,8 +64,8 @@ impl LinkRate {
 
     /// Returns whether the link is slow for a guest that holds `held` bytes.
     ///
-    /// It moved nothing for 5 s, or for at least 5 s so little that `held` bytes take more than 10 s.
-    /// A link that was just asked again isn't slow for 0.5 s.
+    /// It moved nothing for 5 s, or for at least 5 s so little that `held` bytes take more than 10
+    /// s. A link that was just asked again isn't slow for 0.5 s.
     pub fn is_slow(&self, held: usize, ticks: u64) -> bool
         ensures { result ≡ is_slow held ticks self.now }
     {
@@ -86,7 +86,8 @@ impl LinkRate {
         self.was_quiet(ticks, PATIENCE)
     }
 
-    /// Returns whether the link moved so little for at least 5 s that `held` bytes take more than 10 s.
+    /// Returns whether the link moved so little for at least 5 s that `held` bytes take more than
+    /// 10 s.
     fn lags(&self, held: usize, ticks: u64) -> bool
         ensures { result ≡ lags held ticks self.now }
     {

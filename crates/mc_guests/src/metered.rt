@@ -51,9 +51,9 @@ const PARTS: usize = 16;
 const LONG: u64 = 8;
 
 /// A guest, and the memory that it holds. Contracts see the guest, and its link's pace. They see
-/// whether it waits for room, its place in the queue, and what it wanted when it began to wait. They
-/// see the bytes for which it is counted, those of its output that were lent then, and those of what
-/// has left the store.
+/// whether it waits for room, its place in the queue, and what it wanted when it began to wait.
+/// They see the bytes for which it is counted, those of its output that were lent then, and those
+/// of what has left the store.
 #[derive(Drop)]
 pub struct Metered<L: Link + Drop> {
     guest: Guest<L>,
@@ -356,8 +356,8 @@ impl<L: Link + Drop> Metered<L> {
         self.sends_and_finds_room(asked, budget)
     }
 
-    /// Sends what its link gathered, and returns whether there is room then for a request of `asked`
-    /// bytes.
+    /// Sends what its link gathered, and returns whether there is room then for a request of
+    /// `asked` bytes.
     ///
     /// Otherwise it waits. If its link failed or is to end, it has ended.
     #[inline(never)]
@@ -559,7 +559,8 @@ impl<L: Link + Drop> Metered<L> {
         self.left = budget.recount_left(self.left, left);
     }
 
-    /// Notes what a visit with this answer moved, and returns for how many bytes it is counted then.
+    /// Notes what a visit with this answer moved, and returns for how many bytes it is counted
+    /// then.
     fn notes(&mut self, answer: Visit, budget: &Budget) -> Weight
         ensures same { self.new ≡ record self.old { pace = self.new.pace } }
         ensures wrote { result ≡ Weight.Same → answer ≡ Visit.Wrote }
@@ -613,8 +614,8 @@ impl<L: Link + Drop> Metered<L> {
         Weight::Reserved
     }
 
-    /// Frees the memory that it keeps, if it moved nothing for 1 s or memory is tight. Counts it anew
-    /// for what it reads that has left the store.
+    /// Frees the memory that it keeps, if it moved nothing for 1 s or memory is tight. Counts it
+    /// anew for what it reads that has left the store.
     pub fn rest_if_quiet(&mut self, budget: &mut Budget)
         ensures { RecountsLeft self.new.left self.old self.new budget.old budget.new }
     {

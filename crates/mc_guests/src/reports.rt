@@ -18,8 +18,8 @@ pub trait Reports: Steps {
     /// Returns the length of the block that a get of this key finds at this moment, or 0 if it
     /// finds none.
     ///
-    /// It is a read of the key, which isn't reported. After an error the key was read at most; it is
-    /// `NumbersSpent` only if the read is refused so.
+    /// It is a read of the key, which isn't reported. After an error the key was read at most; it
+    /// is `NumbersSpent` only if the read is refused so.
     fn length_at(&mut self, alloc: Global, key: &[u8], now: Moment) -> Result<usize, Unanswered>
         requires { length key.now ≤ longest_key }
         ensures ok { IfOk result (λ bytes.

@@ -165,8 +165,8 @@ impl<L: Link + Drop> GuestRow<L> {
         }
     }
 
-    /// Frees the memory that the guest at a place keeps, if it is quiet, and counts it anew for what
-    /// it reads that has left the store.
+    /// Frees the memory that the guest at a place keeps, if it is quiet, and counts it anew for
+    /// what it reads that has left the store.
     fn rest_at(&mut self, at: usize, budget: &mut Budget)
         requires { at < length self.old.guests }
         ensures { (left : ℕ) × RecountsAt at left self.old self.new budget.old budget.new }
@@ -174,8 +174,8 @@ impl<L: Link + Drop> GuestRow<L> {
         self.guests[at].inner.rest_if_quiet(budget);
     }
 
-    /// Returns the number of the link of the slowest guest that reads what has left the store, which
-    /// is counted no more. Of equal ones it is the first.
+    /// Returns the number of the link of the slowest guest that reads what has left the store,
+    /// which is counted no more. Of equal ones it is the first.
     pub fn end_slowest_reader(&mut self, budget: &mut Budget) -> Option<u64>
         ensures { EndsReader result self.old self.new budget.old budget.new }
     {
@@ -185,8 +185,8 @@ impl<L: Link + Drop> GuestRow<L> {
         }
     }
 
-    /// Counts the guest at a place no more for what has left the store, and returns the number of its
-    /// link.
+    /// Counts the guest at a place no more for what has left the store, and returns the number of
+    /// its link.
     fn uncount_left_at(&mut self, at: usize, budget: &mut Budget) -> u64
         requires { at < length self.old.guests }
         ensures number { HasNumber self.old at result }
@@ -216,7 +216,8 @@ impl<L: Link + Drop> GuestRow<L> {
         self.guests[at].inner.judge(number, ticks)
     }
 
-    /// Returns the place and the rate of the slowest of the guests that are sought, if there is one.
+    /// Returns the place and the rate of the slowest of the guests that are sought, if there is
+    /// one.
     fn slowest(&self, sought: Sought, ticks: u64) -> Option<(usize, u64)>
         ensures { FindsSlowest (sought_rate sought ticks) (length self.now.guests) result
             self.now.guests }

@@ -5,20 +5,20 @@
 //! with what to do about it, the same in every run. So listeners, clock and descriptors are here,
 //! beside the table of ends; serving connections is in `mc_server`.
 //!
-//! An [`End`] is how the program ends, with its status and its text (`End::ending`). A [`ListenFault`]
-//! is the endpoint at which it can't listen, and the [`ListenFaultKind`]. [`bound_all`] binds the
-//! [`Listeners`], one for each endpoint; [`bind_needed`] leaves out 0.0.0.0 if `::` at the same port
-//! accepts IPv4, too. [`sockets_of`] returns streams of them, whose shutdown
-//! wakes the threads that accept. [`look_for_descriptors`] checks that there are enough to begin
-//! with. A [`ScrapeListener`] is a listener for scrapes. [`AskedClock`] is the clock of the command line: it
-//! stands at `--now`, or is the system's. [`Diagnostics`] is standard error, with the [`Level`] of
-//! each line in the journal of systemd. [`ask_server`] is the client of `--quit`: [`ask_to_end`]
-//! over a socket. [`has_small_stack`] reads the limit of the stack.
+//! An [`End`] is how the program ends, with its status and its text (`End::ending`). A
+//! [`ListenFault`] is the endpoint at which it can't listen, and the [`ListenFaultKind`].
+//! [`bound_all`] binds the [`Listeners`], one for each endpoint; [`bind_needed`] leaves out 0.0.0.0
+//! if `::` at the same port accepts IPv4, too. [`sockets_of`] returns streams of them, whose
+//! shutdown wakes the threads that accept. [`look_for_descriptors`] checks that there are enough to
+//! begin with. A [`ScrapeListener`] is a listener for scrapes. [`AskedClock`] is the clock of the
+//! command line: it stands at `--now`, or is the system's. [`Diagnostics`] is standard error, with
+//! the [`Level`] of each line in the journal of systemd. [`ask_server`] is the client of `--quit`:
+//! [`ask_to_end`] over a socket. [`has_small_stack`] reads the limit of the stack.
 //!
 //! Contracts state each end's status and text exactly, which end follows from the command line and
-//! from a served session, that there is a listener for each endpoint that needs one, and which ends a failure may
-//! have; what `--quit` sends, and which answers accept. No contract states what the system does
-//! with a listener.
+//! from a served session, that there is a listener for each endpoint that needs one, and which ends
+//! a failure may have; what `--quit` sends, and which answers accept. No contract states what the
+//! system does with a listener.
 //!
 //! Begin with `specs/Ends.antt` and `src/end.rt`, then `src/binding.rt`.
 //!

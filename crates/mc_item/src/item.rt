@@ -46,10 +46,10 @@ pub struct Parts<'a> {
 
 /// An item in its chunks: a header of 48 bytes, the key and the block.
 ///
-/// The header and the key are in the head of the chunks, and the block is in their bytes, from class
-/// 27 on at place 0. Contracts see the item's fields, and the class and number of its chunks. An
-/// item is moved and never copied. An item that is dropped without giving its chunks back stays out
-/// in the slab's account for ever. Only `append_to` takes memory.
+/// The header and the key are in the head of the chunks, and the block is in their bytes, from
+/// class 27 on at place 0. Contracts see the item's fields, and the class and number of its chunks.
+/// An item is moved and never copied. An item that is dropped without giving its chunks back stays
+/// out in the slab's account for ever. Only `append_to` takes memory.
 #[derive(Drop)]
 pub struct Item {
     chunks: Chunks,

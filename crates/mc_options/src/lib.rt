@@ -8,9 +8,9 @@
 //! faults of a line are named at once, each in one line (`src/faults.rt`).
 //!
 //! [`parse_options`] turns words into [`Options`], or returns why not ([`Unfit`]). In between is
-//! [`RawOptions`], exactly what `clap` found: each number if it was given. [`RawOptions::settings`] makes the
-//! store's settings of it, and `Options::new` all the rest. [`Endpoints`] are where the program
-//! listens, by `-l` and `-p`. So each default is in the code once.
+//! [`RawOptions`], exactly what `clap` found: each number if it was given. [`RawOptions::settings`]
+//! makes the store's settings of it, and `Options::new` all the rest. [`Endpoints`] are where the
+//! program listens, by `-l` and `-p`. So each default is in the code once.
 //!
 //! Contracts state for each number that it is the given one, if that is in range, and the default
 //! if none was given; so no caller checks a range again. `--stdin` and `--allow-quit` are set if

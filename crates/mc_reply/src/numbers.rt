@@ -41,8 +41,8 @@ impl Numbers {
         }
     }
 
-    /// Returns the end of a hit's first line: its flags, the length of its block and, if it is asked
-    /// for, its unique number.
+    /// Returns the end of a hit's first line: its flags, the length of its block and, if it is
+    /// asked for, its unique number.
     #[inline]
     pub fn of_hit(flags: u32, block_len: usize, unique: u64, with_unique: bool) -> Numbers
         ensures { result ≡ numbers_text with_unique flags unique block_len }

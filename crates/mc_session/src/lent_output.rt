@@ -102,8 +102,8 @@ impl Outgoing for LentOutput {
         }
     }
 
-    /// Appends a text, parts that are lent, and a text behind them. If others are lent already, a copy
-    /// of these is appended.
+    /// Appends a text, parts that are lent, and a text behind them. If others are lent already, a
+    /// copy of these is appended.
     fn append_lent<T: Append, U: Append>(
         &mut self,
         front: &T,

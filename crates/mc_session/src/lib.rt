@@ -8,11 +8,11 @@
 //!
 //! A [`Session`] is a feed of `mc_parse`, the number of turns taken of its first unit, and the
 //! output. Its `turn` works over any store that takes steps (`mc_protocol`'s `Steps`), and over any
-//! [`Outgoing`] output: an [`Output`] lies in one part of memory, and a [`LentOutput`] has parts that
-//! are lent and not copied. A [`Session`] has an [`Output`]; others are a [`SessionOf`]. [`Endpoint`]
-//! is one end of a connection as the loop [`serve_endpoint`] sees it: a session, or a session of a
-//! world. [`serve`] serves one session over a reader and a writer. It writes when nothing more is
-//! due, and before a turn once there are [`WRITE_AT`] bytes of output.
+//! [`Outgoing`] output: an [`Output`] lies in one part of memory, and a [`LentOutput`] has parts
+//! that are lent and not copied. A [`Session`] has an [`Output`]; others are a [`SessionOf`].
+//! [`Endpoint`] is one end of a connection as the loop [`serve_endpoint`] sees it: a session, or a
+//! session of a world. [`serve`] serves one session over a reader and a writer. It writes when
+//! nothing more is due, and before a turn once there are [`WRITE_AT`] bytes of output.
 //!
 //! Contracts see a session as its unread part, the turns taken, its output and whether it is open.
 //! A turn takes the next step of its stream, and appends its text. Want of memory closes the

@@ -174,7 +174,8 @@ pub fn write_out<W: Write, S, E: Endpoint<S>>(
 
 /// Reads the next piece and brings it to the endpoint. Returns whether the input is at its end.
 ///
-/// The piece has at most `LONGEST_PIECE` bytes, whatever room there is. An interrupted read brings nothing.
+/// The piece has at most `LONGEST_PIECE` bytes, whatever room there is. An interrupted read brings
+/// nothing.
 fn read_piece<R: Read, S, E: Endpoint<S>>(
     alloc: Global,
     reader: &mut R,

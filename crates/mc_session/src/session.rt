@@ -257,8 +257,8 @@ impl<O: Outgoing + Drop> SessionOf<O> {
         self.out.filled_bytes()
     }
 
-    /// Returns the number of bytes reserved for unread bytes, and for output that isn't lent: at most
-    /// 196608 if there are neither.
+    /// Returns the number of bytes reserved for unread bytes, and for output that isn't lent: at
+    /// most 196608 if there are neither.
     pub fn capacity(&self) -> usize
         ensures unread { length self.now.unread.bytes ≤ result }
         ensures empty { self.now.unread.bytes ≡ [] → self.now.out ≡ [] → result ≤ kept_empty }

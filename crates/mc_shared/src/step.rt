@@ -2,8 +2,8 @@
 //!
 //! A step has one plan. Room for its entry, and a waiting step's pages and chunks in exchange, are
 //! made while the desk is free; what is refused then is made at the desk. So a write meets want of
-//! memory only behind the errors of numbers and chunks. A read whose copy is refused memory gets its
-//! error at once. A purge that finds nothing dead, and a miss, are decided without the desk.
+//! memory only behind the errors of numbers and chunks. A read whose copy is refused memory gets
+//! its error at once. A purge that finds nothing dead, and a miss, are decided without the desk.
 ghost use Rattle.std.specs.Prelude.{◌≡◌, ◌≤◌, ℕ, Option, length, true, false, Err};
 ghost use Rattle.std.specs.Prelude.{IfOk, IfErr, OnErr, OnOk};
 ghost use Rattle.mc_time.specs.declared.expiry.Expiry.{Expiry as Expires};

@@ -1,9 +1,9 @@
 //! Steps that deliver their reply to an `Answer`.
 //!
 //! A hit is delivered while its item is in place, any other reply once the step is taken. The parts
-//! of a large block are handed as shared memory, where they can be lent, so that the answer may keep
-//! them for as long as it wants. A block of one part with fewer than 32768 bytes is handed in place,
-//! to be copied.
+//! of a large block are handed as shared memory, where they can be lent, so that the answer may
+//! keep them for as long as it wants. A block of one part with fewer than 32768 bytes is handed in
+//! place, to be copied.
 ghost use Rattle.std.specs.Prelude.{◌≡◌, [], true, false, Some, IfOk, OnOk, OnErr};
 ghost use Rattle.std.specs.Prelude.{◌<◌, get_or, slice_get};
 ghost use Rattle.std.specs.List.{concat};

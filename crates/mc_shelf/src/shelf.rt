@@ -1,8 +1,9 @@
 //! A shelf: the items of some keys, and the steps on one of its keys.
 //!
 //! `make_room` reserves room for a new key's entry before the desk is taken. If memory for it is
-//! refused, `make_room_at` tries again at the desk. `page_wanted` is a hint: a step that waits gives
-//! the desk back, allocates the pages, and takes the desk again; it decides nothing meanwhile.
+//! refused, `make_room_at` tries again at the desk. `page_wanted` is a hint: a step that waits
+//! gives the desk back, allocates the pages, and takes the desk again; it decides nothing
+//! meanwhile.
 
 ghost use Rattle.std.specs.Prelude.{◌≡◌, ◌↔◌, ℕ, ◌+◌, ◌-◌, ◌%◌, ◌^◌, ◌<◌, ◌≤◌, length, min, slice_index, slice_set};
 ghost use Rattle.std.specs.Prelude.{Option, Some, None, Err, IfOk, IfSome, OnErr, OnOk, is_some, nat_lt, true, false};
@@ -399,9 +400,9 @@ impl Shelf {
     /// chunks are unused and the block is the step's own or comes behind the old one. A dead item
     /// with other chunks of the write's class gives them back first. Any other write takes its
     /// chunks while the old item still has its own. A block's copying is left if it goes into the
-    /// old item's chunks, or is large, so that the cost doesn't grow with it. A join that copies the
-    /// old item into other chunks is left too, if there are chunks in exchange for the old one's
-    /// (`exchange`).
+    /// old item's chunks, or is large, so that the cost doesn't grow with it. A join that copies
+    /// the old item into other chunks is left too, if there are chunks in exchange for the old
+    /// one's (`exchange`).
     ///
     /// Only pages that the slab gives to a class take memory; the given pages are used if they are
     /// enough and of that class. After an error the shelf holds what it held, and the desk and the

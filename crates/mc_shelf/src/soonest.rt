@@ -48,7 +48,8 @@ impl Soonest {
 
     /// Changes the bounds to those with one item more.
     ///
-    /// It writes them only if they change: what isn't written stays in the caches of all processors.
+    /// It writes them only if they change: what isn't written stays in the caches of all
+    /// processors.
     pub(crate) fn note(&mut self, expiry: Expiry, updated: Moment)
         ensures one { (item : Item) → item.expiry ≡ expiry → item.updated ≡ updated →
             DiesNoSooner self.new item }

@@ -318,8 +318,8 @@ impl Shelf {
         Action::Answer(body.reply())
     }
 
-    /// Puts an item of the block's length in place of the key's item, whose chunks go back. The block
-    /// is still to be written.
+    /// Puts an item of the block's length in place of the key's item, whose chunks go back. The
+    /// block is still to be written.
     ///
     /// A new key has no item yet: its chunks wait until the block is written.
     #[tactic(auto, using(crate::proofs::CountLemmas::table_rules))]

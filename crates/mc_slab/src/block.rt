@@ -119,8 +119,8 @@ impl Lendable {
     /// Takes the memory of a part over as its own: the bytes begin with the part's. Its former
     /// memory is left with the part.
     ///
-    /// `false` if it doesn't, and nothing changed: if the bytes lie in memory that can't be lent, or
-    /// the part's memory has too few bytes from the part on, or more than `most` in all.
+    /// `false` if it doesn't, and nothing changed: if the bytes lie in memory that can't be lent,
+    /// or the part's memory has too few bytes from the part on, or more than `most` in all.
     pub(crate) fn take_over(&mut self, part: &Lent, most: usize) -> bool
         requires { length part.now ≤ length self.old }
         ensures taken { IsTrue result → take (length part.now) self.new ≡ part.now }

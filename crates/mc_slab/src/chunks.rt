@@ -24,10 +24,10 @@ use std::sync::Arc;
 /// Contracts see the class, the count, the bytes of the chunks one after another, and their head,
 /// which holds an item's header and key. Below class 27 the head is the bytes of the chunk; from
 /// class 27 on it is 304 bytes beside them, which aren't lent. Chunks are moved and never copied.
-/// Chunks that are dropped without being given back to their slab stay out in the slab's account for
-/// ever. Memory of a class below 27 stays with the process until it ends, even if the chunk or its
-/// slab is dropped. From class 27 on each chunk is memory of its own, which is freed once the chunk
-/// is dropped and no part of it is lent.
+/// Chunks that are dropped without being given back to their slab stay out in the slab's account
+/// for ever. Memory of a class below 27 stays with the process until it ends, even if the chunk or
+/// its slab is dropped. From class 27 on each chunk is memory of its own, which is freed once the
+/// chunk is dropped and no part of it is lent.
 #[derive(Drop)]
 pub struct Chunks {
     held: Held,
@@ -128,13 +128,13 @@ impl Chunks {
         held::write_head(&mut self.held, at, part);
     }
 
-    /// Takes the memory of a part over as its own: the chunks begin with the part's bytes, and those
-    /// behind them are unspecified. Their former memory is left with the part.
+    /// Takes the memory of a part over as its own: the chunks begin with the part's bytes, and
+    /// those behind them are unspecified. Their former memory is left with the part.
     ///
     /// It copies nothing, and takes no memory. `false` if it doesn't: below class 27, if the chunk
-    /// can't be lent, and if the part's memory is smaller than the chunk from the part's begin on, or
-    /// more than 512 bytes larger than all chunks. Then nothing changed. Several chunks take over a
-    /// piece each, and one behind the first that can't copies it.
+    /// can't be lent, and if the part's memory is smaller than the chunk from the part's begin on,
+    /// or more than 512 bytes larger than all chunks. Then nothing changed. Several chunks take
+    /// over a piece each, and one behind the first that can't copies it.
     pub fn take_over(&mut self, part: &Lent) -> bool
         requires { length part.now ≤ length self.old.bytes }
         ensures taken { IsTrue result → TakesOver self.old part.now self.new }

@@ -1,11 +1,11 @@
 //! Where chunks are: behind a thin pointer whose tag is the class.
 //!
 //! A chunk takes 16 bytes of memory: an enum whose variant is the class and which holds a thin
-//! pointer, below class 27 to an array of that class's length, else to a block with its head. A slice would take
-//! 24 bytes. The class is read from the tag alone, and a chunk's length from the table of sizes and
-//! not from its variant, because match arms that differ in a constant compile to a jump table. A
-//! chunk is written by `write_at` and lends no mutable slice: a method that lends one isn't proved
-//! if its length is an invariant.
+//! pointer, below class 27 to an array of that class's length, else to a block with its head. A
+//! slice would take 24 bytes. The class is read from the tag alone, and a chunk's length from the
+//! table of sizes and not from its variant, because match arms that differ in a constant compile to
+//! a jump table. A chunk is written by `write_at` and lends no mutable slice: a method that lends
+//! one isn't proved if its length is an invariant.
 
 ghost use Rattle.std.specs.Prelude.{◌≡◌, ◌+◌, ◌-◌, ◌<◌, ◌≤◌, length, take, drop, IfSome, IsTrue, IsFalse};
 ghost use Rattle.mc_slab.specs.Chunks.{AreChunks, IsFirst, IsHead, TakesOver, chunk_at, need_in};

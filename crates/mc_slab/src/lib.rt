@@ -7,16 +7,16 @@
 //! it. That is memcached's scheme (doc/protocol.txt there, "Slab statistics"), with sizes that grow
 //! by about a quarter. A charge above a page gets two to eight whole pages.
 //!
-//! A [`Class`] is one of 40 sizes, 96 bytes to a page ([`class_of`]). A [`Need`] is a class and
-//! the number of its chunks that hold a charge ([`need_of`]). A [`Slab`] counts the pages that are
+//! A [`Class`] is one of 40 sizes, 96 bytes to a page ([`class_of`]). A [`Need`] is a class and the
+//! number of its chunks that hold a charge ([`need_of`]). A [`Slab`] counts the pages that are
 //! left, and keeps for each class the free chunks and the memory that isn't cut yet. [`Chunks`] are
 //! what is taken and given back: they are moved and never copied. A part of a chunk of class 27 to
-//! 40, of 33904 bytes and more, can be lent beyond a borrow ([`Chunks::lend`]): the reader keeps its
-//! bytes, and a write meanwhile goes to a copy of the chunk. Such a chunk can also take over memory
-//! that a block was read into, and leave its own ([`Chunks::take_over`]). An item's header and key
-//! stand in the head of its chunks ([`Chunks::head`]), which from class 27 on is memory beside the
-//! chunk and isn't lent. [`Pages`] are memory that is allocated before a slab is at hand, so that a
-//! thread holds a shared slab only briefly.
+//! 40, of 33904 bytes and more, can be lent beyond a borrow ([`Chunks::lend`]): the reader keeps
+//! its bytes, and a write meanwhile goes to a copy of the chunk. Such a chunk can also take over
+//! memory that a block was read into, and leave its own ([`Chunks::take_over`]). An item's header
+//! and key stand in the head of its chunks ([`Chunks::head`]), which from class 27 on is memory
+//! beside the chunk and isn't lent. [`Pages`] are memory that is allocated before a slab is at
+//! hand, so that a thread holds a shared slab only briefly.
 //!
 //! Contracts see a slab as its limit of pages and, for each class, its pages and the chunks that
 //! are out. `take_all` fails as full exactly if the unused chunks and those of the pages left are

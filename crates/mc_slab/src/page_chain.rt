@@ -249,11 +249,11 @@ impl PageChain {
         }
     }
 
-    /// Takes the memory of a part over as that of its chunks: the bytes begin with the part's. Their
-    /// former memory is left with the part.
+    /// Takes the memory of a part over as that of its chunks: the bytes begin with the part's.
+    /// Their former memory is left with the part.
     ///
-    /// `false` if the first doesn't, as for memory of more than `most` bytes, and nothing changed. One
-    /// of the others that can't take its piece over copies it.
+    /// `false` if the first doesn't, as for memory of more than `most` bytes, and nothing changed.
+    /// One of the others that can't take its piece over copies it.
     #[inline(never)]
     pub(crate) fn take_over(&mut self, part: &Lent, most: usize) -> bool
         requires { length part.now ≤ length self.old.1.0 }

@@ -373,9 +373,9 @@ impl Model for Pages {
 impl Pages {
     /// Allocates 1 to 8 pages for the class, and fills what is cut first with zeros.
     ///
-    /// Below class 27 that is at most 32768 bytes. From class 27 on all chunks of the pages are made,
-    /// each in memory of its own, and filled with zeros. The only error is a refused allocation, and
-    /// the memory is then freed.
+    /// Below class 27 that is at most 32768 bytes. From class 27 on all chunks of the pages are
+    /// made, each in memory of its own, and filled with zeros. The only error is a refused
+    /// allocation, and the memory is then freed.
     pub fn new(alloc: Global, class: Class, count: u32) -> Result<Pages, AllocError>
         requires { (1 ≤ count) × (count ≤ 8) }
         ensures { IfOk result (λ pages. pages ≡ record { class = class; count = count }) }

@@ -41,8 +41,7 @@ ticked_after (Some ticked) now = if nat_lt (instant_nanos now - instant_nanos ti
 abbrev pub turn : (at places : ℕ) → ℕ
 turn at places = if nat_lt at places then at else 0
 
--- That is done behind a poll that reported so many events, if there were no others: it may report more. The first poll has none
--- before it, and then nothing is done.
+-- What is done if the last poll reported all events there were: fewer than it had room for. Before the first poll nothing is done.
 abbrev pub IfAllHeard : (heard most : ℕ) (polled : Option Instant) (done : Instant → Type 0) (nothing : Type 0) → Type 0
 IfAllHeard heard most None done nothing = nothing
 IfAllHeard heard most (Some before) done nothing = MatchBool (nat_lt heard most) (done before) nothing

@@ -1,9 +1,9 @@
 //! Channels: the one owner of a connection.
 //!
 //! A channel owns a connection's stream, its entry among the open connections, its readiness and
-//! its meter, and is a link over them. It is proved for any stream and meter: contracts see the bytes
-//! that the stream gave and took, how each answer comes of the stream's answer and the readiness,
-//! and what is counted.
+//! its meter, and is a link over them. It is proved for any stream and meter: contracts see the
+//! bytes that the stream gave and took, how each answer comes of the stream's answer and the
+//! readiness, and what is counted.
 ghost use Rattle.std.specs.Prelude.{◌≡◌, ◌+◌, ◌++◌, length};
 ghost use Rattle.mc_sockets.specs.Channels.{ReadsBy, WritesBy};
 ghost use Rattle.mc_sockets.specs.Streams.{MovesIn, MovesOut};

@@ -235,8 +235,8 @@ impl ConnectionLimit {
     }
 }
 
-/// Returns how many connections may linger beside `most` open ones: as many, if descriptors are left
-/// for them, and a quarter at least.
+/// Returns how many connections may linger beside `most` open ones: as many, if descriptors are
+/// left for them, and a quarter at least.
 fn most_lingering(most: u32, descriptors: Option<u64>) -> u32
     ensures { result ≡ most_lingering most descriptors }
 {

@@ -59,8 +59,8 @@ struct LinkContext {
 }
 
 impl LinkContext {
-    /// Makes what the first link shares with later ones: this many of them may linger. The only error
-    /// is a refused allocation.
+    /// Makes what the first link shares with later ones: this many of them may linger. The only
+    /// error is a refused allocation.
     fn new(alloc: Global, lingering: usize) -> Option<LinkContext> {
         let yard = SocketYard::new(alloc, lingering);
         Some(LinkContext {

@@ -8,10 +8,10 @@
 //! A worker counts its steps by a [`WorkerTally`] (`tally.rt`), each by the counter [`counted_as`]
 //! returns (`counting.rt`). For a scrape an [`Observer`] reads the counters, the connections and
 //! the store (`observer.rt`), [`metrics_page`] makes the page (`page.rt`) by the table of families
-//! (`families.rt`), and a [`MetricsServer`] answers over HTTP (`scrape.rt`). What the system reports
-//! of the process is read at each scrape (`process.rt`). [`write_lines`] writes to standard error in
-//! a thread of its own (`logger.rt`): where the server listens, which connections open and close,
-//! and, once a minute, that the store is full (`full.rt`).
+//! (`families.rt`), and a [`MetricsServer`] answers over HTTP (`scrape.rt`). What the system
+//! reports of the process is read at each scrape (`process.rt`). [`write_lines`] writes to standard
+//! error in a thread of its own (`logger.rt`): where the server listens, which connections open and
+//! close, and, once a minute, that the store is full (`full.rt`).
 //!
 //! Contracts state which counter each step with its outcome raises, that the page shows it under
 //! the step's command and result (`laws.rt`), that each number of the page has its own name and

@@ -73,8 +73,8 @@ impl<'a, R: Wait, K: KeyHash + Drop, G: Gate> Tending<'a, R, K, G> {
         asking.into_caller()
     }
 
-    /// Drops the dead items of shelf `turn`, modulo their number, and of those behind it, and returns
-    /// the next turn.
+    /// Drops the dead items of shelf `turn`, modulo their number, and of those behind it, and
+    /// returns the next turn.
     ///
     /// If the clock has risen it takes one shelf for each 64, so that 64 calls reach all shelves.
     /// While writes lack chunks it takes also one for each 16.

@@ -49,9 +49,9 @@ impl<'a, G: Gate, T: Tally, C: Clock> Worker<'a, G, T, C> {
     /// It makes rounds of the guests that are awake until none is, or 64 visits were made, and then
     /// admits up to 32 new links. The clock is read before these rounds, and all of their visits
     /// have its moment. When it has risen, the dead items of the next shelf in turn are dropped
-    /// first; with more than 64 shelves it takes several, so that 64 risings reach all shelves. Since
-    /// a write found no chunk, one more for each 16 shelves is taken before each of the next 16
-    /// series of rounds. Each step is followed by the growth of its key's shelf by 8 entries.
+    /// first; with more than 64 shelves it takes several, so that 64 risings reach all shelves.
+    /// Since a write found no chunk, one more for each 16 shelves is taken before each of the next
+    /// 16 series of rounds. Each step is followed by the growth of its key's shelf by 8 entries.
     ///
     /// The caller is returned with further calls in its past and nothing else, each at a moment
     /// that the clock may give; there is a legal history that keeps this past. A fault of one link,
@@ -166,8 +166,8 @@ fn look_if_busy<L: Link + Drop, Q: Links<L>>(guests: &Guests<L>, links: &mut Q)
     }
 }
 
-/// Makes a round at a moment: visits all awake guests, drops those that ended, and puts idle ones to
-/// sleep.
+/// Makes a round at a moment: visits all awake guests, drops those that ended, and puts idle ones
+/// to sleep.
 #[inline]
 fn make_round<R: Wait, K: KeyHash + Drop, L: Link + Drop, G: Gate, T: Tally>(
     alloc: Global,

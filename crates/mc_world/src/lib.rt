@@ -9,8 +9,8 @@
 //!
 //! A [`World`] runs such lists: `run` until memory is refused ([`Refused`]), and `run_through` past
 //! refusals, which it counts ([`Ended`]). [`serve_one`] serves one session of a world over a reader
-//! and a writer, by the loop of `mc_session`; the program uses it for `--stdin`. [`WorldParts`] are the
-//! parts of a world, for a caller that makes one from a store and also calls the store itself.
+//! and a writer, by the loop of `mc_session`; the program uses it for `--stdin`. [`WorldParts`] are
+//! the parts of a world, for a caller that makes one from a store and also calls the store itself.
 //!
 //! The definitions have a plain world beside it: for each session the stream so far and the turns
 //! taken, and the plain machine's state. `World::run` promises that for every list of events the

@@ -57,8 +57,8 @@ fn insert(index: &mut Index<Read>, alloc: Global, entry: Read) -> Result<(), All
 
 /// Moves all entries of the old table, and checks how often hashes were read.
 ///
-/// An entry that is moved may be searched for its place among the strays; a stray that stays is read
-/// once, and only the first one is searched for.
+/// An entry that is moved may be searched for its place among the strays; a stray that stays is
+/// read once, and only the first one is searched for.
 fn reads_each_once(rt: &impl Abort, index: &mut Index<Read>, reads: &Cell<u64>) {
     reads.set(0);
     let growing = index.is_growing();

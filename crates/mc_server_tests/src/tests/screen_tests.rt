@@ -1,7 +1,7 @@
 //! First bytes of connections, and links that end where these show another protocol.
 
 use mc_guests::{Got, Link, LinkFault, Took};
-use mc_sockets::{Part, Peer, Protocol, Screen, Verdict};
+use mc_sockets::{Part, Peer, PieceOpening, Protocol, Screen};
 use std::test::Fail;
 
 /// A header of the binary protocol, with a key of 1 byte.
@@ -134,9 +134,14 @@ fn nothing_of_a_header_is_handed_on(rt: HostRuntime) -> Result<(), Fail> {
 #[test]
 fn a_header_is_known_with_its_last_byte(rt: HostRuntime) -> Result<(), Fail> {
     let (most, _) = HEADER.split_at(23);
-    assert!(rt; matches!(Part::Nothing.judge(most), Verdict::Open(Part::Header(_))));
+    assert!(rt;
+        matches!(
+            Part::Nothing.judge(most),
+            PieceOpening::Open(Part::Header(_))
+        )
+    );
     let whole = Part::Nothing.judge(HEADER);
-    assert!(rt; matches!(whole, Verdict::Other(Protocol::Binary, 24)));
+    assert!(rt; matches!(whole, PieceOpening::Other(Protocol::Binary, 24)));
     Ok(())
 }
 

@@ -117,8 +117,8 @@ fn the_account_of_the_class_stays(rt: HostRuntime) -> Result<(), Fail> {
     keeps_the_account(&rt, rt.alloc(), &mut store)
 }
 
-/// The charge of a class with 230 chunks in a page. Its blocks are copied in the first part of a set
-/// that takes other chunks than its item has.
+/// The charge of a class with 230 chunks in a page. Its blocks are copied in the first part of a
+/// set that takes other chunks than its item has.
 const MIDDLING: u64 = 4544;
 
 /// How many other keys are set, and then `k`: the reply, and whether the second part copies the
