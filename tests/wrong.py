@@ -1,8 +1,8 @@
 """Judges the wrong bodies of the crates: `python3 -m tests.wrong [CRATE..] [--only NAME] [--anew] [--left] [--edits] [--beside FOLDER]`
 
 Each crate's wrong bodies (`crates/NAME/wrong/`) are planted at once in a copy of its sources, and one check must refuse each one's function for
-a reason of its own (lib/bodies.py). Bodies that change the same function have a further check, and one that changes more than bodies of
-functions has one of its own. Each begins with the work of the one before. What was refused is kept beside the toolchain by the sums of all
+a reason of its own (lib/bodies.py). Bodies that change the same function are planted in twins of it, and one that changes more than functions
+of no trait has a check of its own. Each begins with the work of the one before. What was refused is kept beside the toolchain by the sums of all
 that it rests on (lib/rests.py), and is not judged again; --anew judges all. --only judges one alone. --left takes the libraries that a run of `rt ci` over
 the same sources has just left in the crates' folders, where the toolchain keeps none. --edits judges the edits of `crates/NAME/must-fail/`
 too; one that isn't refused so is tried as `rt must-fail` tries it. With a crate's name each reason is printed. --beside is for a run beside
@@ -127,16 +127,17 @@ class Run:
         if not found[0].changes:
             self.give_up(crate, found[0], "it can't be planted", begin)
             return
-        names = dict.fromkeys(f"{crate.name}::{it.function}" for it in found)
+        texts, spots = crate.sources.planted(found)
+        names = dict.fromkeys(f"{crate.name}::{name}" for it in spots.values() for name in (it.function, it.control) if name)
         flags = [word for it in names for word in ("--only", it)]
         try:
-            status, output = self.copy.check(crate.name, crate.sources.planted(found), [*flags, "--jobs", str(self.each())], begin, keep)
+            status, output = self.copy.check(crate.name, texts, [*flags, "--jobs", str(self.each())], begin, keep)
         except Late as late:
             self.find_late(crate, found, str(late), keep)
             return
         said = bodies.verdicts(output, crate.name)
         if status in (0, 1, 3) and said and not bodies.unread(output):
-            self.part(crate, found, said, begin, keep)
+            self.part(crate, found, spots, said, begin, keep)
         elif status not in (0, 1, 3) and begin and not bodies.lacks(output):
             # what was kept may have changed while it was copied
             self.add(crate, found, None)
@@ -157,10 +158,10 @@ class Run:
         for body in found:
             self.add(crate, [body], keep)
 
-    def part(self, crate, found, said, begin, keep):
+    def part(self, crate, found, spots, said, begin, keep):
         """Notes which bodies a check refuses. What isn't refused beside others is tried alone, and then from nothing."""
         for body in found:
-            is_refused, why = bodies.reason(body, f"{crate.name}::{body.function}", said)
+            is_refused, why = bodies.reason(spots[body.name], crate.name, said)
             if is_refused:
                 self.results.keep(crate, body, why)
                 with self.turn:

@@ -8,8 +8,12 @@ A wrong body is a file `crates/NAME/wrong/BODY.edit`:
     new: moment < now.seconds(),
 
 `function:` names the function that the check must refuse, by the name that a check prints, without the crate. Each `old:` text is one line and
-stands once in its file. The function is refused where a goal of its contract or of its body is not proved, or where a line of its proof
+stands once in its file, or is one whole line of it alone. The function is refused where a goal of its contract or of its body is not proved, or where a line of its proof
 doesn't fit any more. It is not refused where a name is gone, where the text can't be read, or where only a callee is not proved.
+
+One check judges many bodies. Where two change the same function, the second is planted in a twin: a function of another name beside it, with
+the same clauses and a copy of its proof. So is a changed clause of a law. Beside twins stands one that has the function's own body: a twin's
+refusal counts where that one is proved.
 """
 import glob
 import os
@@ -29,12 +33,31 @@ GONE = re.compile(r"has no field|is not in scope|has no `|was not admitted|is no
 AT_END = re.compile(r"\(`returns(-clause-[\w-]+)?`\)")
 FALSE = "allow values at which this goal is false"
 HEAD = re.compile(r"(\s*)(?:pub(?:\([a-z]+\))? )?(?:const )?(?:unsafe )?fn (\w+)")
+ATTRIBUTE = re.compile(r"\s*#\[")
 # What owns functions: a trait, an `impl` of a type, or of a trait for it.
 OWNER = re.compile(r"(?:pub(?:\([a-z]+\))? )?(?:trait|impl(?:<.*?>)?) (?:(\w+)(?:<.*?>)? for )?&?(?:\w+::)*(\w+)")
 
 
 class Unplanted(Exception):
     """A wrong body that can't be read or planted."""
+
+
+@dataclass(frozen=True)
+class Span:
+    """A function of its own, or of a type's `impl`: its name, the lines of its first attribute, of its name and of its end, counted from 0."""
+
+    name: str
+    first: int
+    head: int
+    last: int
+
+
+@dataclass(frozen=True)
+class Spot:
+    """What a check judges of a wrong body: the function that must be refused, and the one that must be proved beside a twin."""
+
+    function: str
+    control: str = ""
 
 
 @dataclass(frozen=True)
@@ -75,7 +98,16 @@ class Sources:
     """The files of a crate as they stand."""
 
     def __init__(self, folder):
-        self.folder, self.texts, self.names = folder, {}, set()
+        self.folder, self.texts, self.names, self.found = folder, {}, set(), {}
+
+    def once(self, kind, key, make):
+        """What is made of a body or a file, which is made once."""
+        if (kind, key) not in self.found:
+            self.found[kind, key] = make()
+        return self.found[kind, key]
+
+    def spans(self, file):
+        return self.once("spans", file, lambda: list(spans(self.text(file))))
 
     def text(self, file):
         """The text of a file below src/, specs/ or proofs/."""
@@ -96,23 +128,32 @@ class Sources:
 
     def cuts(self, body):
         """What a wrong body replaces: the file, where it begins and ends there, and the new text."""
+        return self.once("cuts", body, lambda: self.find_cuts(body))
+
+    def find_cuts(self, body):
         found = []
         for file, old, new in body.changes:
             text = self.text(file)
-            if text.count(old) != 1:
+            whole = f"\n{old}\n"
+            if text.count(old) != 1 and text.count(whole) != 1:
                 raise Unplanted(f"an 'old:' text stands in {file} {text.count(old)} times, and not once")
             if old == new:
                 raise Unplanted("an 'old:' and a 'new:' text are the same")
-            at = text.index(old)
+            at = text.index(old) if text.count(old) == 1 else text.index(whole) + 1
             if new.startswith(old):
                 # what is put behind a text
                 found.append((file, at + len(old), at + len(old), new[len(old):]))
+            elif new.endswith(old):
+                found.append((file, at, at, new.removesuffix(old)))
             else:
                 found.append((file, at, at + len(old), new))
         return found
 
     def spots(self, body):
         """The functions whose bodies a wrong body changes, or None where it changes anything else: a type, a constant, a clause."""
+        return self.once("spots", body, lambda: self.find_spots(body))
+
+    def find_spots(self, body):
         found = set()
         for file, begin, end, new in self.cuts(body):
             text = self.text(file)
@@ -126,13 +167,66 @@ class Sources:
             found.add((file, *inside[-1]))
         return found if any(name == body.function.rpartition("::")[2] for _, name, _, _ in found) else None
 
+    def twin_of(self, body):
+        """The function that a twin can stand beside, the changes in it, its clauses among them, and those outside of all functions; or None.
+
+        Outside a body may put a text before or behind a line, and change what a file uses for its clauses.
+        """
+        return self.once("twin", body, lambda: self.find_twin(body))
+
+    def find_twin(self, body):
+        cuts, name = self.cuts(body), body.function.rpartition("::")[2]
+        for file in sorted({file for file, _, _, _ in cuts if file.startswith("src/")}):
+            text = self.text(file)
+            lines = [(text.count("\n", 0, begin), text.count("\n", 0, end)) for _, begin, end, _ in cuts]
+            for span in self.spans(file):
+                inside = [cut for cut, (one, other) in zip(cuts, lines) if cut[0] == file and span.head < one and other <= span.last]
+                outside = [cut for cut in cuts if cut not in inside]
+                if span.name == name and inside and all(map(self.is_beside, outside)):
+                    return file, span, inside, outside
+        return None
+
+    def is_beside(self, cut):
+        """Whether a change lies outside of all functions, and takes nothing away but names that a file uses for its clauses."""
+        file, begin, end, _ = cut
+        text = self.text(file)
+        at = text.count("\n", 0, begin)
+        return (begin == end or text.split("\n")[at].startswith("ghost use ")) and not any(it.head < at < it.last for it in self.spans(file))
+
+    def copy_of(self, file, span, name, changes=()):
+        """The text of a function under another name, with changes."""
+        lines = self.text(file).split("\n")
+        base = len("\n".join(lines[:span.first])) + 1 if span.first else 0
+        text = "\n".join(lines[span.first:span.last + 1])
+        for begin, end, new in sorted(changes, reverse=True):
+            text = text[:begin - base] + new + text[end - base:]
+        return "\n\n" + re.sub(rf"\bfn {span.name}\b", f"fn {name}", text, count=1)
+
+    def proofs_of(self, function, name):
+        """The files of a function's proof, for a function of another name beside it."""
+        *path, own = function.split("::")
+        folder, texts = "/".join(["proofs", *path, own]), {}
+        for found in sorted(glob.glob(f"{self.folder}/{glob.escape(folder)}/*.antt")):
+            text = self.text(f"{folder}/{os.path.basename(found)}")
+            words = re.escape(".".join(["proofs", *path, own]))
+            texts["/".join(["proofs", *path, name, os.path.basename(found)])] = re.sub(rf"\b{words}\b", ".".join(["proofs", *path, name]), text)
+        return texts
+
     def planted(self, bodies):
-        """The texts of the files that change, with the bodies planted."""
-        cuts = {}
+        """The texts of the files that change or are new, with the bodies planted, and what is to be judged of each body."""
+        cuts, texts, judged, taken = {}, {}, {}, set()
         for body in bodies:
-            for file, *cut in self.cuts(body):
-                cuts.setdefault(file, []).append(cut)
-        texts = {}
+            spots = self.spots(body)
+            if len(bodies) == 1 or spots is not None and not taken & spots:
+                taken |= spots or set()
+                judged[body.name], changes = Spot(body.function), self.cuts(body)
+            else:
+                number = sum(bool(it.control) for it in judged.values())
+                judged[body.name], changes, proofs = self.twin(body, number)
+                texts.update(proofs)
+            for file, *cut in changes:
+                if cut not in cuts.setdefault(file, []):
+                    cuts[file].append(cut)
         for file, found in cuts.items():
             text, last = self.text(file), None
             for begin, end, new in sorted(found, reverse=True):
@@ -140,23 +234,37 @@ class Sources:
                     raise Unplanted("two changes meet")
                 text, last = text[:begin] + new + text[end:], begin
             texts[file] = text
-        return texts
+        return texts, judged
+
+    def twin(self, body, number):
+        """What is to be judged of a body in a twin of this number, the changes that plant it, and the files of its proof."""
+        if not (found := self.twin_of(body)):
+            raise Unplanted("two changes meet")
+        file, span, inside, outside = found
+        owner, own = body.function.rpartition("::")[::2]
+        names = [f"{own}_wrong_{number}", f"{own}_right_{number}"]
+        end = len("\n".join(self.text(file).split("\n")[:span.last + 1]))
+        both = self.copy_of(file, span, names[0], [cut for _, *cut in inside]) + self.copy_of(file, span, names[1])
+        proofs = {path: text for name in names for path, text in self.proofs_of(body.function, name).items()}
+        return Spot(*[f"{owner}::{it}" if owner else it for it in names]), [*outside, (file, end, end, both)], proofs
 
     def rounds(self, bodies):
-        """Parts the bodies: those that one check can judge together, since each changes other functions, and those that want one of their own."""
+        """Parts the bodies: those that one check can judge together, and those that want one of their own."""
         together, alone = [], []
         for body in bodies:
-            spots = self.spots(body)
-            if spots is None:
-                alone.append([body])
-                continue
-            fits = next((it for it in together if not it[1] & spots), None)
+            fits = next((it for it in together if self.fits([*it, body])), None)
             if fits:
-                fits[0].append(body)
-                fits[1].update(spots)
+                fits.append(body)
             else:
-                together.append(([body], set(spots)))
-        return [it for it, _ in together] + alone
+                (together if self.fits([body, body]) or self.spots(body) is not None else alone).append([body])
+        return together + alone
+
+    def fits(self, bodies):
+        """Whether these bodies can be planted together."""
+        try:
+            return bool(self.planted(bodies))
+        except Unplanted:
+            return False
 
 
 def names(path):
@@ -194,6 +302,25 @@ def functions(text):
             if now.endswith(";") and not now.startswith(inset + " ") or now == inset + "}" or first > at and HEAD.match(now):
                 break
     return found
+
+
+def spans(text):
+    """The functions of a source beside which a twin can stand: those of no trait, and of no cycle of calls."""
+    lines, owner = text.split("\n"), ""
+    for at, line in enumerate(lines):
+        if OWNER.match(line):
+            owner = "trait" if " for " in line or re.match(r"(?:pub(?:\([a-z]+\))? )?trait\b", line) else "type"
+        elif line == "}":
+            owner = ""
+        head = HEAD.match(line)
+        if not head or owner == "trait" or bool(head[1]) != bool(owner):
+            continue
+        ends = (it for it in range(at, len(lines)) if lines[it] in (head[1] + "}", head[1] + "{}") or it == at and "{" in line and line.endswith("}"))
+        first, last = at, next(ends, None)
+        while first and ATTRIBUTE.match(lines[first - 1]):
+            first -= 1
+        if last is not None and not any("cycle(" in it or "#[test]" in it for it in lines[first:at]):
+            yield Span(head[2], first, at, last)
 
 
 def culprits(output, bodies, crate):
@@ -252,8 +379,16 @@ def unread(output):
     return any(map(UNREAD.match, output.split("\n")))
 
 
-def reason(body, name, said):
+def stands(is_proved, reasons, line):
+    """Whether a function is proved, or would be if what it calls were: a check judges other wrong bodies beside."""
+    return is_proved or not reasons and line.startswith("no proof: it calls ")
+
+
+def reason(spot, crate, said):
     """Whether a check refuses a wrong body's function for a reason of its own, and what is to be said; None where there is no such function."""
+    name, control = f"{crate}::{spot.function}", f"{crate}::{spot.control}"
+    if spot.control and not stands(*said.get(control, (False, [], ""))):
+        return False, f"{control} is not proved, which has the function's own body"
     if name not in said:
         return None, f"there is no function {name}"
     is_proved, reasons, line = said[name]

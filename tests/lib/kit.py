@@ -207,6 +207,9 @@ class Copy:
         """Checks a crate with these texts in place of its own, and gives the status and the output. What it proves is kept in the folder `keep`,
         which begins with what the folder `begin` holds, if there is one. Raises Late if it gives no verdict in time."""
         self.begin_with(begin, keep)
+        for path in texts:
+            # `rt` makes no folder for a text that is new
+            os.makedirs(os.path.dirname(f"{self.crates[name].folder}/{path}"), exist_ok=True)
         for _time in range(2):
             with self.limit.within():
                 ran = self.rt.checked(self.crates[name], texts, flags, keep)
