@@ -2,10 +2,11 @@
 use Rattle.mc_grow.proofs.Words.{◌≡◌, ◌≢◌, ℕ, zero, suc, ◌+◌, ◌-◌, ◌<◌, ◌≤◌, ◌/◌, ◌^◌, inl, inr, if◌then◌else◌, List, [], ◌∷◌, ◌++◌, Some, None, map, length}
 use Rattle.mc_grow.proofs.Words.{length-append, length-set, get_or, set, sym, ap, subst, ◌∙◌, arith, cases_eq, cases_lt, pow-succ', get_or-map, get_or_append_left}
 use Rattle.mc_grow.proofs.Words.{get_or_push, get_or_read, length-map, map-append, map-set, set-get_or, reads, head_of, tail_of, slice_cmp, IsSwapped, IsAbsent, IsAt, IndexState}
-use Rattle.mc_grow.proofs.Words.{binary_digits, digits_in, most_reads, IsBefore, IsGap, IsOrder, forgotten, key_by, keys_in}
+use Rattle.mc_grow.proofs.Words.{binary_digits, digits_in, most_reads, IsBefore, IsGap, IsListed, IsOrder, forgotten, key_by, keys_in, ext_get_or}
 use Rattle.std.proofs.lemmas.Cmp.{nat_list_cmp_total, tied_itself}
 use Rattle.std.proofs.lemmas.List.Edits.{get_or-insert_at, get_or-insert_below, get_or-insert_above, get_or-remove_below, get_or-remove_above, length-insert, length-remove}
 use Rattle.std.proofs.Common.{nat_cmp, Ordering, Greater}
+use Rattle.std.proofs.lemmas.Simd.{map-map}
 use Rattle.std.specs.Ordering.{ordering_reverse}
 use Rattle.std.specs.List.{insert}
 use Rattle.mc_grow.proofs.PartLemmas.{map-swapped, some_stray, stray_inside, stray_is}
@@ -183,6 +184,35 @@ module _ {X : Type 0} (hash_of : X → ℕ) (key_of : X → List ℕ) where
     goes {fewer} {number = number} {place} {last} x swap l place_in there last_in last_there is =
         rw is (order_less (keys items) (keys fewer) order number place last o (map-swapped key x l swap) (omega (arith, l, many_keys items)) place_in there last_in
         (omega (arith, last_there, many_keys items)))
+
+-- ---- their hashes
+
+-- two lists are one where the same one was taken out of a list
+swapped_once : (old one other : List ℕ) (at : ℕ) → IsSwapped old one at → IsSwapped old other at → one ≡ other
+swapped_once old one other at a b =
+    ext_get_or 0 one other (omega (arith, a.shorter, b.shorter)) (λ k l.
+    grind (arith, cases_eq k at, a.shorter, b.shorter, a.last 0, b.last 0, a.others k 0, b.others k 0))
+
+module _ {X : Type 0} (hash_of : X → ℕ) (key_of : X → List ℕ) where
+  pub hashes_kept : (items others : List X) → keys_in hash_of key_of others ≡ keys_in hash_of key_of items → map hash_of others ≡ map hash_of items
+  hashes_kept items others same =
+      let head : List ℕ → ℕ = λ k. get_or k 0 0 in
+      sym (map-map head (key hash_of key_of) others) ∙ ap (map head) same ∙ map-map head (key hash_of key_of) items
+
+  module _ {items : List X} {hashes order : List ℕ} (its : IsListed hash_of key_of items hashes order) where
+    pub many_hashes : length hashes ≡ length items
+    many_hashes = ap length its.hashes ∙ length-map items hash_of
+
+    pub own_hash : {number hash : ℕ} (x : X) → number < length items → x ≡ get_or items number x → hash ≡ get_or hashes number hash → hash ≡ hash_of x
+    own_hash {number} {hash} x l lent read = read ∙ ap (λ (all : List ℕ). get_or all number hash) its.hashes ∙ get_or-map hash_of items number x hash l ∙ ap hash_of (sym lent)
+
+    pub hashes_more : {more : List X} {longer : List ℕ} {hash : ℕ} (x : X) → more ≡ items ++ (x ∷ []) → hash ≡ hash_of x → longer ≡ hashes ++ (hash ∷ []) → longer ≡ map hash_of more
+    hashes_more {more} {longer} {hash} x pushed same put =
+        put ∙ (λ i. its.hashes i ++ (same i ∷ [])) ∙ sym (ap (map hash_of) pushed ∙ map-append hash_of items (x ∷ []))
+
+    pub hashes_less : {fewer : List X} {shorter : List ℕ} {at : ℕ} (x : X) → at < length items → IsSwapped items fewer at → IsSwapped hashes shorter at → shorter ≡ map hash_of fewer
+    hashes_less {fewer} {shorter} {at} x l swap out =
+        swapped_once (map hash_of items) shorter (map hash_of fewer) at (subst (λ (all : List ℕ). IsSwapped all shorter at) its.hashes out) (map-swapped hash_of x l swap)
 
 -- ---- what a search costs
 

@@ -26,5 +26,5 @@ pub use Rattle.mc_grow.specs.Adding.{AreMoved, AreTaken, AreTried, Side, cells_o
 pub use Rattle.mc_grow.specs.Indexes.{IndexState, IsRemoved, IsUpdated, cells, entry_at, left, IsPlaceOf, count, holds, IsFirstFrom, count_from, binary_digits, digits_in, most_reads}
 pub use Rattle.mc_grow.specs.Moving.{HoldsAll, IsIn, IsTried, IsTaken}
 pub use Rattle.mc_grow.specs.Parts.{IsChanged, drained_items, IsFirstFilled, NoneFilledFrom, NoneFilled}
-pub use Rattle.mc_grow.specs.Strays.{IsBefore, IsGap, IsOrder, forgotten, key_by, keys_in, StraysState}
+pub use Rattle.mc_grow.specs.Strays.{IsBefore, IsGap, IsListed, IsOrder, forgotten, key_by, keys_in, StraysState}
 pub use Rattle.mc_grow.specs.declared.index.Place.{Place}

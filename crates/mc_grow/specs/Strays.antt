@@ -37,6 +37,11 @@ pub record IsOrder (keys : List (List ℕ)) (order : List ℕ) : Type 0 where
   pub each : (n : ℕ) → n < length keys → (p : ℕ) × (p < length order) × (slice_index_or order p 0 ≡ n)
   pub rises : (p q : ℕ) → p < q → q < length order → IsBefore (key_by keys order p) (key_by keys order q)
 
+-- each stray's hash stands under its number, and the numbers stand in the order of hashes and keys
+pub record IsListed {X : Type 0} (hash_of : X → ℕ) (key_of : X → List ℕ) (items : List X) (known order : List ℕ) : Type 0 where
+  pub hashes : known ≡ map hash_of items
+  pub sorted : IsOrder (keys_in hash_of key_of items) order
+
 -- what stands before a place comes before a hash and key, and what stands from there on comes behind it
 pub record IsGap (keys : List (List ℕ)) (order : List ℕ) (key : List ℕ) (place : ℕ) : Type 0 where
   pub inside : place ≤ length order

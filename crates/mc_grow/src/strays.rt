@@ -2,7 +2,8 @@
 //!
 //! The order is by hash, then key, so a search among n strays reads at most as many as n has binary
 //! digits. Keys with one hash are cheap to make, and each beyond 32 in a home is a stray. Inserting
-//! moves 8 bytes for each following stray, and no entries.
+//! moves 8 bytes for each following stray, and no entries. The hashes are in a list of their own:
+//! the end of a growth reads them, and no entry of a home that was just found crowded.
 
 ghost use Rattle.std.specs.Prelude.{◌≡◌, ℕ, ◌+◌, ◌<◌, ◌≤◌, ◌^◌, ◌∷◌, ◌++◌, [], Some, None, IfSome, IsNone, IfOk, IfErr, OnOk, map, length};
 ghost use Rattle.std.specs.Prelude.{is_some, not, option_copied, slice_index_or, vec_capacity};
@@ -28,16 +29,18 @@ use std::marker::Model;
 /// The numbers are the order of insertion, except that the last stray takes the number of a removed
 /// one. A second list has the numbers in the order of hashes, and of keys for equal hashes. So a
 /// search reads at most as many entries as their number has binary digits, whatever the hashes are.
+/// A third list has the hash of each number.
 /// Contracts see the entries by number, and how many there is room for.
 #[derive(Drop)]
 pub(crate) struct Strays<T: Keyed + Drop> {
     items: Vec<T>,
+    hashes: Vec<u64>,
     order: Vec<usize>,
 }
 
 impl<T: Keyed + Drop> Model for Strays<T> {
     ghost use Rattle.std.specs.Prelude.{min, vec_capacity};
-    ghost use Rattle.mc_grow.specs.Strays.{IsOrder, StraysState, coded_strays, keys_in};
+    ghost use Rattle.mc_grow.specs.Strays.{IsListed, StraysState, coded_strays};
 
     ghost Value = { StraysState T };
 
@@ -45,10 +48,11 @@ impl<T: Keyed + Drop> Model for Strays<T> {
 
     ghost view = { λ s. record {
       items = s.items.items;
-      room = min (vec_capacity s.items) (vec_capacity s.order);
+      room = min (vec_capacity s.items) (min (vec_capacity s.hashes) (vec_capacity s.order));
     } };
 
-    ghost invariant = { λ s. IsOrder (keys_in T.hash_of T.key_of s.items.items) s.order.items };
+    ghost invariant = { λ s. IsListed T.hash_of T.key_of s.items.items s.hashes.items
+        s.order.items };
 }
 
 /// Compares the hash and key of an entry with others: first the hashes, then the keys.
@@ -136,6 +140,7 @@ impl<T: Keyed + Drop> Strays<T> {
     {
         Strays {
             items: Vec::new(alloc),
+            hashes: Vec::new(alloc),
             order: Vec::new(alloc),
         }
     }
@@ -152,7 +157,8 @@ impl<T: Keyed + Drop> Strays<T> {
     pub(crate) fn room(&self) -> usize
         ensures { result ≡ self.now.room }
     {
-        self.items.capacity().min(self.order.capacity())
+        let listed = self.hashes.capacity().min(self.order.capacity());
+        self.items.capacity().min(listed)
     }
 
     /// Returns the number of the stray with this hash and key, or `None`.
@@ -190,6 +196,7 @@ impl<T: Keyed + Drop> Strays<T> {
         ensures room { self.old.room ≤ self.new.room }
     {
         self.items.reserve(more)?;
+        self.hashes.reserve(more)?;
         self.order.reserve(more)
     }
 
@@ -204,17 +211,14 @@ impl<T: Keyed + Drop> Strays<T> {
         ensures room { self.new.room ≡ self.old.room }
     {
         let number = self.items.len();
-        let place = match search(
-            &self.items,
-            &self.order,
-            entry.hash(),
-            entry.key(),
-            &mut Uncounted,
-        ) {
+        let hash = entry.hash();
+        let found = search(&self.items, &self.order, hash, entry.key(), &mut Uncounted);
+        let place = match found {
             Err(place) => place,
             Ok(_) => unreachable!(),
         };
         self.items.push_reserved(entry);
+        self.hashes.push_reserved(hash);
         let _ = self.order.insert(place, number);
     }
 
@@ -231,6 +235,7 @@ impl<T: Keyed + Drop> Strays<T> {
         let place = place_of(&self.items, &self.order, at);
         let last = place_of(&self.items, &self.order, self.items.len() - 1);
         forget(&mut self.order, place, last);
+        self.hashes.swap_remove(at);
         self.items.swap_remove(at)
     }
 
@@ -252,13 +257,13 @@ impl<T: Keyed + Drop> Strays<T> {
         update_stray(&mut self.items, at, change)
     }
 
-    /// Returns the home in a table of the stray of a number.
+    /// Returns the home in a table of the stray of a number. It reads no entry.
     fn home_of(&self, table: &Hop<T>, at: usize) -> usize
         requires { at < length self.now.items }
         ensures { (entry : T) → entry ≡ slice_index_or self.now.items at entry →
             result ≡ home_in table.now.k (T.hash_of entry) }
     {
-        table.home_of(self.items[at].hash())
+        table.home_of(self.hashes[at])
     }
 
     /// Tries to move the stray of a number into a table, and returns whether it moved.
@@ -281,6 +286,7 @@ impl<T: Keyed + Drop> Strays<T> {
         let went = try_item(table, &mut self.items, at);
         if went {
             forget(&mut self.order, place, last);
+            self.hashes.swap_remove(at);
         }
         went
     }
