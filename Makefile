@@ -152,7 +152,7 @@ soak: $(SERVED)
 
 # Inputs that AFL++ makes, one of each path of which the model judges; it wants Debian's package afl++: make fuzz MINUTES=60
 fuzz: $(SERVED)
-	@PROGRAM=$(PROGRAM) python3 -m tests.fuzz --minutes $(MINUTES)
+	@PROGRAM=$(PROGRAM) python3 -m tests.fuzz --minutes $(MINUTES) --jobs $(JOBS)
 
 # What takes too long for the gate, hours in all, or one step of it: make nightly STEP=soak
 nightly: $(SERVED) $(if $(SERVED),bench-build)

@@ -2,7 +2,7 @@
 """Writes the parts of the documents that the sources hold, and checks the rest.
 
   python3 docs/make.py            writes out/docs/CALLS.md and out/docs/DEFINITIONS.md, the regions `<!-- made: KIND -->` of README.md
-                                  and docs/, docs/tcp.svg and docs/tcp-all.svg, and in tests/counts.txt what lies in folders
+                                  and docs/, docs/tcp.svg and docs/tcp-all.svg, and tests/names.txt, what lies in folders
   python3 docs/make.py --check    writes nothing. Prints each stale region, each link, path and name that isn't there, each option that
                                   PROTOCOL.md or the manual page lacks, each wrong body that can't be planted any more, each worked example without
                                   a test, and the counts of style.py. Last line: 'N passed, M failed'
@@ -292,7 +292,7 @@ def lacking_options():
 def lost_texts():
     """Texts of standard error in PROTOCOL.md's table of statuses that no source and no row has."""
     table = re.search(r"\| Status \| When \|.*?\n\n", read("docs/PROTOCOL.md"), re.S).group(0)
-    known = "\n".join(read(path) for path in tracked() if re.fullmatch(r"crates/\w+/src/.*\.rt|tests/rows/\w+/stderr.*", path))
+    known = "\n".join(read(path) for path in tracked() if re.fullmatch(r"crates/\w+/src/.*\.rt|tests/rows/\w+/\w+/stderr.*", path))
     for text in re.findall(r"`(mcserver: [^`]*)`", table):
         # what differs from run to run: the address, an option and its value
         parts = re.split(r"(?: on)? ADDR:PORT|'-u' \('--user'\)|-m \"64m\"", text.removeprefix("mcserver: "))
@@ -314,9 +314,8 @@ def unplanted():
 
 
 def miscounted():
-    """Wrong bodies, crates and rows that are gone, or that tests/counts.txt lacks."""
-    pinned = counts.read()
-    return [line for kind, seen in counts.lying().items() for line in counts.faults(kind, seen, pinned.get(kind, {}))]
+    """Wrong bodies, crates and rows that are gone, or that tests/names.txt lacks; and fewer worked examples than tests/counts.txt has."""
+    return [*counts.lost(counts.lying(), counts.names()), *counts.faults("folders", counts.worked(), counts.read().get("folders", {}))]
 
 
 def check():
@@ -335,8 +334,8 @@ def main():
     (ROOT / "out/docs").mkdir(parents=True, exist_ok=True)
     for path, text in [("out/docs/CALLS.md", list_calls()), ("out/docs/DEFINITIONS.md", list_definitions()), *made_anew()]:
         (ROOT / path).write_text(text, encoding="utf-8")
-    for kind, seen in counts.lying().items():
-        counts.pin(kind, seen)
+    counts.pin_names(counts.lying())
+    counts.pin("folders", counts.worked())
     return 0
 
 

@@ -56,6 +56,13 @@ class Answers:
         at = self.got.find(mark)
         return self.take(len(self.got) if at < 0 else at + len(mark))
 
+    def rest(self):
+        """All that comes before the stream ends."""
+        end = time.monotonic() + self.seconds
+        while self.more(end):
+            pass
+        return self.take(len(self.got))
+
     def asks(self, sent, wanted):
         """Sends, and fails unless the answer is the wanted one."""
         self.send(sent)

@@ -37,7 +37,7 @@ def tests_of(items, name_of):
 
 
 def side_by_side(made):
-    """Lets the tests of a class run beside one another if a whole kind is run: all begin with the first. It is for tests without parts that mostly sleep."""
+    """Lets the tests of a class run beside one another in a whole run: all begin with the first. It is for tests without parts that mostly sleep."""
     names, running = unittest.defaultTestLoader.getTestCaseNames(made), {}
     tests = {name: getattr(made, name) for name in names}
 

@@ -1,7 +1,7 @@
-"""How many tests there are: tests/counts.txt names each file with its parts and its skipped tests, and each crate with its wrong bodies.
+"""What tests there are: tests/counts.txt names each file with its parts and its skipped tests, and tests/names.txt each crate, wrong body and row.
 
 A file with fewer parts than it says, or with more skipped tests, has failed; one with more parts wants its new line, in the same commit:
-`python3 -m tests KIND --pin` writes the lines of a kind of tests, and `make docs` those of what lies in folders.
+`python3 -m tests KIND --pin` writes the lines of a kind of tests, and `make docs` the names of what lies in folders.
 """
 import glob
 import os
@@ -9,10 +9,15 @@ import os
 from tests.lib import examples
 from tests.lib.settings import ROOT
 
-FILE = f"{ROOT}/tests/counts.txt"
-HEAD = """# How many parts each file of tests has, and how many of its tests are skipped on the gate's machine; how many wrong bodies each crate has.
-# The gate compares them. `python3 -m tests KIND --pin` and `make docs` write a kind's lines anew (tests/lib/counts.py).
+FILE, NAMES = f"{ROOT}/tests/counts.txt", f"{ROOT}/tests/names.txt"
+HEAD = """# How many parts each file of tests has, and how many of its tests are skipped on the gate's machine. The gate compares them.
+# `python3 -m tests KIND --pin` and `make docs` write a kind's lines anew (tests/lib/counts.py).
 """
+HEAD_OF_NAMES = """# The crates, their wrong bodies and the rows of inputs and outputs: one that is gone, or that isn't named here, fails the gate.
+# `make docs` writes them anew (tests/lib/counts.py).
+"""
+# Where they lie.
+LIE = ["crates/*/src", "crates/*/wrong/*.edit", "crates/*/must-fail/*.edit", "tests/rows/*/*"]
 
 
 def read(file=FILE):
@@ -37,20 +42,32 @@ def pin(kind, seen, file=FILE):
 
 
 def lying(root=ROOT):
-    """What lies in folders: the wrong bodies of each crate, those that `rt must-fail` tries too, the crates, and the rows of inputs and outputs;
-    and the worked examples with the names of their tests."""
-    crates = sorted(os.path.basename(os.path.dirname(it)) for it in glob.glob(f"{root}/crates/*/src"))
-    return {
-        "bodies": {it: (len(glob.glob(f"{root}/crates/{it}/wrong/*.edit")), len(glob.glob(f"{root}/crates/{it}/must-fail/*.edit"))) for it in crates},
-        "folders": {"crates": (len(crates),), "tests/rows": (len(glob.glob(f"{root}/tests/rows/*/stdin")),), **worked(root)},
-    }
+    """The names of what lies in folders: crates, wrong bodies and rows."""
+    return sorted(it.removeprefix(f"{root}/").removesuffix("/src") for pattern in LIE for it in glob.glob(f"{root}/{pattern}"))
 
 
-def worked(root):
-    """The worked examples, and the names of their tests."""
-    file = f"{root}/tests/examples.txt"
-    found = examples.read(file) if os.path.exists(file) else {}
-    return {"tests/examples.txt": (len(found), sum(map(len, found.values())))} if found else {}
+def names(file=NAMES):
+    """The names that are pinned."""
+    with open(file, encoding="utf-8") as lines:
+        return [line.strip() for line in lines if line.strip() and not line.startswith("#")]
+
+
+def pin_names(seen, file=NAMES):
+    """Writes the names anew."""
+    with open(file, "w", encoding="utf-8") as to:
+        to.write(HEAD_OF_NAMES + "".join(f"{it}\n" for it in seen))
+
+
+def lost(seen, pinned):
+    """What lies in folders and isn't pinned, and the other way round, a line each."""
+    yield from (f"{it}: it is gone; tests/names.txt names it" for it in sorted({*pinned} - {*seen}))
+    yield from (f"{it}: tests/names.txt lacks it: make docs, in the same commit" for it in sorted({*seen} - {*pinned}))
+
+
+def worked(file=examples.FILE):
+    """How many worked examples there are, and how many names of tests they have."""
+    found = examples.read(file)
+    return {"tests/examples.txt": (len(found), sum(map(len, found.values())))}
 
 
 def faults(kind, seen, pinned):

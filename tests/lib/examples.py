@@ -21,10 +21,10 @@ def read(file=FILE):
 
 @functools.cache
 def places(root=ROOT):
-    """Where each name of a test stands: crate/file, kind/file or tests/rows."""
+    """Where each name of a test stands: crate/file, kind/file or tests/rows/COMMAND."""
     found = {}
-    for path in sorted(glob.glob(f"{root}/tests/rows/*/stdin*") + glob.glob(f"{root}/tests/rows/*/args")):
-        found.setdefault(path.split("/")[-2], {})["tests/rows"] = None
+    for path in sorted(glob.glob(f"{root}/tests/rows/*/*/stdin*") + glob.glob(f"{root}/tests/rows/*/*/args")):
+        found.setdefault(path.split("/")[-2], {})[f"tests/rows/{path.split('/')[-3]}"] = None
     for path in sorted(glob.glob(f"{root}/crates/*/src/**/*.rt", recursive=True)):
         with open(path, encoding="utf-8") as it:
             for name in OF_CRATE.findall(it.read()):

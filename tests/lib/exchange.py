@@ -4,7 +4,7 @@ import socket
 import time
 
 from tests.lib.answers import PIECE, SECONDS
-from tests.lib.server import HOST
+from tests.lib.peer import Peer
 
 
 class Stream:
@@ -12,8 +12,7 @@ class Stream:
 
     def __init__(self, port, data, size):
         self.left, self.size, self.got, self.end = memoryview(data), size or len(data) or 1, [], None
-        self.socket = socket.create_connection((HOST, port), SECONDS)
-        self.socket.setsockopt(socket.IPPROTO_TCP, socket.TCP_NODELAY, 1)
+        self.socket = Peer(port).socket
         self.socket.setblocking(False)
 
     def sends(self):

@@ -4,7 +4,7 @@ A connection that a fault closed is made again. What was asked on it may or may 
 import threading
 import time
 
-from tests.lib.peer import Late, Peer
+from tests.lib.peer import Peer
 
 KEYS = 4
 STORED = b"STORED\r\n"

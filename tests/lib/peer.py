@@ -1,4 +1,4 @@
-"""A client that talks in turns, and several of them."""
+"""The one kind of connection: a client that talks in turns, and several of them."""
 import contextlib
 import socket
 import struct
@@ -11,7 +11,7 @@ from tests.lib.server import HOST
 class Peer(Answers):
     """A connection that sends and waits."""
 
-    def __init__(self, port, seconds=SECONDS, receives=None, segment=None, host=HOST):
+    def __init__(self, port, seconds=SECONDS, receives=None, segment=None, host=HOST, source=None):
         super().__init__(seconds)
         self.socket = socket.socket(socket.AF_INET6 if ":" in host else socket.AF_INET)
         self.socket.settimeout(seconds)
@@ -20,6 +20,8 @@ class Peer(Answers):
         if segment:
             self.socket.setsockopt(socket.IPPROTO_TCP, socket.TCP_MAXSEG, segment)
         try:
+            if source:
+                self.socket.bind((source, 0))
             self.socket.connect((host, port))
             self.socket.setsockopt(socket.IPPROTO_TCP, socket.TCP_NODELAY, 1)
         except BaseException:
@@ -76,8 +78,8 @@ def clients(port, count, **options):
 def answers(host, port, seconds=2):
     """Whether a server answers at this address."""
     try:
-        with socket.create_connection((host, port), timeout=seconds) as it:
-            it.sendall(b"get a\r\n")
-            return it.recv(100) == b"END\r\n"
-    except OSError:
+        with Peer(port, seconds, host=host) as it:
+            it.send(b"get a\r\n")
+            return it.exactly(5) == b"END\r\n"
+    except (OSError, Late):
         return False

@@ -98,6 +98,13 @@ class Result(unittest.TextTestResult):
     def wasSuccessful(self):
         return super().wasSuccessful() and self.passed > 0 and not self.failed
 
+    def add_file(self, file, passed, failed, skipped):
+        """Adds what another process has counted of a file."""
+        self.passed += passed
+        self.failed += failed
+        self.counted[file] += passed + failed
+        self.left_out[file] += skipped
+
     def by_file(self):
         """The parts and the skipped tests of each file."""
         return {file: (self.counted[file], self.left_out[file]) for file in {*self.counted, *self.left_out}}

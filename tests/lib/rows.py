@@ -1,6 +1,7 @@
 """The stored rows: inputs and outputs that were written down by hand.
 
-A row is a folder tests/rows/NAME:
+A row is a folder tests/rows/COMMAND/NAME, where COMMAND is the command that it is about, `lines` or `exptime` if it is about several, or
+`option_` with the option; no two rows have one name:
 
     args          the arguments, one a line
     stdin         the bytes of standard input (no file: none)
@@ -12,6 +13,7 @@ A row is a folder tests/rows/NAME:
     stdin.parts   in place of stdin, for long inputs: each line is JSON, either a text whose characters
                   are bytes or {"repeat": text, "times": number}; stdout.parts likewise
 """
+import glob
 import json
 import os
 
@@ -37,8 +39,9 @@ def parts(data):
 class Row:
     """A row: its input, and what is wanted."""
 
-    def __init__(self, name):
-        self.name, self.folder = name, f"{ROWS}/{name}"
+    def __init__(self, folder):
+        self.folder = folder
+        self.command, self.name = folder.split("/")[-2:]
         self.args = (self.file("args") or b"").decode().splitlines()
         self.stdin = self.stream("stdin")
         self.status = int(self.file("status") or b"0")
@@ -83,7 +86,7 @@ class Row:
 
 
 def all_rows():
-    return [Row(name) for name in sorted(os.listdir(ROWS)) if os.path.isdir(f"{ROWS}/{name}")]
+    return [Row(folder) for folder in sorted(glob.glob(f"{ROWS}/*/*"))]
 
 
 def written(data):
@@ -100,4 +103,4 @@ def kept(name, args, stdin, stdout):
         with open(f"{folder}/{file}", "w", encoding="utf-8") as to:
             to.write(text)
     told = "".join(f"{file}:\n{text[:3000]}" for file, text in files.items())
-    return f"{told}It is a row: mv {folder} tests/rows/NAME, where NAME is what it shows"
+    return f"{told}It is a row: mv {folder} tests/rows/COMMAND/NAME, where NAME is what it shows"

@@ -1,8 +1,8 @@
 """Scrapes a server as Prometheus does, and reads what it is told."""
 import re
-import socket
 from collections import namedtuple
 
+from tests.lib.peer import Peer
 from tests.lib.server import HOST, MOMENT, Server, free_port
 
 # So long a scrape may take, unless a test says otherwise.
@@ -17,18 +17,11 @@ PROCESS = "process_"
 Told = namedtuple("Told", "status fields body")
 
 
-def sent(port, request, seconds=SECONDS):
+def sent(port, request, seconds=SECONDS, host=HOST):
     """What comes for a request until the server closes the connection."""
-    with socket.create_connection((HOST, port), timeout=seconds) as link:
-        link.sendall(request)
-        return rest(link)
-
-
-def rest(link):
-    pieces = []
-    while piece := link.recv(65536):
-        pieces.append(piece)
-    return b"".join(pieces)
+    with Peer(port, seconds, host=host) as peer:
+        peer.send(request)
+        return peer.rest()
 
 
 def told(answer, without_body=False):

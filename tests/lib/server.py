@@ -1,7 +1,7 @@
 """Starts a server on a free port of 127.0.0.1 for a test, and stops it again.
 
     with Server() as server:
-        link = socket.create_connection(server.address, timeout=5)
+        peer = Peer(server.port)
 
 The program is the one that lib/settings.py names, unless another is. A program whose name is `memcached` is run as memcached is with
 `-M`, and nothing but its options differs.

@@ -6,9 +6,9 @@ from tests.lib.process import run, run_in_pieces
 from tests.lib.rows import all_rows
 
 
-@tests_of(all_rows(), lambda row: row.name)
+@tests_of(all_rows(), lambda row: f"{row.command} {row.name}")
 class Rows(ProgramCase):
-    """Each row is a test: `-k` takes those whose name has a word."""
+    """Each row is a test: `-k` takes those whose command or name has a word."""
 
     def check(self, row):
         with self.subTest("whole"):

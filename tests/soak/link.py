@@ -1,5 +1,4 @@
 """A connection whose answers are all compared."""
-from tests.lib.answers import SECONDS
 from tests.lib.compare import difference, shown
 from tests.lib.peer import Late, Peer
 

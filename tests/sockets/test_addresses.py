@@ -5,7 +5,7 @@ import socket
 from tests.lib.abuse import ANSWERED
 from tests.lib.case import ProgramCase
 from tests.lib.listening import Listener, ended
-from tests.lib.peer import answers
+from tests.lib.peer import Peer, answers
 from tests.lib.scrape import sent, told
 from tests.lib.server import HOST, MOMENT, free_port
 from tests.lib.wait import until
@@ -61,14 +61,10 @@ class SeveralAddresses(ProgramCase):
 
     def asks(self, host, port, sent, wanted):
         """Sends to a connection of its own, which is told this and is left open."""
-        link = socket.create_connection((host, port), timeout=ANSWERED)
-        self.addCleanup(link.close)
-        link.sendall(sent)
-        got = b""
-        while len(got) < len(wanted) and (piece := link.recv(100)):
-            got += piece
-        self.assertEqual(wanted, got)
-        return link
+        peer = Peer(port, ANSWERED, host=host)
+        self.addCleanup(peer.close)
+        peer.asks(sent, wanted)
+        return peer
 
     def test_each_is_listened_at(self):
         """With commas or behind an option each, with a port or that of -p: it names them in their order, and has one store at all."""

@@ -4,17 +4,16 @@ import contextlib
 import errno
 import fcntl
 import resource
-import socket
 import time
 from concurrent.futures import ThreadPoolExecutor
 
-from tests.lib.abuse import ANSWERED, GIVEN_BACK, MB
+from tests.lib.abuse import ANSWERED, GIVEN_BACK
 from tests.lib.case import ProgramCase, tests_of
 from tests.lib.faults import Faults
 from tests.lib.keeper import Keepers
 from tests.lib.peer import Peer, answers
 from tests.lib.process import outcome, started
-from tests.lib.scrape import MetricsServer, rest, sent, told
+from tests.lib.scrape import MetricsServer, sent, told
 from tests.lib.server import HOST, StillServer, free_port
 from tests.lib.wait import until
 
@@ -204,12 +203,9 @@ class Elsewhere(ProgramCase):
             self.assertTrue(server.runs(), server.said())
 
     def test_each_address_of_the_loopback_may(self):
-        with MetricsServer("--allow-quit") as server, socket.socket() as link:
-            link.bind(("127.0.0.2", 0))
-            link.settimeout(ANSWERED)
-            link.connect((HOST, server.metrics))
-            link.sendall(POST)
-            self.assertEqual(200, told(rest(link)).status)
+        with MetricsServer("--allow-quit") as server, Peer(server.metrics, ANSWERED, source="127.0.0.2") as peer:
+            peer.send(POST)
+            self.assertEqual(200, told(peer.rest()).status)
             self.assertEqual(0, server.process.wait(AGAIN))
 
 

@@ -13,7 +13,7 @@ from tests.lib.abuse import sent_as_far
 from tests.lib.case import ProgramCase
 from tests.lib.listening import Listener, ended
 from tests.lib.peer import Peer, clients
-from tests.lib.scrape import GET, MetricsServer, rest, sent, told
+from tests.lib.scrape import GET, MetricsServer, sent, told
 from tests.lib.server import HOST, MOMENT, Server, free_port
 from tests.lib.wait import until
 
@@ -482,21 +482,21 @@ class Requests(ProgramCase):
                 self.assertEqual(200, told(sent(server.metrics, b"GET %s HTTP/1.1\r\nHost: a\r\n\r\n" % link)).status)
 
     def test_one_that_comes_byte_by_byte(self):
-        with MetricsServer() as server, socket.create_connection((HOST, server.metrics), timeout=SOON) as link:
+        with MetricsServer() as server, Peer(server.metrics, SOON) as peer:
             for byte in GET:
-                link.sendall(bytes([byte]))
-            self.assertEqual(200, told(rest(link)).status)
+                peer.send(bytes([byte]))
+            self.assertEqual(200, told(peer.rest()).status)
 
     def test_slow_ones_keep_nobody_out(self):
         """One that says nothing, and one that says a little now and then, are closed in time, and a scrape beside each is answered at once."""
         with MetricsServer() as server:
             for said in (b"", b"GET /metrics HT"):
-                with socket.create_connection((HOST, server.metrics), timeout=SOON) as link:
-                    link.sendall(said)
+                with Peer(server.metrics, SOON) as peer:
+                    peer.send(said)
                     began = time.monotonic()
                     server.scrape(SOON)
                     self.assertLess(time.monotonic() - began, AT_ONCE, "seconds for a scrape beside the other")
-                    self.assertEqual(408, told(rest(link)).status)
+                    self.assertEqual(408, told(peer.rest()).status)
             self.drips(server)
             began = time.monotonic()
             server.scrape()
@@ -504,21 +504,21 @@ class Requests(ProgramCase):
 
     def drips(self, server):
         """Sends a byte of an endless request now and then until it is told that it took too long."""
-        with socket.create_connection((HOST, server.metrics), timeout=SOON) as link:
+        with Peer(server.metrics, SOON) as peer:
             began = time.monotonic()
             with contextlib.suppress(ConnectionError):
-                link.sendall(b"GET / HTTP/1.1\r\n")
+                peer.send(b"GET / HTTP/1.1\r\n")
                 while time.monotonic() - began < LIMIT + 0.3:
-                    link.sendall(b"a")
+                    peer.send(b"a")
                     time.sleep(0.1)
-            self.assertEqual(408, told(rest(link)).status)
+            self.assertEqual(408, told(peer.rest()).status)
 
     def test_many_that_are_gone(self):
         """Connections that are closed at once, before a request or in one, cost nothing."""
         with MetricsServer() as server:
             for said in (b"", b"GET", GET) * 20:
-                with socket.create_connection((HOST, server.metrics), timeout=SOON) as link:
-                    link.sendall(said)
+                with Peer(server.metrics, SOON) as peer:
+                    peer.send(said)
             began = time.monotonic()
             server.scrape()
             self.assertLess(time.monotonic() - began, AT_ONCE)
@@ -538,9 +538,7 @@ class Places(ProgramCase):
                     self.assertIn(b"listening on", started.line())
                     place = shape % port if ":" in shape else f"{HOST}:{port}"
                     self.assertEqual(f"mcserver: metrics at http://{place}/metrics\n".encode(), started.line())
-                    with socket.create_connection((host, port), timeout=SOON) as link:
-                        link.sendall(GET)
-                        self.assertTrue(link.recv(100).startswith(b"HTTP/1.1 200 "))
+                    self.assertEqual(200, told(sent(port, GET, SOON, host)).status)
 
     def test_places_that_it_cannot_have(self):
         with socket.create_server((HOST, 0)) as other:

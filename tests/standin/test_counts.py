@@ -9,7 +9,7 @@ import threading
 import unittest
 from unittest import mock
 
-from tests.lib import counts, examples, settings
+from tests.lib import beside, counts, examples, settings
 from tests.lib.result import Result
 from tests.lib.settings import ROOT
 from tests.lib.shrink import shorter
@@ -61,17 +61,48 @@ class Counts(unittest.TestCase):
             counts.pin("protocol", {"test_rows.py": (700, 0)}, f"{folder}/counts.txt")
             self.assertEqual({"sockets": PINNED, "protocol": {"test_rows.py": (700, 0)}}, counts.read(f"{folder}/counts.txt"))
 
-    def test_a_wrong_body_and_a_row_that_are_taken_away(self):
+    def test_a_wrong_body_a_row_and_a_crate_that_are_taken_away(self):
+        names = ["crates/mc_x/wrong/a.edit", "crates/mc_x/must-fail/b.edit", "tests/rows/set/one/stdin", "crates/mc_y/src/lib.rt"]
         with tempfile.TemporaryDirectory() as folder:
-            for name in ("crates/mc_x/src", "crates/mc_x/wrong", "tests/rows/one"):
-                os.makedirs(f"{folder}/{name}")
-            for name in ("crates/mc_x/wrong/a.edit", "tests/rows/one/stdin"):
+            for name in ["crates/mc_x/src/lib.rt", *names]:
+                os.makedirs(os.path.dirname(f"{folder}/{name}"), exist_ok=True)
                 open(f"{folder}/{name}", "w").close()
-            before = counts.lying(folder)
-            os.remove(f"{folder}/crates/mc_x/wrong/a.edit")
-            os.remove(f"{folder}/tests/rows/one/stdin")
-            found = [line for kind, seen in counts.lying(folder).items() for line in counts.faults(kind, seen, before[kind])]
-        self.assertEqual(["bodies/mc_x: 0, where tests/counts.txt has 1", "folders/tests/rows: 0, where tests/counts.txt has 1"], found)
+            counts.pin_names(counts.lying(folder), f"{folder}/names.txt")
+            pinned = counts.names(f"{folder}/names.txt")
+            self.assertEqual([], list(counts.lost(counts.lying(folder), pinned)))
+            for name in names:
+                os.remove(f"{folder}/{name}")
+            for name in ("tests/rows/set/one", "crates/mc_y/src"):
+                os.rmdir(f"{folder}/{name}")
+            found = list(counts.lost(counts.lying(folder), pinned))
+        gone = ["crates/mc_x/must-fail/b.edit", "crates/mc_x/wrong/a.edit", "crates/mc_y", "tests/rows/set/one"]
+        self.assertEqual([f"{it}: it is gone; tests/names.txt names it" for it in gone], found)
+
+    def test_a_row_that_is_new_wants_its_name(self):
+        (line,) = counts.lost(["tests/rows/set/one"], [])
+        self.assertRegex(line, "^tests/rows/set/one: tests/names.txt lacks it")
+
+
+class Others(unittest.TestCase):
+    """What a file says that runs beside others, in a process of its own."""
+
+    def test_it_counts(self):
+        lines = ["skipped a.b.test_c: it wants something", "3 passed, 0 failed, 1 skipped"]
+        self.assertEqual(((3, 0, lines[:1]), []), beside.counted("sockets/test_a.py", lines, 0))
+
+    def test_one_that_ends_with_status_0_before_its_last_line(self):
+        (passed, failed, _), lines = beside.counted("sockets/test_a.py", ["test_b: done in 0.1 s"], 0)
+        self.assertEqual((0, 1), (passed, failed))
+        self.assertRegex(lines[-1], "^FAILED sockets/test_a.py: it ended with status 0, without its last line$")
+
+    def test_one_in_which_nothing_passed(self):
+        (passed, failed, _), lines = beside.counted("sockets/test_a.py", ["0 passed, 0 failed, 0 skipped"], 1)
+        self.assertEqual((0, 1), (passed, failed))
+        self.assertEqual(["FAILED sockets/test_a.py: nothing passed"], lines)
+
+    def test_one_that_is_gone(self):
+        said, status = beside.ran("sockets", "test_no_" + "such.py")
+        self.assertEqual((0, 1), beside.counted("sockets/test_x.py", said.splitlines(), status)[0][:2])
 
 
 class Results(unittest.TestCase):

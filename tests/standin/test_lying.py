@@ -9,17 +9,17 @@ from tests.lib import settings
 from tests.standin.test_lies import finds
 
 HERE = os.path.dirname(os.path.realpath(__file__))
-CLOSED = "test_connections_closed.ConnectionsClosed"
+CLOSED = "test_connections_closed_total.ConnectionsClosedTotal"
 OWN = f"{CLOSED}.test_each_reason_at_its_own_number"
 
 # In which way it lies, and tests that must notice.
 LIES = {
     "garbles from 8 workers": ["test_matrix.Matrix.test_t_8_shelves_256", "test_matrix.Matrix.test_t_64_shelves_256_I_8m"],
-    "answers late": ["test_waiting.Waiting.test_a_byte_of_8_mb_now_and_then"],
+    "answers late": ["test_waiting_connections.Waiting.test_a_byte_of_8_mb_now_and_then"],
     "loses 256 bytes a connection": ["test_memory_of_connections.MemoryOfConnections.test_what_100000_leave"],
-    "tells thousands wrong": ["test_large_numbers.LargeNumbers.test_thousands_of_items_and_commands"],
-    "tells another uptime": ["test_large_numbers.LargeNumbers.test_the_uptime"],
-    "waits for ever to quit": ["test_asking.Asking.test_answers_of_others", "test_asking.Asking.test_a_server_ends"],
+    "tells thousands wrong": ["test_metrics_numbers.MetricsNumbers.test_thousands_of_items_and_commands"],
+    "tells another uptime": ["test_metrics_numbers.MetricsNumbers.test_the_uptime"],
+    "waits for ever to quit": ["test_quit_option.QuitOption.test_answers_of_others", "test_quit_option.QuitOption.test_a_server_ends"],
     **{
         f"miscounts {reason}": [OWN]
         for reason in ("client_closed", "session_over", "read_fault", "write_fault", "one_too_many", "no_descriptor", "no_memory", "line_too_long", "other_protocol")
