@@ -55,7 +55,7 @@ test: has-rt
 
 # The toolchain, without which nothing is proved.
 has-rt:
-	@command -v rt > /dev/null || { echo "there is no command rt: README.md says where the toolchain is had; a built program is tested by PROGRAM=/usr/bin/mcserver python3 -m tests protocol" >&2; exit 2; }
+	@command -v rt > /dev/null || { echo "there is no command rt: it is of the kit rattle-kit-13f, and README.md says how to get that; a built program is tested by PROGRAM=/usr/bin/mcserver python3 -m tests protocol" >&2; exit 2; }
 
 # Every crate, over what earlier runs kept in out/.
 check: has-rt

@@ -37,6 +37,8 @@ FAILURE = re.compile(rb"FAILED|NOT PROVED|\bfailed:")
 # What `rt ci` says of a crate that is proved, and of one that isn't.
 PROVED = re.compile(rb"rt: (\w+) (?:proved$|is kept: )")
 NOT_PROVED = re.compile(rb"rt: \w+(?:: its tests are)? NOT PROVED")
+# A stage is ended after so many seconds: proofs of everything on a slow machine, and the tests of a kind, take less.
+LONGEST = 6 * 3600
 # What the stages said of failures, for the end.
 failures = []
 
@@ -55,6 +57,17 @@ class Stage:
         self.ran = subprocess.Popen(words, stdout=subprocess.PIPE, stderr=subprocess.STDOUT, **{"stdin": subprocess.DEVNULL, **how})
         self.reader = threading.Thread(target=self.read, daemon=True)
         self.reader.start()
+        self.limit = threading.Timer(LONGEST, self.give_up)
+        self.limit.daemon = True
+        self.limit.start()
+
+    def give_up(self):
+        """Ends it, as it has no end, and says what it printed last."""
+        fails(self.name, f"it has no end in {LONGEST} s; its last line is {self.last.decode(errors='replace')}")
+        self.ran.terminate()
+        with contextlib.suppress(subprocess.TimeoutExpired):
+            self.ran.wait(60)
+        self.ran.kill()
 
     def read(self):
         for line in self.ran.stdout:
@@ -77,6 +90,7 @@ class Stage:
         """Waits for its end, and gives the counts of its last line."""
         self.reader.join()
         status, found = self.ran.wait(), COUNTS.fullmatch(self.last)
+        self.limit.cancel()
         if self.is_ended:
             fails(self.name, "ended, as a proof failed")
             return 0, 1, 0

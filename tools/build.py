@@ -24,6 +24,7 @@ ROOT = os.path.dirname(os.path.dirname(os.path.realpath(__file__)))
 sys.path[:0] = [ROOT]
 from tests.lib import kit  # noqa: E402
 PARTS = ("src", "specs", "proofs")
+NO_RT = "there is no command rt, which make build and make try want: it is of the kit rattle-kit-13f, and README.md says how to get that"
 # A program is compiled and linked as well: it costs twice what a library of its size does.
 PROGRAM = 2
 # Processor seconds a line of Rust, before a crate of this build tells better; and how many processors a single crate keeps busy: one while
@@ -204,7 +205,7 @@ def copied(place):
 def main(words):
     top = words[0] if words else "mc_server"
     if not shutil.which("rt"):
-        print("build.py: there is no command rt: README.md says where the toolchain is had", file=sys.stderr)
+        print(f"build.py: {NO_RT}", file=sys.stderr)
         return 2
     for number in (signal.SIGTERM, signal.SIGHUP):
         signal.signal(number, lambda number, _: sys.exit(128 + number))

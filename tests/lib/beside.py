@@ -14,6 +14,8 @@ from tests.lib.server import die_with_parent
 
 # So many run at once: they sleep for most of their time.
 AT_ONCE = 2 * (os.cpu_count() or 1)
+# A file has as long as so many of its tests.
+TESTS = 4
 LAST = re.compile(r"(\d+) passed, (\d+) failed, (\d+) skipped")
 
 
@@ -38,12 +40,14 @@ def ran(kind, file):
     """Runs a file, and gives what it printed, whose last line has the counts. One without an end is ended."""
     words = [sys.executable, "-m", "tests", kind, "-p", file, "--beside"]
     process = subprocess.Popen(words, stdin=subprocess.DEVNULL, stdout=subprocess.PIPE, stderr=subprocess.STDOUT, text=True, errors="replace", preexec_fn=die_with_parent)
+    # (a test without an end ends the process, by its name)
+    limit = TESTS * settings.number("LONGEST")
     with process:
         try:
-            said, _ = process.communicate(timeout=settings.number("LONGEST"))
+            said, _ = process.communicate(timeout=limit)
         except subprocess.TimeoutExpired:
             process.kill()
-            said = f"{process.communicate()[0]}\nFAILED {kind}.{file}: it has no end in {settings.number('LONGEST')} s\n"
+            said = f"{process.communicate()[0]}\nFAILED {kind}/{file}: it has no end in {limit} s\n"
         return said, process.returncode
 
 

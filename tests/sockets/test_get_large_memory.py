@@ -158,7 +158,9 @@ class GetLargeMemory(ProgramCase):
                         change(told, length)
                     for _ in range(20):
                         append(told, length)
-                    print(f"    {name}: {server.memory() - before >> 20} MB, {sum(bool(it.got) for it in readers)} readers")
+                    came = sum(bool(it.got) for it in readers)
+                    print(f"    {name}: {server.memory() - before >> 20} MB, {came} readers")
+                    self.assertGreaterEqual(came, count // 2, "readers that came")
                     # the slowest of those that hold what has left are closed, at most 16 in a quarter of a second
                     most = before + PAGES * MB + LIMIT * MB + BESIDE
                     self.assertTrue(until(lambda: server.memory() <= most, 5), f"{server.memory() >> 20} MB, and {most >> 20} are meant to do")

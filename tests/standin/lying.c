@@ -54,19 +54,45 @@ static void lie_of_page(char *page) {
     }
 }
 
-ssize_t send(int fd, const void *bytes, size_t size, int flags) {
-    NEXT(send);
+// Changes bytes that are to be sent, or waits before it.
+static void lie_of_bytes(char *bytes, size_t size) {
     long nth = atomic_fetch_add(&sends, 1) + 1;
     if (lies("answers late") && nth % LATE == 0)
         sleep(SECONDS);
+    if (lies("garbles from 8 workers") && threads > WORKERS && nth % EACH == 0 && size)
+        bytes[size / 2] ^= 1;
+    if (size > 8 && memcmp(bytes, "HTTP/1.1", 8) == 0)
+        lie_of_page(bytes);
+}
+
+ssize_t send(int fd, const void *bytes, size_t size, int flags) {
+    NEXT(send);
     char *copy = malloc(size + 1);
     memcpy(copy, bytes, size);
     copy[size] = 0;
-    if (lies("garbles from 8 workers") && threads > WORKERS && nth % EACH == 0 && size)
-        copy[size / 2] ^= 1;
-    if (size > 8 && memcmp(copy, "HTTP/1.1", 8) == 0)
-        lie_of_page(copy);
+    lie_of_bytes(copy, size);
     ssize_t sent = next(fd, copy, size, flags);
+    free(copy);
+    return sent;
+}
+
+ssize_t sendmsg(int fd, const struct msghdr *message, int flags) {
+    size_t size = 0;
+    for (size_t part = 0; part < message->msg_iovlen; part++)
+        size += message->msg_iov[part].iov_len;
+    char *copy = malloc(size + 1), *end = copy;
+    for (size_t part = 0; part < message->msg_iovlen; part++) {
+        memcpy(end, message->msg_iov[part].iov_base, message->msg_iov[part].iov_len);
+        end += message->msg_iov[part].iov_len;
+    }
+    *end = 0;
+    lie_of_bytes(copy, size);
+    NEXT(sendmsg);
+    struct iovec whole = {copy, size};
+    struct msghdr other = *message;
+    other.msg_iov = &whole;
+    other.msg_iovlen = 1;
+    ssize_t sent = next(fd, &other, flags);
     free(copy);
     return sent;
 }

@@ -1,4 +1,5 @@
 """Each test over sockets finds what is wrong with the program itself, made to lie by a library that is preloaded (lying.c). (No part of the gate.)"""
+import contextlib
 import os
 import subprocess
 import tempfile
@@ -26,6 +27,8 @@ LIES = {
     },
     **{f"miscounts {reason}": [f"{CLOSED}.test_{reason}"] for reason in ("idle", "hoarding", "out_of_memory", "stopped")},
 }
+# Lies of time have so many tries: beside other load a test lets what is late pass.
+TRIES = {"answers late": 3}
 
 
 class Lying(unittest.TestCase):
@@ -40,7 +43,13 @@ class Lying(unittest.TestCase):
         told = {"PROGRAM": f"{HERE}/lying.sh", "TRUE_PROGRAM": self.program, "LYING": self.library, "LIE": lie}
         for name in names:
             with self.subTest(name), mock.patch.dict(os.environ, told):
-                print(f"    {lie}: {name}: {finds(self, name)[:200]}", flush=True)
+                print(f"    {lie}: {name}: {self.found(name, TRIES.get(lie, 1))[:200]}", flush=True)
+
+    def found(self, name, tries):
+        for _ in range(tries - 1):
+            with contextlib.suppress(AssertionError):
+                return finds(self, name)
+        return finds(self, name)
 
 
 def test_of(lie, names):
