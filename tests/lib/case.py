@@ -6,6 +6,7 @@ from concurrent.futures import ThreadPoolExecutor
 from functools import partialmethod
 
 from tests.lib import settings
+from tests.lib.server import is_ours
 
 
 class ProgramCase(unittest.TestCase):
@@ -21,6 +22,11 @@ class ProgramCase(unittest.TestCase):
         cls.program = cls.path()
         if not os.access(cls.program, os.X_OK):
             raise AssertionError(f"no program stands at {cls.program}: make build makes it")
+
+    def wants(self, host):
+        """Skips the test, or its part, where this isn't an address of this machine."""
+        if not is_ours(host):
+            self.skipTest(f"{host} isn't an address of this machine")
 
 
 def tests_of(items, name_of):

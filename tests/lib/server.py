@@ -65,6 +65,16 @@ def free_port(host=HOST):
     raise CannotStart(f"1000 ports of {host} were tried, and none is free")
 
 
+def is_ours(host):
+    """Whether it is an address of this machine: IPv6 may be switched off."""
+    try:
+        with socket.socket(socket.AF_INET6 if ":" in host else socket.AF_INET) as it:
+            it.bind((host, 0))
+    except OSError:
+        return False
+    return True
+
+
 def is_memcached(program):
     return os.path.basename(program) == "memcached"
 

@@ -4,7 +4,6 @@ Every answer is compared with a model, or explained by an order of the calls. In
 import collections
 import contextlib
 import random
-import socket
 import time
 from concurrent.futures import ThreadPoolExecutor
 
@@ -33,16 +32,6 @@ SECONDS, PAGES, SOON = 5, 512, 6
 # How many connections are on keys of their own, how many of these send large blocks, and how many share keys.
 OWN, LARGE, SHARED = 80, 4, 6
 ITEMS, CONNECTIONS = "memcached_current_items", "memcached_current_connections"
-
-
-def is_ours(host):
-    """Whether it is an address of this machine: IPv6 may be switched off."""
-    with socket.socket(socket.AF_INET6 if ":" in host else socket.AF_INET) as it:
-        try:
-            it.bind((host, 0))
-        except OSError:
-            return False
-    return True
 
 
 class Store(counted.Counting, own_keys.Store):
@@ -156,8 +145,7 @@ class Mixed:
 class Matrix(ProgramCase):
     def check(self, row):
         workers, options, host, most = row
-        if not is_ours(host):
-            self.skipTest(f"{host} isn't an address of this machine")
+        self.wants(host)
         metrics = free_port()
         with StillServer(args=[*options.split(), "--metrics", str(metrics)], workers=workers, pages=PAGES, host=host) as server:
             with contextlib.ExitStack() as closed:

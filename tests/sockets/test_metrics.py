@@ -529,10 +529,8 @@ class Places(ProgramCase):
         for shape in ("%d", "127.0.0.1:%d", "[::1]:%d"):
             host = "::1" if "[" in shape else HOST
             with self.subTest(shape):
-                try:
-                    port = free_port(host)
-                except OSError:
-                    self.skipTest(f"{host} isn't an address of this machine")
+                self.wants(host)
+                port = free_port(host)
                 words = ["-p", str(free_port()), "--metrics", shape % port, "--now", str(MOMENT)]
                 with Listener([self.program, *words]) as started:
                     self.assertIn(b"listening on", started.line())

@@ -30,10 +30,8 @@ class Ports(ProgramCase):
     def test_a_port_behind_the_address_goes_before_the_one_of_p(self):
         for host, shape in (("127.0.0.1", "127.0.0.1:%d"), ("::1", "[::1]:%d")):
             with self.subTest(host):
-                try:
-                    port = free_port(host)
-                except OSError:
-                    self.skipTest(f"{host} isn't an address of this machine")
+                self.wants(host)
+                port = free_port(host)
                 with Listener([self.program, "-l", shape % port, "-p", "1", "--now", str(MOMENT)]) as started:
                     self.assertIn(b"listening on %s," % (shape % port).encode(), started.line())
                     self.assertTrue(until(lambda: answers(host, port), ANSWERED), "nothing answers there")
