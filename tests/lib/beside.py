@@ -6,7 +6,7 @@ import re
 import subprocess
 import sys
 import unittest
-from concurrent.futures import ThreadPoolExecutor
+from concurrent.futures import ThreadPoolExecutor, as_completed
 
 from tests.lib import settings
 from tests.lib.result import file_of
@@ -55,8 +55,10 @@ def run(kind, files):
     """Runs the files, and prints what each printed when it has ended. Gives of each how many passed and failed, and the lines of those that are skipped."""
     found = {}
     with ThreadPoolExecutor(AT_ONCE) as pool:
-        for file, (said, status) in zip(files, pool.map(lambda file: ran(kind, file), files)):
-            found[file], lines = counted(f"{kind}/{file}", said.splitlines(), status)
+        jobs = {pool.submit(ran, kind, file): file for file in files}
+        for job in as_completed(jobs):
+            said, status = job.result()
+            found[jobs[job]], lines = counted(f"{kind}/{jobs[job]}", said.splitlines(), status)
             print("\n".join(lines), flush=True)
     return found
 

@@ -237,7 +237,8 @@ class Warned(ProgramCase):
             self.assertTrue(until(lambda: text in server.said(), ANSWERED), server.said())
             time.sleep(0.5)
             resource.prlimit(server.pid, resource.RLIMIT_AS, (resource.RLIM_INFINITY, resource.RLIM_INFINITY))
-            self.assertLess(1, server.scrape()['mcserver_connections_closed_total{reason="out_of_memory"}'])
+            closed = 'mcserver_connections_closed_total{reason="out_of_memory"}'
+            self.assertTrue(until(lambda: server.scrape()[closed] > 1, ANSWERED), "connections that are counted")
             self.assertEqual(1, server.said().count(text), server.said())
 
     def test_of_too_many_connections(self):
