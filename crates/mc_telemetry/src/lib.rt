@@ -16,7 +16,7 @@
 //! Contracts state which counter each step with its outcome raises, that the page shows it under
 //! the step's command and result (`laws.rt`), that each number of the page has its own name and
 //! labels, which number each figure of the process is in the text of the system, and that a request
-//! ends the server only if `mc_metrics` grants it. The look of an answer and of a page is proved
+//! ends the server only if its options and `mc_metrics` grant it. The look of an answer is proved
 //! there. No contract states that counters count what happened, which file of the system is read,
 //! and that a line is written: tests over sockets check that (tests/sockets).
 //!

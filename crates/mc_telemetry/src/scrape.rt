@@ -1,4 +1,9 @@
 //! Answers requests over HTTP, of several clients at once.
+//!
+//! Contracts state that peers may end the program by each of its connections as by the server, and
+//! the server as it was made.
+ghost use Rattle.std.specs.Prelude.{◌≡◌, All};
+ghost use Rattle.mc_telemetry.specs.declared.scrape_connection.ScrapeConnection.{ScrapeConnection as ConnectionOf};
 
 use crate::observer::Observer;
 use crate::page::metrics_page;
@@ -29,16 +34,22 @@ pub struct MetricsServer {
     may_quit: bool,
     /// The open connections, the oldest first.
     exchanges: Vec<ScrapeConnection>,
+    ghost alike: { All (λ (exchange : ConnectionOf). exchange.may_quit ≡ may_quit) exchanges.items },
 }
 
 impl MetricsServer {
+    ghost use Rattle.std.specs.Prelude.{◌≡◌, ◌<◌, length, All};
+
     /// Takes a listener and what reads the values of a page. It takes no memory.
     pub fn new(
         alloc: Global,
         door: ScrapeListener,
         observer: Observer,
         may_quit: bool,
-    ) -> MetricsServer {
+    ) -> MetricsServer
+        ensures may_quit { result.may_quit ≡ may_quit }
+        ensures observer { result.observer ≡ observer }
+    {
         MetricsServer {
             door,
             observer,
@@ -56,8 +67,10 @@ impl MetricsServer {
         rt: &R,
         arrivals: &Arrivals,
         stats: &mut S,
-    ) {
-        for _ in rt.forever() {
+    )
+        ensures same { self.new.may_quit ≡ self.old.may_quit }
+    {
+        for _turn in rt.forever() {
             if arrivals.is_over() {
                 return;
             }
@@ -81,7 +94,9 @@ impl MetricsServer {
     }
 
     /// Accepts connections that wait. Returns whether more may wait.
-    fn accept_some<R: AllocGlobal + Clock>(&mut self, rt: &R) -> bool {
+    fn accept_some<R: AllocGlobal + Clock>(&mut self, rt: &R) -> bool
+        ensures same { self.new.may_quit ≡ self.old.may_quit }
+    {
         for _one in 0..MOST {
             match self.door.accept() {
                 Ok((stream, peer)) => self.open(rt, stream, peer),
@@ -93,14 +108,25 @@ impl MetricsServer {
 
     /// Opens an exchange with a peer, in place of the oldest if there are too many. Without memory
     /// the connection is closed.
-    fn open<R: AllocGlobal + Clock>(&mut self, rt: &R, stream: TcpStream, peer: SocketAddr) {
+    fn open<R: AllocGlobal + Clock>(&mut self, rt: &R, stream: TcpStream, peer: SocketAddr)
+        ensures same { self.new.may_quit ≡ self.old.may_quit }
+    {
         let opened = ScrapeConnection::new(rt, rt.alloc(), stream, self.may_quit, peer.ip());
         if let Ok(exchange) = opened {
             if self.exchanges.len() >= MOST {
-                drop(self.exchanges.remove(0));
+                self.close_at(0);
             }
             let _ = self.exchanges.push(exchange);
         }
+    }
+
+    /// Closes the exchange at a place.
+    #[tactic(auto, using(crate::proofs::ScrapeLemmas::all_stay))]
+    fn close_at(&mut self, at: usize)
+        requires { at < length self.old.exchanges.items }
+        ensures same { self.new.may_quit ≡ self.old.may_quit }
+    {
+        drop(self.exchanges.remove(at));
     }
 
     /// Lets each exchange go on, and closes those that are over. Returns whether one may go on at
@@ -110,15 +136,17 @@ impl MetricsServer {
         rt: &R,
         arrivals: &Arrivals,
         stats: &mut S,
-    ) -> bool {
+    ) -> bool
+        ensures same { self.new.may_quit ≡ self.old.may_quit }
+    {
         let mut may_go_on = false;
         let mut at = 0usize;
         for _one in 0..MOST {
-            let Some(exchange) = self.exchanges.get_mut(at) else {
+            if at >= self.exchanges.len() {
                 return may_go_on;
-            };
-            match go_on(rt, exchange, &self.observer, arrivals, stats) {
-                Due::Close if at < self.exchanges.len() => drop(self.exchanges.remove(at)),
+            }
+            match self.go_on_at(rt, at, arrivals, stats) {
+                Due::Close if at < self.exchanges.len() => self.close_at(at),
                 Due::More => {
                     may_go_on = true;
                     at = at.saturating_add(1);
@@ -127,6 +155,20 @@ impl MetricsServer {
             }
         }
         may_go_on
+    }
+
+    /// Lets the exchange at a place go on. Returns what is due then.
+    fn go_on_at<R: Files + AllocGlobal + Wait + Clock, S: StoreStats>(
+        &mut self,
+        rt: &R,
+        at: usize,
+        arrivals: &Arrivals,
+        stats: &mut S,
+    ) -> Due
+        requires { at < length self.old.exchanges.items }
+        ensures same { self.new.may_quit ≡ self.old.may_quit }
+    {
+        go_on(rt, &mut self.exchanges[at], &self.observer, arrivals, stats)
     }
 }
 
@@ -137,7 +179,9 @@ fn go_on<R: Files + AllocGlobal + Wait + Clock, S: StoreStats>(
     observer: &Observer,
     arrivals: &Arrivals,
     stats: &mut S,
-) -> Due {
+) -> Due
+    ensures same { exchange.new.may_quit ≡ exchange.old.may_quit }
+{
     let reply = match exchange.go_on(rt) {
         Due::Answer(reply) => stopped_by(arrivals, reply),
         due => return due,

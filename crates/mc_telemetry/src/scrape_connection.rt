@@ -108,7 +108,9 @@ impl ScrapeConnection {
     }
 
     /// Takes the text of its answer, which is sent from then on.
-    pub fn answer<R: Clock>(&mut self, rt: &R, text: Vec<u8>, may_leave_input: bool) {
+    pub fn answer<R: Clock>(&mut self, rt: &R, text: Vec<u8>, may_leave_input: bool)
+        ensures same { (self.new.may_quit ≡ self.old.may_quit) × (self.new.peer ≡ self.old.peer) }
+    {
         self.answer = text;
         self.may_leave_input = may_leave_input;
         self.enter(rt, Stage::Sending);
@@ -116,7 +118,9 @@ impl ScrapeConnection {
 
     /// Answers that there is no memory for the answer. It takes no memory: the text lies where the
     /// request did.
-    pub fn answer_without_memory<R: Clock>(&mut self, rt: &R) {
+    pub fn answer_without_memory<R: Clock>(&mut self, rt: &R)
+        ensures same { (self.new.may_quit ≡ self.old.may_quit) × (self.new.peer ≡ self.old.peer) }
+    {
         mem::swap(&mut self.request, &mut self.answer);
         self.answer.clear();
         let _ = self.answer.extend_from_slice(NO_MEMORY);

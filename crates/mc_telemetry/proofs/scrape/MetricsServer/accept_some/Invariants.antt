@@ -1,0 +1,5 @@
+use Rattle.std.proofs.Common.{◌≡◌}
+use Rattle.mc_telemetry.proofs.scrape.MetricsServer.accept_some.Given as goal
+
+abbrev pub invariant-loop-one : goal.invariant-loop-one
+invariant-loop-one g l = l.self.may_quit ≡ l.initial.self.may_quit
