@@ -1,1 +1,2 @@
 mod AccessLemmas
+mod SumLemmas

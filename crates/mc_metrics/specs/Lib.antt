@@ -2,3 +2,4 @@ pub mod Access
 pub mod Pages
 pub mod Places
 pub mod Scrapes
+pub mod Sums

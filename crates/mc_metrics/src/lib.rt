@@ -14,8 +14,8 @@
 //! Contracts state that a reply is a function of whether the server may be ended, of the peer's
 //! address and of the request's head, as the grammar of HTTP/1.1 (`httparse`) reads it; that
 //! exactly a trusted `POST /quit` ends the server, where that is allowed; that the page is a
-//! function of the families and of the reading; and that sums stop at 2^64 - 1. No contract states that counters have
-//! counted what happened, since threads share them: tests over sockets check that.
+//! function of the families and of the reading; and to which counter a call adds, and that a sum has
+//! one number of each worker. No contract states that each step is counted: tests check that.
 //!
 //! Begin with `specs/Pages.antt`, `src/page.rt` and `src/reading.rt`; then `specs/Scrapes.antt`,
 //! `specs/Access.antt` and `src/request.rt`.
@@ -32,7 +32,9 @@ mod reading;
 mod request;
 
 pub use answer::{HttpAnswer, HttpReply, NO_MEMORY, response};
-pub use counts::{COUNTED, Counted, Counters, REFUSED, count_at};
+pub use counts::{
+    COUNTED, Counted, Counters, CountersOf, REFUSED, SharedCount, count_at, refused_sum, sums_of,
+};
 pub use family::{Family, Kind, Samples};
 pub use page::page_of;
 pub use reading::{

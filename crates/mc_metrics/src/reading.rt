@@ -329,13 +329,16 @@ impl ProcessReading {
 
 impl SlabReading {
     ghost use Rattle.std.specs.Prelude.{◌≡◌, ◌*◌, ◌-◌, ◌^◌, min};
-    ghost use Rattle.mc_sizes.specs.Classes.{chunks_a_page};
+    ghost use Rattle.mc_sizes.specs.Classes.{chunks_a_page, size_of};
     ghost use Rattle.mc_metrics.specs.Pages.{slab_figure_of};
 
     /// Returns the size of a class, given its account.
     ///
     /// It has the chunks of its pages, at most 2^64 - 1, the chunks that items use, and the others.
     pub fn of(class: Class, account: Account) -> SlabReading
+        ensures number { result.number ≡ class }
+        ensures size { result.size ≡ size_of class }
+        ensures chunks_a_page { result.chunks_a_page ≡ chunks_a_page class }
         ensures pages { result.pages ≡ account.pages }
         ensures used { result.used ≡ account.out }
         ensures chunks { result.chunks ≡ min (account.pages * chunks_a_page class) (2 ^ 64 - 1) }
