@@ -1,5 +1,5 @@
 -- What a round does to the store, where guests that want much may be kept waiting.
-use Rattle.std.specs.Prelude.{◌≡◌, ◌⊎◌, ◌<◌, ◌-◌, ◌^◌, ℕ, List, [], length, min, Some, IsFalse}
+use Rattle.std.specs.Prelude.{◌≡◌, ◌⊎◌, ◌<◌, ◌-◌, ◌/◌, ◌^◌, ◌||◌, ℕ, nat_lt, nat_le, if◌then◌else◌, List, [], length, min, Some, IsFalse}
 use Rattle.mc_protocol.specs.declared.step.KeyStep.{KeyStep}
 use Rattle.mc_protocol.specs.declared.step.KeyStep.TheVariants.{Read}
 use Rattle.mc_protocol.specs.declared.step.Steps.{Ghosts as Relations}
@@ -21,6 +21,12 @@ most = 2 ^ 64 - 1
 -- how many bytes a guest may hold, however much others do
 abbrev pub little : ℕ
 little = 16384
+
+-- how many bytes a guest asks for before a large block comes, where its request has so many and so many are reserved: all,
+-- but none while few are reserved, or once all have room
+abbrev pub missing_of : (announced reserved : ℕ) → ℕ
+missing_of announced reserved =
+    if nat_lt reserved (min little (announced / 16)) || nat_le announced reserved then 0 else announced
 
 -- its link failed or was to end while it was kept waiting, so that it has ended
 pub record LosesLink (old new : GuestState) : Type 0 where

@@ -3,8 +3,14 @@ use Rattle.std.specs.Prelude.{◌≡◌, ◌⊎◌, ◌<◌, ◌≤◌, ℕ, ◌
 use Rattle.std.specs.List.{sum_by}
 use Rattle.mc_session.specs.Turns.{SessionState}
 use Rattle.mc_guests.specs.Asks.{little, most, StaysOrLosesLink}
-use Rattle.mc_guests.specs.Guests.{GuestState, RowGuest, has_ended, reads_left}
+use Rattle.mc_guests.specs.Guests.{GuestState, RowGuest, has_ended, is_queued, is_tried, reads_left}
+use Rattle.mc_guests.specs.LinkRates.{begun}
 use Rattle.mc_guests.specs.declared.budget.Budget.{Budget}
+use Rattle.mc_guests.specs.declared.metered.WaitState.TheVariants.{Out}
+
+-- the bytes that each guest has as its own: it is counted for what it holds beyond them
+abbrev pub own : ℕ
+own = 73728
 
 -- a sum, at most the greatest number
 abbrev pub plus : ℕ → ℕ → ℕ
@@ -103,6 +109,24 @@ pub record GoesOnOrWaits (goes_on : Bool) (old new : RowGuest) (budget : Budget)
   pub held_back : IsFalse goes_on → IsHeldBack new.guest (uncounted old.counted old.waits budget)
   pub waits : new.waits ≡ not goes_on
 
+-- A guest has room for this many bytes, by what the budget counts of the others. It wants a little, or no more than it is
+-- counted for and has as its own, which it was admitted for. Otherwise so much fits; and it doesn't go before others that
+-- wait, unless it is tried again.
+pub record HasRoom (wanted : ℕ) (guest : RowGuest) (others : Budget) : Type 0 where
+  pub room : little < wanted → guest.counted + own < wanted → IsTrue (fits wanted others)
+  pub first : little < wanted → guest.counted + own < wanted → IsTrue (is_kept_for_one others) → IsTrue (is_tried guest)
+
+-- memory came back if the test holds; otherwise it is as it was
+pub record EasesIf (test : Bool) (before after : Budget) : Type 0 where
+  pub eased : after.is_eased ≡ (before.is_eased || test)
+
+-- A guest waits: it stays in the queue if it waited there, and is left out otherwise. If it begins to wait, its pace begins,
+-- and the others are tried again if it was counted for some bytes.
+pub record StaysInLine (old new : RowGuest) (before after : Budget) : Type 0 where
+  pub line : new.line ≡ (if is_queued old then old.line else Out)
+  pub pace : new.pace ≡ (if old.waits then old.pace else begun before.ticks)
+  pub eased : EasesIf (not old.waits && nat_lt 0 old.counted) before after
+
 -- one more guest is counted for this many bytes
 abbrev pub counted_too : (bytes : ℕ) (waits : Bool) → Budget → Budget
 counted_too bytes waits budget = record budget {
@@ -149,10 +173,6 @@ pub record Recounts (old new : RowGuest) (before after : Budget) : Type 0 where
       → after.large ≡ others + one_if (is_large new.counted new.waits)
   pub left : (others : ℕ) → before.left ≡ others + old.left → after.left ≡ others + new.left
   pub rest : rest_of after ≡ rest_of before
-
--- the bytes that each guest has as its own: it is counted for what it holds beyond them
-abbrev pub own : ℕ
-own = 73728
 
 -- a guest that is counted for this many bytes may hold these unread bytes; and this output, of which so many bytes are
 -- lent

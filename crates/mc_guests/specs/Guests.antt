@@ -8,7 +8,7 @@ use Rattle.mc_guests.specs.declared.guest.Visit.{Visit}
 use Rattle.mc_guests.specs.declared.guest.Visit.TheVariants.{Later, Served, Broken, Refused}
 use Rattle.mc_guests.specs.declared.link_rate.LinkRate.{LinkRate}
 use Rattle.mc_guests.specs.declared.metered.WaitState.{WaitState}
-use Rattle.mc_guests.specs.declared.metered.WaitState.TheVariants.{Out, Queued}
+use Rattle.mc_guests.specs.declared.metered.WaitState.TheVariants.{Out, Queued, Next}
 
 -- its session, its link, and the answer of its last visit
 pub record GuestState : Type 0 where
@@ -92,6 +92,11 @@ abbrev pub is_in_queue : WaitState → Bool
 is_in_queue Queued = true
 is_in_queue line = false
 
+-- whether a guest that waits is tried again
+abbrev pub is_next : WaitState → Bool
+is_next Next = true
+is_next line = false
+
 -- whether a guest that waits is left out: it isn't in the queue, and isn't tried again
 abbrev pub is_left_out : WaitState → Bool
 is_left_out Out = true
@@ -100,6 +105,10 @@ is_left_out line = false
 -- whether a guest waits in the queue
 abbrev pub is_queued : RowGuest → Bool
 is_queued guest = guest.waits && is_in_queue guest.line
+
+-- whether a guest waits, and is tried again
+abbrev pub is_tried : RowGuest → Bool
+is_tried guest = guest.waits && is_next guest.line
 
 -- whether a guest waits, and is left out of the queue
 abbrev pub is_stray : RowGuest → Bool

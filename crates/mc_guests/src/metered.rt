@@ -9,14 +9,15 @@
 //!
 //! Memory that has left the store while guests read it is in a sum of its own, for which nobody
 //! waits: if it exceeds the share, the slowest of its readers are closed.
-ghost use Rattle.std.specs.Prelude.{◌≡◌, ◌≢◌, ◌<◌, ◌-◌, min, not, true, false, is_none, IfSome, None};
+ghost use Rattle.std.specs.Prelude.{◌≡◌, ◌≢◌, ◌<◌, ◌≤◌, ◌-◌, nat_lt, min, not, true, false, is_none, IfSome, None};
 ghost use Rattle.std.specs.Prelude.{IsTrue, IsFalse};
 ghost use Rattle.mc_guests.specs.Asks.{AsksAndVisits, IsKeptWaiting};
-ghost use Rattle.mc_guests.specs.Asks.{little, most, MayAsk, NamesKey};
+ghost use Rattle.mc_guests.specs.Asks.{little, most, missing_of, MayAsk, NamesKey};
 ghost use Rattle.mc_guests.specs.Budgets.{uncounted, counted_too, IsHeldBack, GoesOnOrWaits, Recounts};
+ghost use Rattle.mc_guests.specs.Budgets.{fits, is_tight, is_kept_for_one, HasRoom, EasesIf, StaysInLine};
 ghost use Rattle.mc_guests.specs.Budgets.{Covers, IsCounted, CountsLeft, RecountsLeft};
 ghost use Rattle.mc_guests.specs.Guests.{newcomer, has_ended, is_in_queue, is_left_out};
-ghost use Rattle.mc_guests.specs.Guests.{is_queued, is_stray, missing, in_line};
+ghost use Rattle.mc_guests.specs.Guests.{is_queued, is_next, is_tried, is_stray, missing, in_line};
 ghost use Rattle.mc_guests.specs.Judging.{is_hoarding, slowness, reading_rate, sought_rate, verdict, judged};
 ghost use Rattle.mc_guests.specs.Retries.{waits_long};
 ghost use Rattle.mc_guests.specs.Visits.{Visited};
@@ -196,6 +197,13 @@ impl<L: Link + Drop> Metered<L> {
         self.waits && self.line.is_in_queue()
     }
 
+    /// Returns whether it waits and is tried again.
+    fn is_tried(&self) -> bool
+        ensures { result ≡ is_tried self.now }
+    {
+        self.waits && self.line.is_next()
+    }
+
     /// Returns whether it waits and isn't in the queue.
     pub fn is_stray(&self) -> bool
         ensures { result ≡ is_stray self.now }
@@ -304,6 +312,7 @@ impl<L: Link + Drop> Metered<L> {
         ensures held_back { result ≡ None →
             IsHeldBack self.new.guest (uncounted self.old.counted self.old.waits budget.old) }
         ensures waits { self.new.waits ≡ is_none result }
+        ensures line { result ≡ None → StaysInLine self.old self.new budget.old budget.new }
         ensures counts { Recounts self.old self.new budget.old budget.new }
         ensures covers { IfSome result (λ answer. answer ≢ Visit.Wrote →
             IsCounted self.new budget.new) }
@@ -347,6 +356,9 @@ impl<L: Link + Drop> Metered<L> {
     #[inline]
     fn may_go_on(&mut self, asked: usize, budget: &mut Budget) -> bool
         ensures goes { GoesOnOrWaits result self.old self.new budget.old }
+        ensures room { IsTrue result →
+            HasRoom asked self.old (uncounted self.old.counted self.old.waits budget.old) }
+        ensures line { IsFalse result → StaysInLine self.old self.new budget.old budget.new }
         ensures counts { Recounts self.old self.new budget.old budget.new }
     {
         if !self.waits && self.with_unsent(asked, budget) <= LITTLE {
@@ -363,6 +375,9 @@ impl<L: Link + Drop> Metered<L> {
     #[inline(never)]
     fn sends_and_finds_room(&mut self, asked: usize, budget: &mut Budget) -> bool
         ensures goes { GoesOnOrWaits result self.old self.new budget.old }
+        ensures room { IsTrue result →
+            HasRoom asked self.old (uncounted self.old.counted self.old.waits budget.old) }
+        ensures line { IsFalse result → StaysInLine self.old self.new budget.old budget.new }
         ensures counts { Recounts self.old self.new budget.old budget.new }
     {
         self.guest.pause();
@@ -372,7 +387,10 @@ impl<L: Link + Drop> Metered<L> {
 
     /// Returns the bytes of a request, with unsent output if memory is tight and a turn is due.
     #[inline]
-    fn with_unsent(&self, asked: usize, budget: &Budget) -> usize {
+    fn with_unsent(&self, asked: usize, budget: &Budget) -> usize
+        ensures least { asked ≤ result }
+        ensures eased { IsFalse (is_tight budget.now) → result ≡ asked }
+    {
         if budget.is_tight() && self.guest.is_turn_due() {
             asked.saturating_add(self.guest.unsent_bytes())
         } else {
@@ -386,7 +404,10 @@ impl<L: Link + Drop> Metered<L> {
         ensures goes { IsTrue result → IsFalse (has_ended self.old.guest.last) }
         ensures held_back { IsFalse result →
             IsHeldBack self.old.guest (uncounted self.old.counted self.old.waits budget.old) }
+        ensures room { IsTrue result →
+            HasRoom wanted self.old (uncounted self.old.counted self.old.waits budget.old) }
         ensures waits { self.new.waits ≡ not result }
+        ensures line { IsFalse result → StaysInLine self.old self.new budget.old budget.new }
         ensures counts { Recounts self.old self.new budget.old budget.new }
     {
         budget.take_out(self.counted, self.waits);
@@ -444,6 +465,7 @@ impl<L: Link + Drop> Metered<L> {
     fn has_room(&self, wanted: usize, budget: &Budget) -> bool
         ensures goes { IsTrue result → IsFalse (has_ended self.now.guest.last) }
         ensures held_back { IsFalse result → IsHeldBack self.now.guest budget.now }
+        ensures room { IsTrue result → HasRoom wanted self.now budget.now }
     {
         if self.guest.has_ended() {
             return false;
@@ -457,9 +479,12 @@ impl<L: Link + Drop> Metered<L> {
     /// Returns whether more than `LITTLE` bytes are left for it, and it needn't wait for others.
     fn finds_left(&self, wanted: usize, budget: &Budget) -> bool
         requires { little < wanted }
-        ensures { IsFalse result → IsHeldBack self.now.guest budget.now }
+        ensures held_back { IsFalse result → IsHeldBack self.now.guest budget.now }
+        ensures fits { IsTrue result → IsTrue (fits wanted budget.now) }
+        ensures first { IsTrue result → IsTrue (is_kept_for_one budget.now) →
+            IsTrue (is_tried self.now) }
     {
-        let is_tried = self.waits && self.line == WaitState::Next;
+        let is_tried = self.is_tried();
         let is_kept = budget.is_kept_for_one();
         let is_left = budget.fits(wanted);
         (is_tried || !is_kept) && is_left
@@ -470,6 +495,8 @@ impl<L: Link + Drop> Metered<L> {
         ensures same { self.new.guest ≡ self.old.guest }
         ensures left { self.new.left ≡ self.old.left }
         ensures waits { self.new.waits ≡ true }
+        ensures wants { self.new.wanted ≡ wanted }
+        ensures line { StaysInLine self.old self.new budget.old budget.new }
         ensures counts { budget.new ≡ record (counted_too self.new.counted true budget.old) {
           is_eased = budget.new.is_eased;
         } }
@@ -649,6 +676,9 @@ impl<L: Link + Drop> Metered<L> {
         ensures lent { self.new.lent ≡ self.old.lent }
         ensures left { self.new.left ≡ self.old.left }
         ensures waits { self.new.waits ≡ self.old.waits }
+        ensures line { self.new.line ≡ self.old.line }
+        ensures wants { self.new.wanted ≡ self.old.wanted }
+        ensures eased { EasesIf (nat_lt self.new.counted self.old.counted) budget.old budget.new }
         ensures counts { Recounts self.old self.new budget.old budget.new }
         ensures whole { budget.new.held < most → self.new.counted ≡ bytes }
     {
@@ -676,6 +706,16 @@ impl WaitState {
         }
     }
 
+    /// Returns whether a guest that waits there is tried again.
+    fn is_next(self) -> bool
+        ensures { result ≡ is_next self }
+    {
+        match self {
+            WaitState::Next => true,
+            WaitState::Out | WaitState::Queued => false,
+        }
+    }
+
     /// Returns whether a guest that waits there is left out of the queue.
     fn is_left_out(self) -> bool
         ensures { result ≡ is_left_out self }
@@ -689,7 +729,9 @@ impl WaitState {
 
 /// Returns the bytes that a guest wants for a large block: none while few are reserved, or once
 /// there is room for all of it.
-fn missing_of(announced: usize, reserved: usize) -> usize {
+fn missing_of(announced: usize, reserved: usize) -> usize
+    ensures { result ≡ missing_of announced reserved }
+{
     if reserved < BEGUN.min(announced / PARTS) || announced <= reserved {
         0
     } else {
