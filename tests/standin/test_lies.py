@@ -91,8 +91,9 @@ LIES = {
 
 
 def finds(case, name):
-    """Runs a test below tests.sockets, which must fail, and gives what it found."""
+    """Runs a test below tests.sockets up to its first failure, which there must be, and gives what it found."""
     result, said = unittest.TestResult(), io.StringIO()
+    result.failfast = True
     with mock.patch("sys.stdout", said):
         unittest.defaultTestLoader.loadTestsFromName(f"tests.sockets.{name}").run(result)
     case.assertEqual(1, result.testsRun)
