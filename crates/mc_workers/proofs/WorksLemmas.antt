@@ -13,6 +13,7 @@ use Rattle.mc_guests.proofs.ArrivalLemmas.{first_none, first_then, first_still}
 use Rattle.mc_workers.specs.Room.{MakesRoom}
 use Rattle.mc_workers.specs.Tending.{TidiesInTurn, asked_by}
 use Rattle.mc_workers.specs.Came.{came_since, all_came}
+use Rattle.mc_workers.specs.Moments.{reads_on, ReadsOn}
 use Rattle.mc_workers.specs.Rounds.{MakesRounds}
 use Rattle.mc_workers.specs.Rounds.{WorkState, WorksOnce, WorksSince, WorksToEnd}
 use Rattle.mc_time.specs.Chains.{none_yet, one_more}
@@ -30,10 +31,12 @@ module _ {K : Type 0} (hash_of : K → List ℕ → ℕ) (may_give : ℕ → Typ
   abbrev pub WorksOnceTo : (old new : WorkState K) (goes_on : Bool) (coming left : Option (List LinkState)) → Type 0
   WorksOnceTo old new goes_on coming left = (once : WorksOnce hash_of may_give old new goes_on) × Brings (came_between once.opens) goes_on coming left
 
-  -- since its beginning it worked, and these links came
-  abbrev pub WorksSinceTo : (first share : ℕ) (began : StoreState K) (caller : CallerState) (state : WorkState K) (coming left : Option (List LinkState)) → Type 0
-  WorksSinceTo first share began caller state coming left =
-      (since : WorksSince hash_of may_give first share began caller state) × ComeFirst coming (came_since hash_of may_give since.works) left
+  -- since its beginning it worked, read its clock for each series, and these links came
+  abbrev pub WorksSinceTo : (may_follow : (before now : ℕ) → Type 0) (first share : ℕ) (began : StoreState K) (caller : CallerState) (state : WorkState K)
+      (coming left : Option (List LinkState)) → Type 0
+  WorksSinceTo may_follow first share began caller state coming left =
+      (since : WorksSince hash_of may_give first share began caller state) × reads_on hash_of may_give may_follow since.works
+      × ComeFirst coming (came_since hash_of may_give since.works) left
 
 module _ {K : Type 0} {hash_of : K → List ℕ → ℕ} {may_give : ℕ → Type 0} where
   pub once_so : {old new : WorkState K} {tidied : AskingState K} {settled roomy : BooksState} {counted : WorkEnd} {opened goes_on : Bool} {coming left : Option (List LinkState)}
@@ -47,13 +50,13 @@ module _ {K : Type 0} {hash_of : K → List ℕ → ℕ} {may_give : ℕ → Typ
         said.1,
       )
 
-module _ {K : Type 0} {hash_of : K → List ℕ → ℕ} {may_give : ℕ → Type 0} {first share : ℕ} {began : StoreState K} {caller : CallerState} where
+module _ {K : Type 0} {hash_of : K → List ℕ → ℕ} {may_give : ℕ → Type 0} (may_follow : (before now : ℕ) → Type 0) {first share : ℕ} {began : StoreState K} {caller : CallerState} where
   pub works_from : (moment : ℕ) (asking : AskingState K) (books : BooksState) (door : Admission) (coming left : Option (List LinkState)) → may_give moment
       → asking ≡ asked_by began caller → (most : ℕ) → books ≡ no_books (unused share most) → most ≡ began.settings.greatest
       → (greatest : ℕ) → door ≡ shut greatest → greatest ≡ began.settings.greatest → left ≡ coming
-      → WorksSinceTo hash_of may_give first share began caller (record { asking = asking; books = books; door = door; end = record { served = 0; broken = 0; refused = 0 }; turn = first; moment = moment }) coming left
+      → WorksSinceTo hash_of may_give may_follow first share began caller (record { asking = asking; books = books; door = door; end = record { served = 0; broken = 0; refused = 0 }; turn = first; moment = moment }) coming left
   works_from moment asking books door coming left given asks most none so greatest closed is same =
-      subst (λ (s : WorkState K). WorksSinceTo hash_of may_give first share began caller s coming left) (sym (
+      subst (λ (s : WorkState K). WorksSinceTo hash_of may_give may_follow first share began caller s coming left) (sym (
       ap (λ (a : AskingState K). record { asking = a; books = books; door = door; end = record { served = 0; broken = 0; refused = 0 }; turn = first; moment = moment }) asks
       ∙ ap (λ (b : BooksState). record { asking = asked_by began caller; books = b; door = door; end = record { served = 0; broken = 0; refused = 0 }; turn = first; moment = moment })
       (none ∙ ap (λ (n : ℕ). no_books (unused share n)) so)
@@ -66,22 +69,25 @@ module _ {K : Type 0} {hash_of : K → List ℕ → ℕ} {may_give : ℕ → Typ
         moment = moment;
       })
       (closed ∙ ap shut is)
-      )) (record { moment = moment; given = given; count = 0; works = none_yet }, first_still coming coming left [] same (first_none coming))
+      )) (record { moment = moment; given = given; count = 0; works = none_yet }, tt, first_still coming coming left [] same (first_none coming))
 
-  pub works_on : {old new : WorkState K} (coming amid left : Option (List LinkState)) → WorksSinceTo hash_of may_give first share began caller old coming amid
-      → WorksOnceTo hash_of may_give old new true amid left → WorksSinceTo hash_of may_give first share began caller new coming left
-  works_on coming amid left since once = (
+  pub works_on : {old new : WorkState K} (coming amid left : Option (List LinkState)) → WorksSinceTo hash_of may_give may_follow first share began caller old coming amid
+      → may_follow old.moment new.moment → WorksOnceTo hash_of may_give old new true amid left → WorksSinceTo hash_of may_give may_follow first share began caller new coming left
+  works_on coming amid left since follows once = (
     record { moment = since.0.moment; given = since.0.given; count = since.0.count + 1; works = one_more since.0.works once.0 },
-    first_then coming amid left (came_since hash_of may_give since.0.works) (came_between once.0.opens) since.1 once.1.first,
+    (since.1, follows),
+    first_then coming amid left (came_since hash_of may_give since.0.works) (came_between once.0.opens) since.2 once.1.first,
   )
 
-  pub works_over : {old new : WorkState K} {back : CallerState} {coming amid left : Option (List LinkState)} → WorksSinceTo hash_of may_give first share began caller old coming amid
-      → WorksOnceTo hash_of may_give old new false amid left → back.past ≡ new.asking.past
-      → (works : WorksToEnd hash_of may_give first share began caller (back, new.end)) × Brings (all_came hash_of may_give works) false coming left
-  works_over {old} {new} {coming = coming} {amid = amid} {left = left} since once past = (
+  pub works_over : {old new : WorkState K} {back : CallerState} {coming amid left : Option (List LinkState)} → WorksSinceTo hash_of may_give may_follow first share began caller old coming amid
+      → may_follow old.moment new.moment → WorksOnceTo hash_of may_give old new false amid left → back.past ≡ new.asking.past
+      → (works : WorksToEnd hash_of may_give first share began caller (back, new.end)) × ReadsOn hash_of may_give may_follow works
+      × Brings (all_came hash_of may_give works) false coming left
+  works_over {old} {new} {coming = coming} {amid = amid} {left = left} since follows once past = (
     record { last = old; final = new; since = since.0; ends = once.0; past = past; end = refl },
+    (since.1, follows),
     record {
-      first = first_then coming amid left (came_since hash_of may_give since.0.works) (came_between once.0.opens) since.1 once.1.first;
+      first = first_then coming amid left (came_since hash_of may_give since.0.works) (came_between once.0.opens) since.2 once.1.first;
       all = once.1.all;
     },
   )

@@ -2,3 +2,4 @@ pub mod Tending
 pub mod Room
 pub mod Rounds
 pub mod Came
+pub mod Moments

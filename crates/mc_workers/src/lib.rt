@@ -19,11 +19,13 @@
 #![tactic(auto)]
 
 mod counting;
+mod rereading;
 mod tending;
 mod worker;
 
 pub use counting::Counting;
 pub use mc_guests::{Got, Guest, Link, LinkFault, Links, Next, Took, Visit, WorkEnd, round};
 pub use mc_shared::{Gate, NoGate};
+pub use rereading::RereadClock;
 pub use tending::Tending;
 pub use worker::{Worker, work};

@@ -9,11 +9,13 @@ ghost use Rattle.mc_guests.specs.Arrivals.{seen_by, Brings};
 ghost use Rattle.mc_shared.specs.History.{start_of};
 ghost use Rattle.mc_shared.specs.Steps.{Agrees};
 ghost use Rattle.mc_workers.specs.Came.{all_came};
+ghost use Rattle.mc_workers.specs.Moments.{ReadsOn};
 ghost use Rattle.mc_workers.specs.Room.{MakesRoom, EndsUpTo, JudgesUpTo};
 ghost use Rattle.mc_workers.specs.Rounds.{MakesRounds, VisitsAndSettles, WorksToEnd};
 ghost use Rattle.mc_workers.specs.Tending.{GoesFurther, Further, TidiesInTurn};
 
 use crate::counting::Counting;
+use crate::rereading::RereadClock;
 use crate::tending::Tending;
 use mc_guests::{Admission, Budget, Guests, Link, Links, NoTally, Tally, Verdict, WorkEnd};
 use mc_hop::KeyHash;
@@ -43,12 +45,12 @@ pub struct Worker<'a, G: Gate, T: Tally, C: Clock> {
     pub share: usize,
 }
 
-impl<'a, G: Gate, T: Tally, C: Clock> Worker<'a, G, T, C> {
+impl<'a, G: Gate, T: Tally, C: RereadClock> Worker<'a, G, T, C> {
     /// Serves links until no link comes any more and all sessions have ended.
     ///
     /// It makes rounds of the guests that are awake until none is, or 64 visits were made, and then
-    /// admits up to 32 new links. The clock is read before these rounds, and all of their visits
-    /// have its moment. When it has risen, the dead items of the next shelf in turn are dropped
+    /// admits up to 32 new links. The clock is read anew before these rounds, and all of their
+    /// visits have its moment. When it has risen, the dead items of the next shelf in turn are dropped
     /// first; with more than 64 shelves it takes several, so that 64 risings reach all shelves.
     /// Since a write found no chunk, one more for each 16 shelves is taken before each of the next
     /// 16 series of rounds. Each step is followed by the growth of its key's shelf by 8 entries.
@@ -71,6 +73,8 @@ impl<'a, G: Gate, T: Tally, C: Clock> Worker<'a, G, T, C> {
         ensures kept { Agrees (start_of K.hash_of shared.now.began) result.0.past }
         ensures works { (works : WorksToEnd K.hash_of (C.may_give self.now.clock.now)
             self.now.first self.now.share shared.now.began caller result)
+            × ReadsOn K.hash_of (C.may_give self.now.clock.now) (C.may_follow self.now.clock.now)
+            works
             × Brings (all_came K.hash_of (C.may_give self.now.clock.now) works) false
             (seen_by L.shown (Q.coming links.old)) (seen_by L.shown (Q.coming links.new)) }
     {
@@ -86,7 +90,7 @@ impl<'a, G: Gate, T: Tally, C: Clock> Worker<'a, G, T, C> {
         let mut before = self.clock.now();
         let mut turn = self.first;
         for _ in rt.forever() {
-            let now = self.clock.now();
+            let now = self.clock.now_after(before);
             turn = tidy_in_turn(&mut counting, turn, before, now);
             make_rounds(alloc, &mut guests, &mut counting, links, &mut end, now);
             look_if_busy(&guests, links);
@@ -102,7 +106,7 @@ impl<'a, G: Gate, T: Tally, C: Clock> Worker<'a, G, T, C> {
 }
 
 /// Serves links as a `Worker` does, without a tally, and tidies the first shelf first.
-pub fn work<R: Wait, K: KeyHash + Drop, L: Link + Drop, Q: Links<L>, G: Gate, C: Clock>(
+pub fn work<R: Wait, K: KeyHash + Drop, L: Link + Drop, Q: Links<L>, G: Gate, C: RereadClock>(
     rt: &R,
     alloc: Global,
     shared: &Shared<K>,
@@ -117,6 +121,7 @@ pub fn work<R: Wait, K: KeyHash + Drop, L: Link + Drop, Q: Links<L>, G: Gate, C:
     ensures kept { Agrees (start_of K.hash_of shared.now.began) result.0.past }
     ensures works { (works : WorksToEnd K.hash_of (C.may_give clock.now) 0 (2 ^ 64 - 1)
         shared.now.began caller result)
+        × ReadsOn K.hash_of (C.may_give clock.now) (C.may_follow clock.now) works
         × Brings (all_came K.hash_of (C.may_give clock.now) works) false
         (seen_by L.shown (Q.coming links.old)) (seen_by L.shown (Q.coming links.new)) }
 {
