@@ -276,7 +276,9 @@ def names(path):
     with open(path, encoding="utf-8") as file:
         for line in file:
             if found := OWNER.match(line):
-                owner = f"{found[2]}{found[1] or ''}"
+                # an `impl` for each type is one for `Any`
+                given = re.match(rf"impl<[^>]*\b{found[2]}\b", line)
+                owner = f"{'Any' if given and found[1] else found[2]}{found[1] or ''}"
             elif found := HEAD.match(line):
                 yield owner if found[1] else module, found[2]
 

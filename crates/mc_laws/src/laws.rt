@@ -263,10 +263,10 @@ pub fn no_count_is_lost()
 
 /// States that a caller that heeds a note makes its later calls after all that the note knows.
 ///
-/// A note is a caller without calls. `Shared::caller` makes it when the giver's calls have
-/// returned, and `Shared::join` joins it into the taker. In every history that keeps a past in
-/// which that happened, each call that the giver had made or knew stands before each later call of
-/// the taker. A giver may give several notes, and a note may be joined into a note.
+/// A note is a caller without calls. `Shared::note` makes it when the giver's calls have returned,
+/// and `Shared::heed` joins it into the taker. In every history that keeps a past in which that
+/// happened, each call that the giver had made or knew stands before each later call of the taker.
+/// A giver may give several notes. The same holds of `Shared::caller` and `Shared::join`.
 ///
 /// So if the first caller made another, gave it a note, and the other was joined, then the plain
 /// machine answers one list of their calls in two parts: all calls that the giver made before the
@@ -276,7 +276,7 @@ pub fn no_count_is_lost()
 /// call that is invoked after it returned. All calls promise sequential consistency, which has that
 /// for the calls of one caller. This law adds each pair of calls between which a note is passed.
 /// That the other callers' calls are answered as without the note is argument: to give and to heed
-/// a note loads one word five times, and stores none.
+/// a note loads one word twice, and stores none.
 pub fn who_heeds_a_note_comes_after()
     ensures knows { (giver taker q r : Past) (note : Name) (known later : HistoryEntry) →
         WentOn (heeded taker note giver) q → PastIsWithin (call q later) r → Has giver known →

@@ -29,7 +29,7 @@ pub set_next : (Is : ℕ → ℕ → Type 0) (sums : List ℕ) (at sum : ℕ) �
     → (place : ℕ) → place < at + 1 → Is place (slice_index (slice_set sums at sum) place)
 set_next Is sums at sum within below here place before =
     elim (cases_eq place at) [
-        (inl same) ↦ subst (λ at_place. Is at_place (slice_index (slice_set sums at sum) at_place)) (sym same)
-            (subst (Is at) (sym (get_or-set_same sums at sum 0 within)) here)
-        | (inr other) ↦ subst (Is place) (sym (get_or-set_other sums at place sum 0 other)) (below place (omega (arith, before, other)))
+      | (inl same) ↦ subst (λ at_place. Is at_place (slice_index (slice_set sums at sum) at_place)) (sym same)
+          (subst (Is at) (sym (get_or-set_same sums at sum 0 within)) here)
+      | (inr other) ↦ subst (Is place) (sym (get_or-set_other sums at place sum 0 other)) (below place (omega (arith, before, other)))
     ]

@@ -23,6 +23,7 @@ use Rattle.mc_shared.specs.contracts.bay.Bay as bay
 use Rattle.mc_shared.specs.contracts.store.Shared as shared
 use Rattle.mc_shared.specs.contracts.store.Shared.TheInside as inside
 use Rattle.mc_shared.specs.contracts.store.Caller as caller
+use Rattle.mc_shared.specs.contracts.note.Note as note
 
 -- what a closure holds, where each of it may be sent
 pub tuple_send : (ν : Sym) (Ts : List RattleType) → AllSend (struct.shape (tuple.type_at ν Ts)).fields → IsSend (tuple.TupleAt ν Ts)
@@ -50,6 +51,9 @@ bay_send = search (shelf_send, desk_send, boxed.the_send, sendable) depth 60 fit
 
 pub caller_send : IsSend caller.the_row
 caller_send = search (bay_send, seat.the_send, crossing.crosses, sendable) depth 60 fits 20000
+
+pub note_send : IsSend note.the_row
+note_send = search (bay_send, seat.the_send, crossing.crosses, sendable) depth 60 fits 20000
 
 pub shared_sync : (K : RattleType) (g : Ghosts K.Denot) → IsSync K → IsSync (shared.the_row K g)
 shared_sync K g k = view_sync _ _ _ _ _ (recorded_sync (inside.the_field K g).row _ _ (inside.the_type K g).to_one

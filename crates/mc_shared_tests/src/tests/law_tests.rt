@@ -7,7 +7,10 @@ ghost use Rattle.mc_laws.specs.Laws.{Found, hit, IsNoOlder, HasDrawnNumbers, Cal
 ghost use Rattle.mc_laws.specs.Together.{IsMixOf};
 
 use mc_hop::{Fnv, KeyHash};
-use mc_laws::{a_cas_is_of_what_was_read, callers_share_a_plain_store, no_read_goes_back};
+use mc_laws::{
+    a_cas_is_of_what_was_read, callers_share_a_plain_store, no_read_goes_back,
+    who_heeds_a_note_comes_after,
+};
 use mc_protocol::{Bytes, KeyStep, Reply, StepFault, Verb};
 use mc_shared::{Caller, Shared};
 use mc_shelf::Settings;
@@ -42,6 +45,36 @@ fn reads_of_two<R: Wait, K: KeyHash + Drop>(
     let first = shared.step(rt, alloc, &mut me, &read, now)?;
     shared.join(other, me);
     let second = shared.step(rt, alloc, other, &read, now)?;
+    Ok((first, second))
+}
+
+/// Reads a key by one caller, which gives a note, and then by another, which heeds it.
+///
+/// The second must read nothing older.
+fn reads_with_note<R: Wait, K: KeyHash + Drop>(
+    rt: &R,
+    shared: &Shared<K>,
+    alloc: Global,
+    giver: &mut Caller,
+    taker: &mut Caller,
+    key: &[u8],
+) -> Result<(Reply, Reply), StepFault>
+    requires own { (giver.old.table ≡ shared.now.table) × (taker.old.table ≡ shared.now.table) }
+    requires key { length key.now ≤ 250 }
+    requires drawn { HasDrawnNumbers shared.now.began.plain }
+    ensures { IfOk result (λ replies. (was is : Found) → replies.0 ≡ hit was → replies.1 ≡ hit is →
+        IsNoOlder was is) }
+{
+    no_read_goes_back();
+    who_heeds_a_note_comes_after();
+    let now = Moment::from_seconds_at_most(1000);
+    let read = KeyStep::Read {
+        key: Bytes::of(key),
+    };
+    let first = shared.step(rt, alloc, giver, &read, now)?;
+    let note = shared.note(giver);
+    shared.heed(taker, note);
+    let second = shared.step(rt, alloc, taker, &read, now)?;
     Ok((first, second))
 }
 
@@ -125,6 +158,16 @@ fn replies_to_reads<R: Wait>(rt: &R, alloc: Global) -> Result<(Reply, Reply), St
     replies_after_set(rt, &shared, alloc, me)
 }
 
+/// Returns the replies to two reads of `a` by two callers of a new store, after a set by the first.
+///
+/// The first gives the second a note between the reads.
+fn replies_with_note<R: Wait>(rt: &R, alloc: Global) -> Result<(Reply, Reply), StepFault> {
+    let (shared, mut me) = empty_store(alloc)?;
+    let mut other = shared.caller(&mut me);
+    set_a(rt, &shared, alloc, &mut me)?;
+    reads_with_note(rt, &shared, alloc, &mut me, &mut other, b"a")
+}
+
 /// Returns whether both replies are as wanted.
 fn are_wanted(replies: (Reply, Reply), first: Want<'_>, second: Want<'_>) -> bool {
     is_wanted(&Ok(replies.0), first) && is_wanted(&Ok(replies.1), second)
@@ -134,6 +177,14 @@ fn are_wanted(replies: (Reply, Reply), first: Want<'_>, second: Want<'_>) -> boo
 #[test]
 fn a_read_goes_on_from_another(rt: HostRuntime) -> Result<(), Fail> {
     let replies = replies_to_reads(&rt, rt.alloc())?;
+    assert!(rt; are_wanted(replies, Want::Hit(1, b"x"), Want::Hit(1, b"x")));
+    Ok(())
+}
+
+/// What one caller read, another reads again that heeds its note.
+#[test]
+fn a_read_goes_on_from_a_note(rt: HostRuntime) -> Result<(), Fail> {
+    let replies = replies_with_note(&rt, rt.alloc())?;
     assert!(rt; are_wanted(replies, Want::Hit(1, b"x"), Want::Hit(1, b"x")));
     Ok(())
 }
