@@ -12,3 +12,4 @@ pub mod CursorLemmas
 pub mod FeedLemmas
 pub mod SourceLemmas
 pub mod FoundLemmas
+pub mod AnnouncingLemmas

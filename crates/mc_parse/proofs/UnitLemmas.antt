@@ -19,7 +19,7 @@ abbrev pub NoFeed : List ℕ → Type 0
 NoFeed bytes = AllByRecursion (λ b. b ≢ 10) bytes
 
 -- bytes begin with one line at most
-same_text : (s t x y : List ℕ) → NoFeed s → NoFeed t → s ++ 10 ∷ x ≡ t ++ 10 ∷ y → (s ≡ t) × (x ≡ y)
+pub same_text : (s t x y : List ℕ) → NoFeed s → NoFeed t → s ++ 10 ∷ x ≡ t ++ 10 ∷ y → (s ≡ t) × (x ≡ y)
 same_text [] [] x y g h e = (refl, cc)
 same_text [] (c ∷ t) x y g h e = absurd (h.0 (cc))
 same_text (b ∷ s) [] x y g h e = absurd (g.0 (cc))
@@ -29,7 +29,7 @@ same_text (b ∷ s) (c ∷ t) x y g h e =
     (let heads : b ≡ c = cc in let q = r.0 in cc, r.1)
 
 -- where the first part ends before any line feed of the second begins
-long_text : (s t x y : List ℕ) → NoFeed s → NoFeed t → length s < length t → s ++ 10 ∷ x ≡ t ++ y → ⊥
+pub long_text : (s t x y : List ℕ) → NoFeed s → NoFeed t → length s < length t → s ++ 10 ∷ x ≡ t ++ y → ⊥
 long_text [] [] x y g h l e = omega arith
 long_text [] (c ∷ t) x y g h l e = h.0 (cc)
 long_text (b ∷ s) [] x y g h l e = omega arith
@@ -111,7 +111,7 @@ module _ (greatest : ℕ) (bytes : List ℕ) (end : ℕ) (line : IsLine (take (e
   abbrev meant : Result Line LineFault
   meant = meaning greatest (words (strip_carriage_return (take end bytes)))
 
-  at_feed : bytes ≡ take end bytes ++ 10 ∷ drop (end + 1) bytes
+  pub at_feed : bytes ≡ take end bytes ++ 10 ∷ drop (end + 1) bytes
   at_feed = sym (take-append-drop (end + 1) bytes) ∙ ap (λ l. l ++ drop (end + 1) bytes) line.ended ∙ append_assoc (take end bytes) (10 ∷ []) (drop (end + 1) bytes)
 
   -- with so many bytes behind it, it spells what they complete

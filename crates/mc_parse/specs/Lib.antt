@@ -7,3 +7,4 @@ pub mod Feeds
 pub mod Cursors
 pub mod Notes
 pub mod Aheads
+pub mod Announcing

@@ -8,6 +8,7 @@ ghost use Rattle.std.specs.Prelude.{◌≡◌, ℕ, List, [], None, IfSome};
 ghost use Rattle.mc_parse.specs.Peeks.{unit_of, FindsSpelled, MissesNone, StaysWhole};
 ghost use Rattle.mc_parse.specs.Cursors.{IsFirstCursor};
 ghost use Rattle.mc_parse.specs.Aheads.{Knew, Knows, HasNoFeed};
+ghost use Rattle.mc_parse.specs.Announcing.{Announces};
 
 use crate::cursor::Cursor;
 use crate::note::{Announced, Note};
@@ -45,7 +46,9 @@ impl Ahead {
 
     /// Returns the length of the first unit in bytes if its line announces a block, else 0.
     pub fn announced_bytes(&self) -> usize
-        ensures { (greatest : ℕ) → Knows greatest self.now [] → result ≡ 0 }
+        ensures exact { (greatest : ℕ) (unread : List ℕ) → Knows greatest self.now unread →
+            Announces greatest unread result }
+        ensures none { (greatest : ℕ) → Knows greatest self.now [] → result ≡ 0 }
     {
         match self {
             Ahead::Line(note) => note.announced_bytes(),

@@ -48,6 +48,7 @@ impl Feed {
     ghost use Rattle.mc_parse.specs.Cursors.{IsCursor};
     ghost use Rattle.mc_parse.specs.Feeds.{pushed, read, TakesPiece, IsSettled, HasNoUnit, HasUnit, ReadsUnit};
     ghost use Rattle.mc_parse.specs.Feeds.{Finds, FindsAny, FindsLeft, FindsAnyLeft, kept_in_feed};
+    ghost use Rattle.mc_parse.specs.Announcing.{Announces};
     ghost use Rattle.mc_bytes.specs.Queues.{first_piece};
 
     /// Makes an empty feed whose storage commands may charge at most `greatest` bytes.
@@ -247,7 +248,8 @@ impl Feed {
     ///
     /// It counts bytes that haven't arrived too.
     pub fn announced_bytes(&self) -> usize
-        ensures { self.now.bytes ≡ [] → result ≡ 0 }
+        ensures exact { Announces self.now.greatest self.now.bytes result }
+        ensures none { self.now.bytes ≡ [] → result ≡ 0 }
     {
         self.ahead.announced_bytes()
     }

@@ -9,6 +9,7 @@ ghost use Rattle.mc_parse.specs.Units.{with_block, IsLine};
 ghost use Rattle.mc_parse.specs.Peeks.{unit_of, FindsSpelled, MissesNone, StaysWhole};
 ghost use Rattle.mc_parse.specs.Cursors.{IsFirstCursor};
 ghost use Rattle.mc_parse.specs.Notes.{at, keys_at, read, said, FitIn, Fits, IsNoted};
+ghost use Rattle.mc_parse.specs.Announcing.{Announces};
 
 use crate::cursor::Cursor;
 use crate::line::line_of;
@@ -174,7 +175,10 @@ impl Note {
     }
 
     /// Returns the length in bytes of the line with the block that it announces, or 0 without one.
-    pub fn announced_bytes(&self) -> usize {
+    pub fn announced_bytes(&self) -> usize
+        ensures { (greatest : ℕ) (unread : List ℕ) → IsNoted greatest self.now unread →
+            Announces greatest unread result }
+    {
         match &self.said {
             Ok(noted) => match announced_block(noted) {
                 Some(len) => self.end.saturating_add(3).saturating_add(len as usize),

@@ -83,6 +83,7 @@ impl<O: Outgoing + Drop> SessionOf<O> {
     ghost use Rattle.std.specs.Prelude.{◌≡◌, ◌+◌, ◌≤◌, ◌↔◌, ℕ, List, [], length, option_copied, IsTrue, IsFalse, OnOk, OnErr, IfOk, IfErr, Ok, Some, IfSome};
     ghost use Rattle.mc_protocol.specs.Commands.{longest_key};
     ghost use Rattle.mc_bytes.specs.Sources.{Brings};
+    ghost use Rattle.mc_parse.specs.Announcing.{Announces};
     ghost use Rattle.mc_session.specs.Turns.{TakesTurn, FindsNoTurn, FindsClosed, TurnIsDue, NoTurnDue};
     ghost use Rattle.mc_session.specs.Turns.{DecidesStep, opened, closed, fed, FedPiece, sent};
     ghost use Rattle.mc_session.specs.Answers.{gone_on, MayGoOn};
@@ -298,7 +299,8 @@ impl<O: Outgoing + Drop> SessionOf<O> {
     ///
     /// It counts bytes that haven't arrived too.
     pub fn announced_bytes(&self) -> usize
-        ensures { self.now.unread.bytes ≡ [] → result ≡ 0 }
+        ensures exact { Announces self.now.unread.greatest self.now.unread.bytes result }
+        ensures none { self.now.unread.bytes ≡ [] → result ≡ 0 }
     {
         self.feed.announced_bytes()
     }
