@@ -1,10 +1,17 @@
 //! Reads the values of one scrape.
+//!
+//! The sums are of counters of any kind (`values_of`): those that threads share show no number to
+//! contracts.
+
+ghost use Rattle.std.specs.Prelude.{◌≡◌, ◌<◌, ◌*◌, ℕ, IfOk, All, length, slice_index};
+ghost use Rattle.std.specs.Arc.{arc_value};
+ghost use Rattle.mc_metrics.specs.Sums.{IsSum, Counts, Refuses};
 
 use crate::process::process_now;
 use crate::stats::StoreStats;
 use mc_metrics::{
-    BuffersReading, COUNTED, Counters, PageValues, ProcessReading, REFUSED, RefusedReading,
-    SettingsReading, SlabReading,
+    BuffersReading, Counters, CountersOf, PageValues, ProcessReading, REFUSED, RefusedReading,
+    SettingsReading, SharedCount, SlabReading, refused_sum, sums_of,
 };
 use mc_sizes::{PAGE_SIZE, class_of};
 use mc_sockets::{ConnectionLimit, PARTINGS};
@@ -47,72 +54,11 @@ impl Observer {
         &self,
         rt: &R,
         stats: &mut S,
-    ) -> Result<PageValues, AllocError> {
-        let alloc = rt.alloc();
-        let tables = stats.tables(rt);
-        let slabs = slabs_of(rt, alloc, stats)?;
-        Ok(PageValues {
-            counts: self.sum_counts(),
-            closed: self.closed_counts(alloc)?,
-            uptime: self.uptime(rt),
-            connections: u64::from(self.crowd.open()),
-            lingering: u64::from(self.crowd.lingering()),
-            accepted: self.crowd.accepted_count(),
-            most: u64::from(self.crowd.most()),
-            tables,
-            limit: u64::from(self.pages) * PAGE,
-            shelves: u64::from(stats.shelves()),
-            slabs,
-            refused: self.refused_counts(alloc)?,
-            buffers: self.sum_buffers(),
-            settings: self.settings,
-            process: ProcessReading {
-                started: self.started,
-                most_fds: self.most_fds,
-                ..process_now(rt)
-            },
-        })
-    }
-
-    /// Returns the sums of the workers' counters.
-    fn sum_counts(&self) -> [u64; COUNTED] {
-        let mut sums = [0u64; COUNTED];
-        for at in 0..COUNTED {
-            for counts in &self.counts {
-                sums[at] = sums[at].wrapping_add(counts.at(at));
-            }
-        }
-        sums
-    }
-
-    /// Returns the sums of the buffers that the workers' connections hold, and their limit.
-    fn sum_buffers(&self) -> BuffersReading {
-        let mut buffers = BuffersReading::empty(self.buffers);
-        for counts in &self.counts {
-            buffers = buffers.with(counts.held(), counts.waiting());
-        }
-        buffers
-    }
-
-    /// Returns the refused steps of each class, over all workers.
-    fn refused_counts(&self, alloc: Global) -> Result<Vec<RefusedReading>, AllocError> {
-        let mut rows = Vec::with_capacity(alloc, REFUSED)?;
-        for class in 0..REFUSED {
-            rows.push(RefusedReading {
-                class: class as u8,
-                count: self.refused_of(class),
-            })?;
-        }
-        Ok(rows)
-    }
-
-    /// Returns the refused steps of a class, over all workers.
-    fn refused_of(&self, class: usize) -> u64 {
-        let mut sum = 0u64;
-        for counts in &self.counts {
-            sum = sum.wrapping_add(counts.refused_at(class));
-        }
-        sum
+    ) -> Result<PageValues, AllocError>
+        ensures { IfOk result (λ values. (values.settings ≡ self.now.settings)
+            × (values.limit ≡ self.now.pages * 1048576)) }
+    {
+        values_of(self, self.counts.as_slice(), rt, stats)
     }
 
     /// Returns how many connections were closed for each reason.
@@ -134,6 +80,79 @@ impl Observer {
             None => 0,
         }
     }
+}
+
+/// Returns all values of one scrape, with the sums of these counters.
+fn values_of<C: SharedCount + Drop, R: Files + AllocGlobal + Wait + Clock, S: StoreStats>(
+    observer: &Observer,
+    workers: &[Arc<CountersOf<C>>],
+    rt: &R,
+    stats: &mut S,
+) -> Result<PageValues, AllocError>
+    ensures counts { IfOk result (λ values. (place : ℕ) → place < 20 → IsSum (λ worker.
+        Counts C.was_read place (arc_value worker)) workers.now
+        (slice_index values.counts place)) }
+    ensures refused { IfOk result (λ values. All (λ row. IsSum (λ worker.
+        Refuses C.was_read row.class (arc_value worker)) workers.now row.count)
+        values.refused.items) }
+    ensures settings { IfOk result (λ values. (values.settings ≡ observer.now.settings)
+        × (values.limit ≡ observer.now.pages * 1048576)) }
+{
+    let alloc = rt.alloc();
+    let tables = stats.tables(rt);
+    let slabs = slabs_of(rt, alloc, stats)?;
+    let crowd = &*observer.crowd;
+    Ok(PageValues {
+        counts: sums_of(workers),
+        closed: observer.closed_counts(alloc)?,
+        uptime: observer.uptime(rt),
+        connections: u64::from(crowd.open()),
+        lingering: u64::from(crowd.lingering()),
+        accepted: crowd.accepted_count(),
+        most: u64::from(crowd.most()),
+        tables,
+        limit: u64::from(observer.pages) * PAGE,
+        shelves: u64::from(stats.shelves()),
+        slabs,
+        refused: refused_counts(alloc, workers)?,
+        buffers: sum_buffers(workers, observer.buffers),
+        settings: observer.settings,
+        process: ProcessReading {
+            started: observer.started,
+            most_fds: observer.most_fds,
+            ..process_now(rt)
+        },
+    })
+}
+
+/// Returns the sums of the buffers that the workers' connections hold, and their limit.
+fn sum_buffers<C: SharedCount + Drop>(
+    workers: &[Arc<CountersOf<C>>],
+    limit: u64,
+) -> BuffersReading {
+    let mut buffers = BuffersReading::empty(limit);
+    for worker in workers {
+        buffers = buffers.with(worker.held(), worker.waiting());
+    }
+    buffers
+}
+
+/// Returns the refused steps of each class, over all workers.
+fn refused_counts<C: SharedCount + Drop>(
+    alloc: Global,
+    workers: &[Arc<CountersOf<C>>],
+) -> Result<Vec<RefusedReading>, AllocError>
+    ensures { IfOk result (λ rows. All (λ row. IsSum (λ worker.
+        Refuses C.was_read row.class (arc_value worker)) workers.now row.count) rows.items) }
+{
+    let mut rows = Vec::with_capacity(alloc, REFUSED)?;
+    for class in 0..REFUSED {
+        rows.push(RefusedReading {
+            class: class as u8,
+            count: refused_sum(workers, class),
+        })?;
+    }
+    Ok(rows)
 }
 
 /// Returns the classes of chunks that have a page, from the smallest up. The one error is a refused
