@@ -1,5 +1,5 @@
 -- Which links come, one opening of the door after another.
-use Rattle.std.specs.Prelude.{map}
+use Rattle.std.specs.Prelude.{map, if◌then◌else◌}
 use Rattle.std.proofs.Common.{◌≡◌, ◌↔◌, ◌<◌, ℕ, ◌+◌, Bool, true, false, List, [], ◌∷◌, ◌++◌, Option, Some, None, refl, sym, ap, ◌∙◌, subst, append_assoc, IsTrue, IsFalse}
 use Rattle.std.proofs.lemmas.List.{map-append}
 use Rattle.mc_links.specs.Coming.{IsNext}
@@ -7,24 +7,41 @@ use Rattle.mc_links.specs.declared.links.Next.TheVariants as next
 use Rattle.mc_guests.specs.Links.{LinkState}
 use Rattle.mc_guests.specs.Books.{BooksState}
 use Rattle.mc_guests.specs.Admissions.{Opens, LinksCame, OpensForAll}
-use Rattle.mc_guests.specs.Arrivals.{Arrival, all_links_of, came_in, all_came_in, came_between, seen_by, ComeFirst, NoneToCome, Brings}
+use Rattle.mc_guests.specs.Arrivals.{Arrival, all_links_of, turned_away, came_in, all_came_in, came_between, seen_by, ComeFirst, NoneToCome, Brings}
+use Rattle.mc_guests.specs.Leaving.{AreLetGo}
 use Rattle.mc_guests.specs.declared.admission.Admission.{Admission}
 use Rattle.mc_guests.specs.declared.guests.WorkEnd.{WorkEnd}
 
--- an opening of the door, and what it brings
-abbrev pub OpensTo : (is_quiet : Bool) (door later : Admission) (old new : BooksState) (before after : WorkEnd) (goes_on : Bool) (coming left : Option (List LinkState)) → Type 0
-OpensTo is_quiet door later old new before after goes_on coming left =
-    (opens : Opens is_quiet door later old new before after goes_on) × Brings (came_in opens) goes_on coming left
+-- what lets links go
+module _ (leaves : LinkState → (before after : ℕ) → Type 0) where
+  -- an opening of the door, what it brings, and which link it lets go
+  abbrev pub OpensTo : (is_quiet : Bool) (door later : Admission) (old new : BooksState) (before after : WorkEnd) (goes_on : Bool) (coming left : Option (List LinkState)) → Type 0
+  OpensTo is_quiet door later old new before after goes_on coming left =
+      (opens : Opens is_quiet door later old new before after goes_on) × Brings (came_in opens) goes_on coming left
+      × AreLetGo leaves (turned_away (came_in opens)) old.gone new.gone
 
--- openings by each of which a link came
-abbrev pub CameTo : (count : ℕ) (door later : Admission) (old new : BooksState) (before after : WorkEnd) (coming left : Option (List LinkState)) → Type 0
-CameTo count door later old new before after coming left =
-    (came : LinksCame count door later old new before after) × ComeFirst coming (all_came_in came) left
+  -- openings by each of which a link came
+  abbrev pub CameTo : (count : ℕ) (door later : Admission) (old new : BooksState) (before after : WorkEnd) (coming left : Option (List LinkState)) → Type 0
+  CameTo count door later old new before after coming left =
+      (came : LinksCame count door later old new before after) × ComeFirst coming (all_came_in came) left
+      × AreLetGo leaves (turned_away (all_came_in came)) old.gone new.gone
 
--- the openings between two rounds
-abbrev pub OpensAllTo : (door later : Admission) (old new : BooksState) (before after : WorkEnd) (goes_on : Bool) (coming left : Option (List LinkState)) → Type 0
-OpensAllTo door later old new before after goes_on coming left =
-    (opens : OpensForAll door later old new before after goes_on) × Brings (came_between opens) goes_on coming left
+  -- the openings between two rounds
+  abbrev pub OpensAllTo : (door later : Admission) (old new : BooksState) (before after : WorkEnd) (goes_on : Bool) (coming left : Option (List LinkState)) → Type 0
+  OpensAllTo door later old new before after goes_on coming left =
+      (opens : OpensForAll door later old new before after goes_on) × Brings (came_between opens) goes_on coming left
+      × AreLetGo leaves (turned_away (came_between opens)) old.gone new.gone
+
+away_if : (b : Bool) (link : LinkState) (xs ys : List LinkState) → (if b then xs ++ ys else link ∷ (xs ++ ys)) ≡ (if b then xs else link ∷ xs) ++ ys
+away_if true link xs ys = refl
+away_if false link xs ys = refl
+
+-- those that were refused of some that came and of others
+pub away_both : (came more : List Arrival) → turned_away (came ++ more) ≡ turned_away came ++ turned_away more
+away_both [] more = refl
+away_both (arrival ∷ came) more =
+    ap (λ (l : List LinkState). if arrival.is_admitted then l else arrival.state ∷ l) (away_both came more)
+    ∙ away_if arrival.is_admitted arrival.state (turned_away came) (turned_away more)
 
 pub first_none : (links : Option (List LinkState)) → ComeFirst links [] links
 first_none None = refl

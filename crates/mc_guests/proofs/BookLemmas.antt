@@ -121,7 +121,7 @@ awake_before at old new before after within settles =
     awake_by true goes lines sleeps stays = one_less (ap (λ (b : BooksState). b.awake) (goes refl).books)
     awake_by false goes lines sleeps stays = awake_out (is_stray settles.guest) (lines refl) (sleeps refl) (stays refl)
 
-long_swapped : (one other : ℕ) (row later : RowState) → later ≡ swapped one other row → length later.guests ≡ length row.guests
+pub long_swapped : (one other : ℕ) (row later : RowState) → later ≡ swapped one other row → length later.guests ≡ length row.guests
 long_swapped one other row later is = ap (λ (r : RowState). length r.guests) is ∙ length-swap row.guests one other
 
 -- guests are counted as before where two change places

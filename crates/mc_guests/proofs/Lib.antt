@@ -16,3 +16,4 @@ pub mod DoorLemmas
 pub mod TurnLemmas
 pub mod BudgetLemmas
 pub mod MeasureLemmas
+pub mod LeavingLemmas

@@ -35,7 +35,7 @@ place_one one other = elim (place_is one other one) [
   | inr b ↦ elim b [ inl c ↦ absurd (c.0 refl) | inr d ↦ absurd (d.0 refl) ]
 ]
 
-place_other : (one other : ℕ) → place one other other ≡ one
+pub place_other : (one other : ℕ) → place one other other ≡ one
 place_other one other = elim (place_is one other other) [
   | inl a ↦ a.1 ∙ a.0
   | inr b ↦ elim b [ inl c ↦ c.2 | inr d ↦ absurd (d.1 refl) ]

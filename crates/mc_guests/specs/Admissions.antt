@@ -51,11 +51,11 @@ pub record WakesAllNamed (talk : LinkCalls) (old : BooksState) (later : LinkCall
   pub wakes : WakesNamed talk old last new
   pub over : (later ≡ heard None last) ⊎ ((last.names ≡ most_names) × (later ≡ last))
 
--- a link came: there is a guest more, who is awake, or the link is counted as refused
+-- a link came: there is a guest more, who is awake, or the link is counted as refused, and let go
 pub record LetsIn (greatest number : ℕ) (old new : BooksState) (before after : WorkEnd) : Type 0 where
   pub link : LinkState
   pub either : ((new ≡ let_in (welcomed greatest link) number old) × (after ≡ before))
-      ⊎ ((new ≡ old) × (after ≡ record before { refused = one_more before.refused }))
+      ⊎ ((new ≡ record old { gone = new.gone }) × (after ≡ record before { refused = one_more before.refused }))
 
 -- those woke whose links were named after a rest; without a rest nothing changed
 abbrev pub WakesAfter : (rests : Bool) (talk : LinkCalls) (old : BooksState) (later : LinkCalls) (new : BooksState) → Type 0

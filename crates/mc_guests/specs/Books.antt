@@ -63,7 +63,7 @@ StandsAt at row guest = slice_get row.guests at ≡ Some guest
 
 -- Guests in a row; the first `awake` of them are awake. What they hold together, with its limit. The queue of
 -- those that wait, oldest first, by the numbers of their links; whether the turn is the newest's, and not the oldest's;
--- and whether some that wait were left out of it, as memory was refused.
+-- and whether some that wait were left out of it, as memory was refused. How many links were let go, modulo 2^64.
 pub record BooksState : Type 0 where
   pub row : RowState
   pub awake : ℕ
@@ -71,15 +71,16 @@ pub record BooksState : Type 0 where
   pub queue : List ℕ
   pub is_last : Bool
   pub has_strays : Bool
+  pub gone : ℕ
 
 -- what contracts see of guests with these fields
-abbrev pub books : RowState → (awake : ℕ) → Budget → (queue : List ℕ) → (is_last has_strays : Bool) → BooksState
-books row awake budget queue last strays =
-    record { row = row; awake = awake; budget = budget; queue = queue; is_last = last; has_strays = strays }
+abbrev pub books : RowState → (awake : ℕ) → Budget → (queue : List ℕ) → (is_last has_strays : Bool) → (gone : ℕ) → BooksState
+books row awake budget queue last strays gone =
+    record { row = row; awake = awake; budget = budget; queue = queue; is_last = last; has_strays = strays; gone = gone }
 
 -- no guests, and a budget that counts none
 abbrev pub no_books : Budget → BooksState
-no_books budget = books nobody 0 (rest_of budget) [] false false
+no_books budget = books nobody 0 (rest_of budget) [] false false 0
 
 -- no guest is awake, and none that is kept waiting may be tried again
 abbrev pub quiet : BooksState → Bool
@@ -139,9 +140,9 @@ let_gone at books = record books {
   awake = books.awake - 1;
 }
 
--- the guest at a place goes: it isn't counted any more, and memory came back
+-- the guest at a place goes, and its link: it isn't counted any more, and memory came back
 pub record LetsGo (at : ℕ) (old new : BooksState) : Type 0 where
-  pub books : new ≡ record (let_gone at old) { budget = new.budget }
+  pub books : new ≡ record (let_gone at old) { budget = new.budget; gone = new.gone }
   pub rest : rest_of new.budget ≡ rest_of old.budget
   pub eased : IsTrue new.budget.is_eased
 

@@ -13,3 +13,4 @@ pub mod Asks
 pub mod Turns
 pub mod Admissions
 pub mod Arrivals
+pub mod Leaving

@@ -5,11 +5,13 @@
 ghost use Rattle.std.specs.Prelude.{◌≡◌, IsTrue, IsFalse};
 ghost use Rattle.mc_guests.specs.Books.{one_more};
 ghost use Rattle.mc_guests.specs.Admissions.{shut, counted_in, LetsIn, Opens, OpensForAll};
-ghost use Rattle.mc_guests.specs.Arrivals.{seen_by, came_in, came_between, Brings};
+ghost use Rattle.mc_guests.specs.Arrivals.{seen_by, came_in, came_between, turned_away, Brings};
+ghost use Rattle.mc_guests.specs.Leaving.{refused_of, AreLetGo};
 
 use crate::guests::{Guests, WorkEnd};
+use crate::leaving::LeavingLink;
 use crate::link_calls::LinkCalls;
-use mc_links::{Link, Links, Next};
+use mc_links::{Links, Next};
 use std::alloc::Global;
 
 /// The most links that are admitted between two rounds.
@@ -44,7 +46,7 @@ impl Admission {
     /// opening rests, if no guest was admitted before it and there is nothing to do. Each opening
     /// wakes the guests whose links are named, at most 1024. Returns whether more can come. The
     /// links that come are the next ones of those that are to come, if these are known.
-    pub fn open_for_all<L: Link + Drop, Q: Links<L>>(
+    pub fn open_for_all<L: LeavingLink + Drop, Q: Links<L>>(
         &mut self,
         alloc: Global,
         links: &mut Q,
@@ -53,7 +55,8 @@ impl Admission {
     ) -> bool
         ensures { (opens : OpensForAll self.old self.new guests.old guests.new end.old end.new
             result) × Brings (came_between opens) result (seen_by L.shown (Q.coming links.old))
-            (seen_by L.shown (Q.coming links.new)) }
+            (seen_by L.shown (Q.coming links.new))
+            × AreLetGo L.leaves (turned_away (came_between opens)) guests.old.gone guests.new.gone }
     {
         for _ in 0..LINKS {
             let is_quiet = guests.is_quiet();
@@ -69,7 +72,7 @@ impl Admission {
     ///
     /// It rests if there is nothing to do. Returns whether more can come: not if no more links come
     /// and there is no guest.
-    fn open<L: Link + Drop, Q: Links<L>>(
+    fn open<L: LeavingLink + Drop, Q: Links<L>>(
         &mut self,
         alloc: Global,
         links: &mut Q,
@@ -79,7 +82,8 @@ impl Admission {
     ) -> bool
         ensures { (opens : Opens is_quiet self.old self.new guests.old guests.new end.old end.new
             result) × Brings (came_in opens) result (seen_by L.shown (Q.coming links.old))
-            (seen_by L.shown (Q.coming links.new)) }
+            (seen_by L.shown (Q.coming links.new))
+            × AreLetGo L.leaves (turned_away (came_in opens)) guests.old.gone guests.new.gone }
     {
         self.talk = LinkCalls::new();
         match self.talk.next(links) {
@@ -100,8 +104,8 @@ impl Admission {
         }
     }
 
-    /// Makes a guest of a link, or counts it as refused.
-    fn let_in<L: Link + Drop>(
+    /// Makes a guest of a link, or counts it as refused and lets it go.
+    fn let_in<L: LeavingLink + Drop>(
         &mut self,
         alloc: Global,
         link: L,
@@ -109,7 +113,8 @@ impl Admission {
         end: &mut WorkEnd,
     )
         ensures lets { (lets : LetsIn self.old.greatest self.old.opened guests.old guests.new
-            end.old end.new) × (lets.link ≡ L.shown link) }
+            end.old end.new) × (lets.link ≡ L.shown link)
+            × AreLetGo L.leaves (refused_of lets) guests.old.gone guests.new.gone }
         ensures counts { self.new ≡ counted_in self.old }
     {
         let came = guests.welcome(alloc, link, self.greatest, self.opened);

@@ -98,6 +98,14 @@ impl<L: Link + Drop> Guest<L> {
         }
     }
 
+    /// Returns its link, and frees all else.
+    pub(crate) fn into_link(self) -> L
+        ensures { L.shown result ≡ self.link }
+    {
+        let Guest { link, .. } = self;
+        link
+    }
+
     /// Returns the answer of its last visit, and `None` before the first.
     pub fn last(&self) -> Option<Visit>
         ensures { result ≡ self.now.last }

@@ -6,12 +6,13 @@
 ghost use Rattle.std.specs.Prelude.{◌≡◌, ◌↔◌, ◌<◌, ◌≤◌, ◌&&◌, not, length, slice_get, false, Some, None, is_some, IfSome, IsTrue, IsFalse};
 ghost use Rattle.mc_guests.specs.Asks.{MakesRound};
 ghost use Rattle.mc_guests.specs.Budgets.{is_retry_due, is_over as exceeds_share, to_end, to_judge, with_left};
-ghost use Rattle.mc_guests.specs.Guests.{welcomed, has_ended, is_later, is_left_out};
-ghost use Rattle.mc_guests.specs.Books.{no_books, quiet, woken, put_behind, let_in, counted};
+ghost use Rattle.mc_guests.specs.Guests.{RowGuest, welcomed, has_ended, is_later, is_left_out};
+ghost use Rattle.mc_guests.specs.Books.{no_books, quiet, woken, put_behind, let_in, counted, StandsAt};
 ghost use Rattle.mc_guests.specs.Books.{SleepsAt, IsFateOf, is_over, is_asleep, is_to_queue};
 ghost use Rattle.mc_guests.specs.Books.{Wakes, LinesUp, LetsGo, Settles, SettlesFrom};
 ghost use Rattle.mc_guests.specs.Books.{SameButLeft, SetsTicks, took_ending, took_judging};
 ghost use Rattle.mc_guests.specs.Judging.{EndsSlowest, Judges};
+ghost use Rattle.mc_guests.specs.Leaving.{gone_at, all_gone, AreLetGo};
 ghost use Rattle.mc_guests.specs.Retries.{LetsOn, LetsOnAll, begun_anew, GoInTurn, GoBeside, TakesTurn, EndsTurns};
 ghost use Rattle.mc_guests.specs.Retries.{LooksAtFirst, IsQueuedAt, NoneWaits, PromisesRoom, KeepsRoom};
 ghost use Rattle.mc_guests.specs.Retries.{tried_again, lined, in_turn, struck_out, turn_passed};
@@ -20,6 +21,7 @@ ghost use Rattle.mc_guests.specs.Turns.{VisitsAll, VisitsAwake};
 
 use crate::budget::Budget;
 use crate::guest::{Guest, Visit};
+use crate::leaving::LeavingLink;
 use crate::metered::{Verdict, WaitState};
 use crate::reports::Reports;
 use crate::row::GuestRow;
@@ -46,7 +48,8 @@ pub struct WorkEnd {
 ///
 /// A guest whose last answer was `Later` sleeps, and so does one that waits for room. A sleeping
 /// guest wakes when its link is named. Contracts see all guests, the numbers of their
-/// links, how many are awake, the budget, and the queue. The budget counts each guest once.
+/// links, how many are awake, the budget, the queue, and how many links were let go. The budget
+/// counts each guest once.
 #[derive(Drop)]
 pub struct Guests<L: Link + Drop> {
     row: GuestRow<L>,
@@ -58,6 +61,8 @@ pub struct Guests<L: Link + Drop> {
     is_last: bool,
     /// Whether a waiting guest isn't in the queue, because memory was refused.
     has_strays: bool,
+    /// The number of links that were let go, modulo 2^64.
+    gone: u64,
     /// The bytes held and the number of waiting guests, as they were last reported.
     reported: (usize, usize),
     /// The large buffers of all guests between two requests, if there was memory for them.
@@ -72,7 +77,7 @@ impl<L: Link + Drop> Model for Guests<L> {
     ghost Value = { BooksState };
 
     ghost view = { λ g.
-        books g.row g.awake g.budget g.queue.items g.is_last g.has_strays };
+        books g.row g.awake g.budget g.queue.items g.is_last g.has_strays g.gone };
 
     ghost invariant = { λ g. (g.awake ≤ length g.row.guests) × CountsAll g.budget g.row.guests };
 }
@@ -107,6 +112,7 @@ impl<L: Link + Drop> Guests<L> {
             queue: VecDeque::new(alloc),
             is_last: false,
             has_strays: false,
+            gone: 0,
             reported: (0, 0),
             spares: Spares::new(alloc).ok(),
         }
@@ -131,24 +137,6 @@ impl<L: Link + Drop> Guests<L> {
         ensures { result ≡ quiet self.now }
     {
         self.awake == 0 && !self.budget.may_try()
-    }
-
-    /// Makes an awake guest of the link with this number, and returns whether it did.
-    ///
-    /// If memory is refused, or if a guest's link already has that number, the link is dropped, and
-    /// all guests are unchanged.
-    pub fn welcome(&mut self, alloc: Global, link: L, greatest: u64, number: u64) -> bool
-        ensures came { IsTrue result →
-            self.new ≡ let_in (welcomed greatest (L.shown link)) number self.old }
-        ensures refused { IsFalse result → self.new ≡ self.old }
-    {
-        let guest = Guest::with_spares(alloc, link, greatest, self.spares.as_ref());
-        let place = self.row.len();
-        if self.row.push(guest, number) {
-            self.wake_at(place);
-            return true;
-        }
-        false
     }
 
     /// Visits each awake guest once. Before, wakes waiting guests that find room, if memory came
@@ -498,31 +486,6 @@ impl<L: Link + Drop> Guests<L> {
         self.row.judge_slowest(self.budget.ticks)
     }
 
-    /// Drops and counts the guests that have ended, and puts those that answered `Later`, or wait
-    /// for room, to sleep. The others stay awake.
-    ///
-    /// The last comes first: if all behind a guest fall asleep too, none is moved.
-    pub fn settle(&mut self, end: &mut WorkEnd)
-        ensures { SettlesFrom 0 self.old self.new end.old end.new }
-    {
-        for at in (0..self.awake).rev() {
-            self.settle_at(at, end);
-        }
-    }
-
-    /// Settles an awake guest.
-    fn settle_at(&mut self, at: usize, end: &mut WorkEnd)
-        requires { at < self.old.awake }
-        ensures { Settles at self.old self.new end.old end.new }
-    {
-        match self.fate_at(at, end) {
-            NextState::GoesOn => {}
-            NextState::Waits => self.line_up(at),
-            NextState::Sleeps => self.put_behind(at),
-            NextState::Ended => self.let_go(at),
-        }
-    }
-
     /// Returns what an awake guest does next. An end is counted.
     fn fate_at(&self, at: usize, end: &mut WorkEnd) -> NextState
         requires { at < self.now.awake }
@@ -584,18 +547,75 @@ impl<L: Link + Drop> Guests<L> {
         self.row.swap(at, last);
         self.awake = last;
     }
+}
 
-    /// Drops a guest.
+impl<L: LeavingLink + Drop> Guests<L> {
+    /// Makes an awake guest of the link with this number, and returns whether it did.
+    ///
+    /// If memory is refused, or if a guest's link already has that number, the link is let go, and
+    /// all guests are unchanged.
+    pub fn welcome(&mut self, alloc: Global, link: L, greatest: u64, number: u64) -> bool
+        ensures came { IsTrue result →
+            self.new ≡ let_in (welcomed greatest (L.shown link)) number self.old }
+        ensures refused { IsFalse result → self.new ≡ record self.old { gone = self.new.gone } }
+        ensures leaves { IsFalse result →
+            L.leaves (L.shown link) self.old.gone self.new.gone }
+    {
+        let guest = Guest::with_spares(alloc, link, greatest, self.spares.as_ref());
+        let place = self.row.len();
+        match self.row.push(guest, number) {
+            Ok(()) => {
+                self.wake_at(place);
+                true
+            }
+            Err(link) => {
+                self.gone = link.let_go(self.gone);
+                false
+            }
+        }
+    }
+
+    /// Drops and counts the guests that have ended, lets their links go, and puts those that
+    /// answered `Later`, or wait for room, to sleep. The others stay awake.
+    ///
+    /// The last comes first: if all behind a guest fall asleep too, none is moved.
+    pub fn settle(&mut self, end: &mut WorkEnd)
+        ensures { (settles : SettlesFrom 0 self.old self.new end.old end.new)
+            × AreLetGo L.leaves (all_gone settles.1) self.old.gone self.new.gone }
+    {
+        for at in (0..self.awake).rev() {
+            self.settle_at(at, end);
+        }
+    }
+
+    /// Settles an awake guest.
+    fn settle_at(&mut self, at: usize, end: &mut WorkEnd)
+        requires { at < self.old.awake }
+        ensures { (settles : Settles at self.old self.new end.old end.new)
+            × AreLetGo L.leaves (gone_at settles) self.old.gone self.new.gone }
+    {
+        match self.fate_at(at, end) {
+            NextState::GoesOn => {}
+            NextState::Waits => self.line_up(at),
+            NextState::Sleeps => self.put_behind(at),
+            NextState::Ended => self.let_go(at),
+        }
+    }
+
+    /// Removes a guest, and lets its link go.
     fn let_go(&mut self, at: usize)
         requires { at < self.old.awake }
-        ensures { LetsGo at self.old self.new }
+        ensures goes { LetsGo at self.old self.new }
+        ensures leaves { (guest : RowGuest) × StandsAt at self.old.row guest
+            × L.leaves guest.guest.link self.old.gone self.new.gone }
     {
         let last = self.awake - 1;
         self.row.swap(at, last);
         let end = self.row.len() - 1;
         self.row.swap(last, end);
         self.awake = last;
-        self.row.pop(&mut self.budget);
+        let link = self.row.pop(&mut self.budget);
+        self.gone = link.let_go(self.gone);
     }
 }
 

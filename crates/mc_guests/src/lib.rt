@@ -28,6 +28,7 @@ mod budget;
 mod guest;
 mod guests;
 mod laws;
+mod leaving;
 mod link_calls;
 mod link_rate;
 mod link_source;
@@ -47,6 +48,7 @@ pub use laws::{
     links_are_answered_what_they_gave, links_take_texts_of_turns, retries_are_fair,
     rounds_are_visits,
 };
+pub use leaving::LeavingLink;
 pub use link_calls::{LinkCalls, NextAnswer};
 pub use mc_links::{Gathering, Got, Link, LinkFault, Links, Next, NoTally, Outcome, Tally, Took};
 pub use measure::length_at;

@@ -282,12 +282,22 @@ impl<L: Link + Drop> Metered<L> {
         self.guest.refuse();
     }
 
-    /// Frees what it holds, and uncounts it.
+    /// Returns its link, and frees all else.
+    pub fn into_link(self) -> L
+        ensures { L.shown result ≡ self.guest.link }
+    {
+        let Metered { guest, .. } = self;
+        guest.into_link()
+    }
+
+    /// Frees what it holds, and uncounts it. Its link stays.
     pub fn leave(&mut self, budget: &mut Budget)
-        ensures { budget.new ≡ record (uncounted self.old.counted self.old.waits budget.old) {
-          left = budget.old.left - self.old.left;
-          is_eased = true;
-        } }
+        ensures counts { budget.new
+            ≡ record (uncounted self.old.counted self.old.waits budget.old) {
+              left = budget.old.left - self.old.left;
+              is_eased = true;
+            } }
+        ensures link { self.new.guest.link ≡ self.old.guest.link }
     {
         self.guest.give_up();
         self.uncount_left(budget);

@@ -2,14 +2,14 @@
 //!
 //! Contracts show guests as lists (`BooksState`): guests in a row, the number of each one's link,
 //! and how many are awake, the first ones. So a contract names which guest wakes, sleeps and ends.
-ghost use Rattle.std.specs.Prelude.{◌≡◌, ◌<◌, ◌≤◌, ◌-◌, ◌+◌, ◌++◌, ◌∷◌, ℕ, [], take, drop, length, Some, IfSome, IsTrue, IsFalse, false};
+ghost use Rattle.std.specs.Prelude.{◌≡◌, ◌<◌, ◌≤◌, ◌-◌, ◌+◌, ◌++◌, ◌∷◌, ℕ, [], take, drop, length, Some, IfSome, OnOk, IfErr, IsTrue};
 ghost use Rattle.mc_guests.specs.Asks.{MakesRound};
 ghost use Rattle.mc_guests.specs.Budgets.{CountsAll, RecountsAll, rest_of, with_left};
 ghost use Rattle.mc_guests.specs.Turns.{HaveTurns};
 ghost use Rattle.mc_guests.specs.Retries.{IsWhole};
 ghost use Rattle.mc_guests.specs.Books.{nobody, swapped, cut, joined, HasNumber, StandsAt};
 ghost use Rattle.mc_guests.specs.Books.{with_guest, SameButLeft};
-ghost use Rattle.mc_guests.specs.Guests.{newcomer, in_line};
+ghost use Rattle.mc_guests.specs.Guests.{RowGuest, newcomer, in_line};
 ghost use Rattle.mc_guests.specs.Judging.{FindsSlowest, Judges, JudgesAt, EndsReader, RecountsAt};
 ghost use Rattle.mc_guests.specs.Judging.{sought_rate, undercuts};
 
@@ -71,26 +71,33 @@ impl<L: Link + Drop> GuestRow<L> {
         self.guests.len()
     }
 
-    /// Appends a guest whose link has this number, and returns whether it did.
+    /// Appends a guest whose link has this number.
     ///
-    /// If memory is refused, or if a guest's link already has that number, the guest is dropped.
-    pub fn push(&mut self, guest: Guest<L>, number: u64) -> bool
-        ensures pushed { IsTrue result → self.new ≡ joined guest number self.old }
-        ensures refused { IsFalse result → self.new ≡ self.old }
+    /// If memory is refused, or if a guest's link already has that number, the guest's link is
+    /// returned.
+    pub fn push(&mut self, guest: Guest<L>, number: u64) -> Result<(), L>
+        ensures pushed { OnOk result (self.new ≡ joined guest number self.old) }
+        ensures refused { IfErr result (λ link.
+            (L.shown link ≡ guest.link) × (self.new ≡ self.old)) }
     {
         if !self.numbers.push(number) {
-            return turned_away(guest);
+            return Err(turned_away(guest));
         }
-        if push_behind(self.alloc, &mut self.guests, guest) {
-            return true;
+        match push_behind(self.alloc, &mut self.guests, guest) {
+            Ok(()) => Ok(()),
+            Err(link) => {
+                self.numbers.pop();
+                Err(link)
+            }
         }
-        self.numbers.pop();
-        false
     }
 
-    /// Drops the last guest, which is no longer counted.
-    pub fn pop(&mut self, budget: &mut Budget)
+    /// Removes the last guest, which is no longer counted, and returns its link.
+    #[inline(never)]
+    pub fn pop(&mut self, budget: &mut Budget) -> L
         requires { 0 < length self.old.guests }
+        ensures link { (guest : RowGuest) × StandsAt (length self.old.guests - 1) self.old guest
+            × (L.shown result ≡ guest.guest.link) }
         ensures cut { self.new ≡ cut (length self.old.guests - 1) self.old }
         ensures counts { CountsAll budget.old self.old.guests →
             CountsAll budget.new self.new.guests }
@@ -98,10 +105,11 @@ impl<L: Link + Drop> GuestRow<L> {
         ensures eased { IsTrue budget.new.is_eased }
     {
         let Some(mut guest) = self.guests.pop() else {
-            return;
+            unreachable!()
         };
         guest.inner.leave(budget);
         self.numbers.pop();
+        guest.into_link()
     }
 
     /// Lends the guest at a place.
@@ -328,32 +336,34 @@ fn visit_front_of<L: Link + Drop, S: Reports>(
     round_within(alloc, front, store, now, budget);
 }
 
-/// Appends a guest that holds nothing, and returns whether memory was there.
+/// Appends a guest that holds nothing. Returns its link if memory is refused.
 fn push_behind<L: Link + Drop>(
     alloc: Global,
     guests: &mut Vec<GuestSeat<L>>,
     guest: Guest<L>,
-) -> bool
-    ensures pushed { IsTrue result →
-        guests.new.items ≡ guests.old.items ++ newcomer guest ∷ [] }
-    ensures refused { IsFalse result → guests.new.items ≡ guests.old.items }
+) -> Result<(), L>
+    ensures pushed { OnOk result
+        (guests.new.items ≡ guests.old.items ++ newcomer guest ∷ []) }
+    ensures refused { IfErr result (λ link.
+        (L.shown link ≡ guest.link) × (guests.new.items ≡ guests.old.items)) }
 {
-    let Some(seat) = GuestSeat::new(alloc, guest) else {
-        return false;
+    let seat = match GuestSeat::new(alloc, guest) {
+        Ok(seat) => seat,
+        Err(link) => return Err(link),
     };
     match guests.push(seat) {
-        Ok(()) => true,
+        Ok(()) => Ok(()),
         Err(AllocFailed { mut value }) => {
             value.inner.refuse();
-            false
+            Err(value.into_link())
         }
     }
 }
 
-/// Drops a guest that isn't put into the row, and returns false.
-fn turned_away<L: Link + Drop>(mut guest: Guest<L>) -> bool
-    ensures { result ≡ false }
+/// Returns the link of a guest that isn't put into the row, which is recorded there.
+fn turned_away<L: Link + Drop>(mut guest: Guest<L>) -> L
+    ensures { L.shown result ≡ guest.link }
 {
     guest.refuse();
-    false
+    guest.into_link()
 }

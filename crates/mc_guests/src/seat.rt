@@ -1,7 +1,7 @@
 //! Guests on the heap.
 //!
 //! A guest wakes and falls asleep by changing places in its row. So only a pointer is moved.
-ghost use Rattle.std.specs.Prelude.{◌≡◌, IfSome};
+ghost use Rattle.std.specs.Prelude.{◌≡◌, IfOk, IfErr};
 ghost use Rattle.mc_guests.specs.Guests.{newcomer};
 
 use crate::guest::Guest;
@@ -25,17 +25,26 @@ impl<L: Link + Drop> Model for GuestSeat<L> {
 }
 
 impl<L: Link + Drop> GuestSeat<L> {
-    /// Puts a guest that holds nothing on the heap. Returns `None` if memory is refused, which is
-    /// recorded at its link.
-    pub fn new(alloc: Global, guest: Guest<L>) -> Option<GuestSeat<L>>
-        ensures { IfSome result (λ seat. seat ≡ newcomer guest) }
+    /// Puts a guest that holds nothing on the heap. Returns its link if memory is refused, which is
+    /// recorded there.
+    pub fn new(alloc: Global, guest: Guest<L>) -> Result<GuestSeat<L>, L>
+        ensures seated { IfOk result (λ seat. seat ≡ newcomer guest) }
+        ensures refused { IfErr result (λ link. L.shown link ≡ guest.link) }
     {
         match Box::new(alloc, Metered::new(guest)) {
-            Ok(inner) => Some(GuestSeat { inner }),
+            Ok(inner) => Ok(GuestSeat { inner }),
             Err(AllocFailed { mut value }) => {
                 value.refuse();
-                None
+                Err(value.into_link())
             }
         }
+    }
+
+    /// Returns the guest's link, and frees all else.
+    pub fn into_link(self) -> L
+        ensures { L.shown result ≡ self.guest.link }
+    {
+        let GuestSeat { inner } = self;
+        Box::into_inner(inner).into_link()
     }
 }

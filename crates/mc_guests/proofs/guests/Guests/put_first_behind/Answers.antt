@@ -26,4 +26,5 @@ returns g c =
       queue = l;
       is_last = c.self.inside.is_last;
       has_strays = c.self.inside.has_strays;
+      gone = c.self.inside.gone;
     }) items ∙ ap (first_behind c.args.number) c.self.view_is
