@@ -5,7 +5,8 @@ use Rattle.mc_guests.specs.Budgets.{is_over, to_end, to_judge}
 use Rattle.mc_guests.specs.Judging.{EndsSlowest, Judges, NoneIsSought, slowness}
 use Rattle.mc_time.specs.Chains.{one_more}
 use Rattle.mc_guests.specs.declared.metered.Verdict.{Verdict}
-use Rattle.mc_workers.specs.Room.{EndsReaders, EndsUpTo, JudgesSlow, JudgesUpTo, MakesRoom}
+use Rattle.mc_guests.proofs.LeavingLemmas.{repeats_leave}
+use Rattle.mc_workers.specs.Room.{EndsOne, EndsReaders, EndsUpTo, JudgesOne, JudgesSlow, JudgesUpTo, MakesRoom}
 
 -- one more was judged
 pub judged_more : (count : ℕ) (verdict : Verdict) (old mid new : BooksState) → JudgesSlow count old mid → Judges mid.budget.ticks (Some verdict) mid.row new.row
@@ -54,3 +55,10 @@ makes_room ticks readers most old timed taken ended noted new sets few takes end
   ends = subst (λ (n : ℕ). EndsUpTo n (took_ending timed) ended) few (subst (λ (b : BooksState). EndsUpTo readers b ended) takes ends);
   judges = subst (λ (n : ℕ). JudgesUpTo n (took_judging ended) new) counts (subst (λ (b : BooksState). JudgesUpTo most b new) notes judges);
 }
+
+-- no link is let go for room: a link that is to end is named, and ends later
+pub room_gone : (old new : BooksState) → MakesRoom old new → new.gone ≡ old.gone
+room_gone old new room =
+    repeats_leave JudgesOne (λ a b one. ap (λ (x : BooksState). x.gone) one.same) room.judges.count (took_judging room.ended) new room.judges.judges
+    ∙ repeats_leave EndsOne (λ a b one. ap (λ (x : BooksState). x.gone) one.same) room.ends.count (took_ending room.timed) room.ended room.ends.ends
+    ∙ ap (λ (x : BooksState). x.gone) room.sets.rest

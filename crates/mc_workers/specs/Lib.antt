@@ -3,3 +3,4 @@ pub mod Room
 pub mod Rounds
 pub mod Came
 pub mod Moments
+pub mod Gone

@@ -6,9 +6,11 @@
 //! rounds, since dead items may have what it lacks.
 ghost use Rattle.std.specs.Prelude.{◌≡◌, ◌-◌, ◌^◌, nat_lt, false};
 ghost use Rattle.mc_guests.specs.Arrivals.{seen_by, Brings};
+ghost use Rattle.mc_guests.specs.Leaving.{AreLetGo};
 ghost use Rattle.mc_shared.specs.History.{start_of};
 ghost use Rattle.mc_shared.specs.Steps.{Agrees};
 ghost use Rattle.mc_workers.specs.Came.{all_came};
+ghost use Rattle.mc_workers.specs.Gone.{all_let_go, gone_after, gone_in_rounds};
 ghost use Rattle.mc_workers.specs.Moments.{ReadsOn};
 ghost use Rattle.mc_workers.specs.Room.{MakesRoom, EndsUpTo, JudgesUpTo};
 ghost use Rattle.mc_workers.specs.Rounds.{MakesRounds, VisitsAndSettles, WorksToEnd};
@@ -17,7 +19,9 @@ ghost use Rattle.mc_workers.specs.Tending.{GoesFurther, Further, TidiesInTurn};
 use crate::counting::Counting;
 use crate::rereading::RereadClock;
 use crate::tending::Tending;
-use mc_guests::{Admission, Budget, Guests, Link, Links, NoTally, Tally, Verdict, WorkEnd};
+use mc_guests::{
+    Admission, Budget, Guests, LeavingLink, Link, Links, NoTally, Tally, Verdict, WorkEnd,
+};
 use mc_hop::KeyHash;
 use mc_shared::{Caller, Gate, Shared};
 use mc_time::{Clock, Moment};
@@ -58,8 +62,10 @@ impl<'a, G: Gate, T: Tally, C: RereadClock> Worker<'a, G, T, C> {
     /// The caller is returned with further calls in its past and nothing else, each at a moment
     /// that the clock may give; there is a legal history that keeps this past. A fault of one link,
     /// or one session's want of memory, ends only that session. If the links that are to come are
-    /// known, these came, in order, and all of them.
-    pub fn work<R: Wait, K: KeyHash + Drop, L: Link + Drop, Q: Links<L>>(
+    /// known, these came, in order, and all of them. The links that were let go are those of the
+    /// guests that left, after the rounds in which they ended, and those that were refused, and no
+    /// other.
+    pub fn work<R: Wait, K: KeyHash + Drop, L: LeavingLink + Drop, Q: Links<L>>(
         &self,
         rt: &R,
         alloc: Global,
@@ -76,7 +82,9 @@ impl<'a, G: Gate, T: Tally, C: RereadClock> Worker<'a, G, T, C> {
             × ReadsOn K.hash_of (C.may_give self.now.clock.now) (C.may_follow self.now.clock.now)
             works
             × Brings (all_came K.hash_of (C.may_give self.now.clock.now) works) false
-            (seen_by L.shown (Q.coming links.old)) (seen_by L.shown (Q.coming links.new)) }
+            (seen_by L.shown (Q.coming links.old)) (seen_by L.shown (Q.coming links.new))
+            × AreLetGo L.leaves (all_let_go K.hash_of (C.may_give self.now.clock.now) works) 0
+            works.final.books.gone }
     {
         let tending = Tending::new(rt, shared, caller, self.gate);
         let mut counting = Counting::new(tending, self.tally);
@@ -106,7 +114,14 @@ impl<'a, G: Gate, T: Tally, C: RereadClock> Worker<'a, G, T, C> {
 }
 
 /// Serves links as a `Worker` does, without a tally, and tidies the first shelf first.
-pub fn work<R: Wait, K: KeyHash + Drop, L: Link + Drop, Q: Links<L>, G: Gate, C: RereadClock>(
+pub fn work<
+    R: Wait,
+    K: KeyHash + Drop,
+    L: LeavingLink + Drop,
+    Q: Links<L>,
+    G: Gate,
+    C: RereadClock,
+>(
     rt: &R,
     alloc: Global,
     shared: &Shared<K>,
@@ -123,7 +138,9 @@ pub fn work<R: Wait, K: KeyHash + Drop, L: Link + Drop, Q: Links<L>, G: Gate, C:
         shared.now.began caller result)
         × ReadsOn K.hash_of (C.may_give clock.now) (C.may_follow clock.now) works
         × Brings (all_came K.hash_of (C.may_give clock.now) works) false
-        (seen_by L.shown (Q.coming links.old)) (seen_by L.shown (Q.coming links.new)) }
+        (seen_by L.shown (Q.coming links.old)) (seen_by L.shown (Q.coming links.new))
+        × AreLetGo L.leaves (all_let_go K.hash_of (C.may_give clock.now) works) 0
+        works.final.books.gone }
 {
     let worker = Worker {
         gate,
@@ -139,7 +156,7 @@ pub fn work<R: Wait, K: KeyHash + Drop, L: Link + Drop, Q: Links<L>, G: Gate, C:
 /// were made, and the links aren't due.
 ///
 /// A request takes four visits, and the links have nothing to add between them.
-fn make_rounds<R: Wait, K: KeyHash + Drop, L: Link + Drop, Q: Links<L>, G: Gate, T: Tally>(
+fn make_rounds<R: Wait, K: KeyHash + Drop, L: LeavingLink + Drop, Q: Links<L>, G: Gate, T: Tally>(
     alloc: Global,
     guests: &mut Guests<L>,
     counting: &mut Counting<'_, Tending<'_, R, K, G>, T>,
@@ -148,8 +165,9 @@ fn make_rounds<R: Wait, K: KeyHash + Drop, L: Link + Drop, Q: Links<L>, G: Gate,
     now: Moment,
 )
     ensures further { GoesFurther (λ moment. moment ≡ now) counting.old counting.new }
-    ensures rounds { MakesRounds K.hash_of now (counting.old, guests.old, end.old)
-        (counting.new, guests.new, end.new) }
+    ensures rounds { (rounds : MakesRounds K.hash_of now (counting.old, guests.old, end.old)
+        (counting.new, guests.new, end.new))
+        × AreLetGo L.leaves (gone_in_rounds K.hash_of rounds) guests.old.gone guests.new.gone }
 {
     let mut left = VISITS.saturating_sub(guests.awake());
     make_round(alloc, guests, counting, end, now);
@@ -171,10 +189,10 @@ fn look_if_busy<L: Link + Drop, Q: Links<L>>(guests: &Guests<L>, links: &mut Q)
     }
 }
 
-/// Makes a round at a moment: visits all awake guests, drops those that ended, and puts idle ones
-/// to sleep.
+/// Makes a round at a moment: visits all awake guests, drops those that ended, lets their links go,
+/// and puts idle ones to sleep.
 #[inline]
-fn make_round<R: Wait, K: KeyHash + Drop, L: Link + Drop, G: Gate, T: Tally>(
+fn make_round<R: Wait, K: KeyHash + Drop, L: LeavingLink + Drop, G: Gate, T: Tally>(
     alloc: Global,
     guests: &mut Guests<L>,
     counting: &mut Counting<'_, Tending<'_, R, K, G>, T>,
@@ -182,8 +200,9 @@ fn make_round<R: Wait, K: KeyHash + Drop, L: Link + Drop, G: Gate, T: Tally>(
     now: Moment,
 )
     ensures further { GoesFurther (λ moment. moment ≡ now) counting.old counting.new }
-    ensures round { VisitsAndSettles K.hash_of now (counting.old, guests.old, end.old)
-        (counting.new, guests.new, end.new) }
+    ensures round { (round : VisitsAndSettles K.hash_of now (counting.old, guests.old, end.old)
+        (counting.new, guests.new, end.new))
+        × AreLetGo L.leaves (gone_after K.hash_of round) guests.old.gone guests.new.gone }
 {
     guests.visit_all(alloc, counting, now);
     guests.settle(end);
