@@ -9,6 +9,7 @@ mod growth_tests;
 mod join_tests;
 mod law_tests;
 mod lent_tests;
+mod note_tests;
 mod presence_tests;
 mod step_tests;
 mod survey_tests;
