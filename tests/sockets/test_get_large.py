@@ -4,9 +4,10 @@ import threading
 import time
 
 from tests.lib.case import ProgramCase
+from tests.lib.faults import Faults
 from tests.lib.large import Told, Unread, block, setting
 from tests.lib.peer import Peer
-from tests.lib.server import StillServer
+from tests.lib.server import Server, StillServer
 from tests.lib.wait import until
 
 MB = 2**20
@@ -248,6 +249,17 @@ class GetLarge(ProgramCase):
                 for receives in (4096, 2**20):
                     with Unread(server.port, sent, 60, receives) as reader:
                         reader.reads_slowly(wanted, 0)
+
+    def test_an_answer_is_one_call(self):
+        """The line before a block that is lent, the block and the end behind it go to the system by one call."""
+        with Faults() as faults, Server(faults=faults) as server, Peer(server.port) as peer:
+            told = Told(peer, 64, MB)
+            for length in (33_904 - 48 - 4, 40_000, 65_536):
+                with self.subTest(length):
+                    told.asks(setting(b"item", block(1, length)))
+                    before = faults.made("send") + faults.made("sendmsg")
+                    told.asks(b"get item\r\n")
+                    self.assertEqual(faults.made("send") + faults.made("sendmsg") - before, 1)
 
     def test_the_end_behind_large_items(self):
         """Who sends the end behind gets of large items is told all that was asked for, and then the end of the stream."""

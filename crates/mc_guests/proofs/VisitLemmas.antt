@@ -1,5 +1,5 @@
 -- The parts of a visit.
-use Rattle.std.proofs.Common.{◌≡◌, ℕ, ◌<◌, ◌≤◌, List, [], ◌∷◌, ◌++◌, length, take, drop, refl, sym, ap, ◌∙◌}
+use Rattle.std.proofs.Common.{◌≡◌, ℕ, ◌<◌, ◌≤◌, ◌+◌, List, [], ◌∷◌, ◌++◌, length, take, drop, refl, sym, ap, ◌∙◌}
 use Rattle.std.proofs.Common.{subst, arith, inl, inr, Option, Some, None, Bool, true, false, ◌⊎◌, IsTrue, IsFalse}
 use Rattle.mc_protocol.specs.declared.step.Steps.{Ghosts as Relations}
 use Rattle.std.proofs.lemmas.List.{take-append-drop, take-append-le, length-append, length-take-le, append-nil}
@@ -18,10 +18,16 @@ is_offer all (byte ∷ front) is some =
     let long = ap length is.parts ∙ length-append (byte ∷ front) is.rest in
     (omega arith, omega (arith, long))
 
-pub writes_front : (old new : GuestState) (n : ℕ) (front : List ℕ) → IsFront old.session.out front → (old.session.out ≡ [] → ⊥) → 0 < n → n ≤ length front
-    → new.session ≡ sent old.session n → new.link ≡ took (asked false new.link.requested old.link) (take n front)
-    → new.link.requested ≡ length front → WritesFront old new
-writes_front old new n front is has some low s l offered =
+-- the link took a front of the first part of the output and of the one behind it
+pub writes_front : (old new : GuestState) (n : ℕ) (first behind : List ℕ) → IsFront old.session.out first → IsFront old.session.out (first ++ behind)
+    → (old.session.out ≡ [] → ⊥) → 0 < n → n ≤ length (first ++ behind)
+    → new.session ≡ sent old.session n → new.link ≡ took (asked false new.link.requested old.link) (take n (first ++ behind))
+    → length first ≤ new.link.requested → new.link.requested ≤ length first + length behind → n ≤ new.link.requested → WritesFront old new
+writes_front old new n first behind begins is has some low s l least most inside =
+    let front = first ++ behind in
+    let some_first = is_offer old.session.out first begins has in
+    let few = is_offer old.session.out front is has in
+    let sum = length-append first behind in
     let long : length (take n front) ≡ n = length-take-le n front low in
     let same : take n old.session.out ≡ take n front = ap (take n) is.parts ∙ take-append-le n front is.rest low in
     record {
@@ -31,8 +37,8 @@ writes_front old new n front is has some low s l offered =
           (sym (take-append-drop n old.session.out) ∙ ap (λ l. l ++ drop n old.session.out) same);
       session = subst (λ (t : SessionState). t ≡ record old.session { out = t.out }) (sym s) refl;
       link = l;
-      offered = subst (λ k. IsOffer k (length old.session.out)) (sym offered) (is_offer old.session.out front is has);
-      within = omega (arith, long, low, offered);
+      offered = (omega (arith, some_first.0, least), omega (arith, few.1, sum, most));
+      within = omega (arith, long, inside);
     }
 
 -- a guest of these parts

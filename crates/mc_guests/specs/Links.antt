@@ -1,7 +1,7 @@
 -- What a guest reads from a link. The other words of a link are those of `mc_links`.
 use Rattle.std.specs.Prelude.{◌≡◌, ◌<◌, ◌≤◌, ℕ, true, List, [], length}
 use Rattle.mc_session.specs.Exchanges.{longest_piece}
-pub use Rattle.mc_links.specs.Links.{LinkState, asked, grown, gave, took, failed, ended, Gives, IsWrite, OffersFront, Pauses}
+pub use Rattle.mc_links.specs.Links.{LinkState, asked, grown, gave, took, failed, ended, Gives, IsWrite, OffersFront, OffersFirst, TakesWithin, Pauses}
 use Rattle.mc_guests.specs.declared.link_source.SourceAnswer.{SourceAnswer}
 use Rattle.mc_guests.specs.declared.link_source.SourceAnswer.TheVariants.{Bytes as TappedBytes, Later as TappedNone, End as TappedEnd, Broken, NoRoom}
 

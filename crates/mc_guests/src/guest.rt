@@ -332,7 +332,8 @@ impl<L: Link + Drop> Guest<L> {
         ensures last { self.new.last ≡ self.old.last }
         ensures writes { Writes result self.old self.new }
     {
-        match self.link.try_write(self.session.front()) {
+        let (front, behind) = self.session.fronts();
+        match self.link.try_write_all(front, behind, &[]) {
             Ok(Took::Bytes(taken)) => {
                 if taken == 0 {
                     return Visit::Later;

@@ -74,6 +74,14 @@ impl Outgoing for LentOutput {
     }
 
     #[inline]
+    fn fronts(&self) -> (&[u8], &[u8]) {
+        match &self.behind {
+            None => (self.head.as_slice(), &[]),
+            Some(behind) => fronts_of(&self.head, behind),
+        }
+    }
+
+    #[inline]
     fn len(&self) -> usize {
         match &self.behind {
             None => self.head.len(),
@@ -203,6 +211,26 @@ fn front_of<'a>(head: &'a Texts, behind: &'a Behind) -> &'a [u8]
         behind.parts.front()
     } else {
         head.as_slice()
+    }
+}
+
+/// Lends the first bytes of texts and of what comes behind them. With the last part that is lent
+/// goes the text behind it.
+#[inline(never)]
+fn fronts_of<'a>(head: &'a Texts, behind: &'a Behind) -> (&'a [u8], &'a [u8])
+    requires { 0 < length behind.now.parts }
+    ensures front { IsFront (all_bytes head.now.bytes behind.now) result.0.now }
+    ensures both { IsFront (all_bytes head.now.bytes behind.now)
+        (result.0.now ++ result.1.now) }
+{
+    if !head.is_empty() {
+        return (head.as_slice(), &[]);
+    }
+    let front = behind.parts.front();
+    if front.len() == behind.parts.len() {
+        (front, behind.tail.as_slice())
+    } else {
+        (front, &[])
     }
 }
 

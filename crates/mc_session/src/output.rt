@@ -40,6 +40,12 @@ pub trait Outgoing {
     fn front(&self) -> &[u8]
         ensures { IsFront (bytes self.now) result.now };
 
+    /// Lends the first bytes that aren't written, and those right behind them that may go with them.
+    fn fronts(&self) -> (&[u8], &[u8])
+        ensures front { IsFront (bytes self.now) result.0.now }
+        ensures both { IsFront (bytes self.now) (result.0.now ++ result.1.now) }
+        ensures alone { lent self.now ≡ 0 → result.0.now ≡ bytes self.now };
+
     /// Returns the number of bytes that aren't written.
     fn len(&self) -> usize
         ensures { result ≡ length (bytes self.now) };
@@ -159,6 +165,11 @@ impl Outgoing for Output {
     #[inline]
     fn front(&self) -> &[u8] {
         self.texts.as_slice()
+    }
+
+    #[inline]
+    fn fronts(&self) -> (&[u8], &[u8]) {
+        (self.texts.as_slice(), &[])
     }
 
     #[inline]

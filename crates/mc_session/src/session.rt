@@ -80,7 +80,7 @@ impl<O: Outgoing + Drop> Model for SessionOf<O> {
 }
 
 impl<O: Outgoing + Drop> SessionOf<O> {
-    ghost use Rattle.std.specs.Prelude.{◌≡◌, ◌+◌, ◌≤◌, ◌↔◌, ℕ, List, [], length, option_copied, IsTrue, IsFalse, OnOk, OnErr, IfOk, IfErr, Ok, Some, IfSome};
+    ghost use Rattle.std.specs.Prelude.{◌++◌, ◌≡◌, ◌+◌, ◌≤◌, ◌↔◌, ℕ, List, [], length, option_copied, IsTrue, IsFalse, OnOk, OnErr, IfOk, IfErr, Ok, Some, IfSome};
     ghost use Rattle.mc_protocol.specs.Commands.{longest_key};
     ghost use Rattle.mc_bytes.specs.Sources.{Brings};
     ghost use Rattle.mc_parse.specs.Announcing.{Announces};
@@ -326,6 +326,15 @@ impl<O: Outgoing + Drop> SessionOf<O> {
         ensures { IsFront self.now.out result.now }
     {
         self.out.front()
+    }
+
+    /// Lends the first bytes of the output, and those right behind them that may go with them.
+    #[inline]
+    pub fn fronts(&self) -> (&[u8], &[u8])
+        ensures front { IsFront self.now.out result.0.now }
+        ensures both { IsFront self.now.out (result.0.now ++ result.1.now) }
+    {
+        self.out.fronts()
     }
 
     /// Returns the number of bytes of output that isn't written yet.

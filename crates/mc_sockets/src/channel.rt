@@ -14,7 +14,7 @@ use crate::io_stream::IoStream;
 use crate::meter::{Meter, SharedMeter};
 use crate::readiness::{Readiness, ReadinessCell, SharedReadiness};
 use crate::screen::{Peer, Screen};
-use crate::stream::{NoBytes, Received, Sent, Stream, receive_again, send_again};
+use crate::stream::{NoBytes, Received, Sent, Stream, len_of_all, receive_again, send_again};
 use mc_links::{Got, Link, LinkFault, Took};
 use mc_metrics::Counted;
 use mio::net::TcpStream;
@@ -109,23 +109,40 @@ fn receive_by<S: Stream>(stream: &mut S, known: Readiness, piece: &mut [u8]) -> 
     }
 }
 
-/// Writes two texts to a stream whose readiness is this.
-fn send_by<S: Stream>(stream: &mut S, known: Readiness, first: &[u8], second: &[u8]) -> Sent
-    ensures answers { WritesBy S.sends known (first.now ++ second.now) stream.old result
-        stream.new }
-    ensures moves { MovesOut (S.flow stream.old) (first.now ++ second.now) result
+/// Writes three texts to a stream whose readiness is this.
+fn send_by<S: Stream>(
+    stream: &mut S,
+    known: Readiness,
+    first: &[u8],
+    second: &[u8],
+    third: &[u8],
+) -> Sent
+    ensures answers { WritesBy S.sends known (first.now ++ (second.now ++ third.now)) stream.old
+        result stream.new }
+    ensures moves { MovesOut (S.flow stream.old) (first.now ++ (second.now ++ third.now)) result
         (S.flow stream.new) }
 {
     if known.writes {
-        send_again(stream, first, second)
+        send_again(stream, first, second, third)
     } else {
         Sent::Hindered(NoBytes::WouldBlock)
     }
 }
 
+/// Returns the last of three texts that isn't empty.
+fn last_of<'a>(first: &'a [u8], second: &'a [u8], third: &'a [u8]) -> &'a [u8] {
+    if !third.is_empty() {
+        third
+    } else if !second.is_empty() {
+        second
+    } else {
+        first
+    }
+}
+
 impl<S: Stream + Drop, F: ReadinessCell + Drop, M: Meter + Drop> Link for Channel<S, F, M> {
     ghost use Rattle.std.specs.Prelude.{◌<◌, ◌-◌, ◌^◌, [], Ok};
-    ghost use Rattle.mc_links.specs.Links.{Gives, IsWrite, OffersFront};
+    ghost use Rattle.mc_links.specs.Links.{Gives, IsWrite, OffersFirst};
     ghost use Rattle.mc_sockets.specs.Channels.{link_of, at, AnswersRead, AnswersWrite, GivesLeft};
     ghost use Rattle.mc_sockets.specs.Channels.{CountsRead, CountsWrite};
 
@@ -178,32 +195,40 @@ impl<S: Stream + Drop, F: ReadinessCell + Drop, M: Meter + Drop> Link for Channe
             (at self.new.stream (F.known self.new.readiness) self.new.entry.parting) }
         ensures counts { CountsWrite M.counts result self.old.meter self.new.meter }
     {
-        self.try_write_both(bytes, &[])
+        self.try_write_all(bytes, &[], &[])
     }
 
-    fn try_write_both(&mut self, first: &[u8], second: &[u8]) -> Result<Took, LinkFault>
+    fn try_write_all(
+        &mut self,
+        first: &[u8],
+        second: &[u8],
+        third: &[u8],
+    ) -> Result<Took, LinkFault>
         ensures takes { IsWrite (link_of (S.flow self.old.stream) self.old.calls)
-            (first.now ++ second.now) result (link_of (S.flow self.new.stream) self.new.calls) }
-        ensures offered { OffersFront first.now second.now self.new.calls.requested }
+            (first.now ++ (second.now ++ third.now)) result
+            (link_of (S.flow self.new.stream) self.new.calls) }
+        ensures offered { OffersFirst first.now second.now third.now result
+            self.new.calls.requested }
         ensures full { self.old.calls.faults ≡ 2 ^ 64 - 1 → result ≡ Ok Took.Later }
-        ensures empty { second.now ≡ [] → self.new.calls.requested ≡ length first.now }
+        ensures empty { second.now ≡ [] → third.now ≡ [] →
+            self.new.calls.requested ≡ length first.now }
         ensures answers { self.old.calls.faults < 2 ^ 64 - 1 →
-            AnswersWrite S.sends (first.now ++ second.now) self.new.calls.requested result
+            AnswersWrite S.sends (first.now ++ (second.now ++ third.now))
+            self.new.calls.requested result
             (at self.old.stream (F.known self.old.readiness) self.old.entry.parting)
             (at self.new.stream (F.known self.new.readiness) self.new.entry.parting) }
         ensures counts { CountsWrite M.counts result self.old.meter self.new.meter }
     {
         self.calls.was_read = false;
-        self.calls.requested = first.len().saturating_add(second.len());
+        self.calls.requested = len_of_all(first, second, third);
         if self.calls.faults == u64::MAX {
             return Ok(Took::Later);
         }
         let known = self.readiness.look();
         if known.writes {
-            let end = if second.is_empty() { first } else { second };
-            self.entry.note_output(end);
+            self.entry.note_output(last_of(first, second, third));
         }
-        let answer = send_by(&mut self.stream, known, first, second);
+        let answer = send_by(&mut self.stream, known, first, second, third);
         self.readiness
             .note(known.after_write(answer, self.calls.requested));
         match answer {

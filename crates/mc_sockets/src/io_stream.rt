@@ -77,6 +77,23 @@ impl<S: Duplex> IoStream<S> {
         let parts = [IoSlice::new(first), IoSlice::new(second)];
         self.calls.write_parts(&parts)
     }
+
+    /// Writes a front of three texts, one after another, by one call.
+    fn write_all(&mut self, first: &[u8], second: &[u8], third: &[u8]) -> io::Result<usize>
+        ensures bound { WritesAtMost result (first.now ++ (second.now ++ third.now)) }
+        ensures bytes { WriteAppends (S.contents self.old.calls) (S.contents self.new.calls) result
+            (first.now ++ (second.now ++ third.now)) }
+    {
+        if third.is_empty() {
+            return self.write_both(first, second);
+        }
+        let parts = [
+            IoSlice::new(first),
+            IoSlice::new(second),
+            IoSlice::new(third),
+        ];
+        self.calls.write_parts(&parts)
+    }
 }
 
 /// What is left to be read, and what was written, is known where that of the calls is. Its flow,
@@ -97,8 +114,8 @@ impl<S: Duplex> Stream for IoStream<S> {
         received_from(self.calls.read(piece))
     }
 
-    fn send(&mut self, first: &[u8], second: &[u8]) -> Sent {
-        sent_from(self.write_both(first, second))
+    fn send(&mut self, first: &[u8], second: &[u8], third: &[u8]) -> Sent {
+        sent_from(self.write_all(first, second, third))
     }
 }
 

@@ -69,6 +69,15 @@ impl Link for SocketLink {
         self.parts.gathering.try_write(bytes)
     }
 
+    fn try_write_all(
+        &mut self,
+        first: &[u8],
+        second: &[u8],
+        third: &[u8],
+    ) -> Result<Took, LinkFault> {
+        self.parts.gathering.try_write_all(first, second, third)
+    }
+
     /// Sends what is gathered, as far as the system takes it, and pauses its channel.
     fn pause(&mut self) -> Result<(), LinkFault>
         ensures pauses { Pauses (whole self.old.parts.value.gathering) result

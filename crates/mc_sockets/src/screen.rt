@@ -11,6 +11,7 @@
 ghost use Rattle.std.specs.Prelude.{◌≡◌, ◌^◌, ◌-◌, ◌++◌, ◌≤◌, length, Ok, IfSome, Some, []};
 
 use crate::opening::{Opening, Part, PieceOpening, Protocol};
+use crate::stream::len_of_all;
 use mc_links::{Got, Link, LinkFault, Took};
 
 /// A link that can be closed as that of another protocol's peer.
@@ -156,7 +157,7 @@ impl Opening {
 
 impl<L: Peer + Drop> Link for Screen<L> {
     ghost use Rattle.std.specs.Prelude.{true, false, []};
-    ghost use Rattle.mc_links.specs.Links.{Gives, IsWrite, OffersFront};
+    ghost use Rattle.mc_links.specs.Links.{Gives, IsWrite};
     ghost use Rattle.mc_sockets.specs.Screens.{screened, is_other, Stands};
 
     ghost shown = { λ s. screened s.opening s.reads (L.shown s.link) };
@@ -194,10 +195,15 @@ impl<L: Peer + Drop> Link for Screen<L> {
         self.link.try_write(bytes)
     }
 
-    fn try_write_both(&mut self, first: &[u8], second: &[u8]) -> Result<Took, LinkFault> {
+    fn try_write_all(
+        &mut self,
+        first: &[u8],
+        second: &[u8],
+        third: &[u8],
+    ) -> Result<Took, LinkFault> {
         self.reads.was_read = false;
-        self.reads.requested = first.len().saturating_add(second.len());
-        self.link.try_write_both(first, second)
+        self.reads.requested = len_of_all(first, second, third);
+        self.link.try_write_all(first, second, third)
     }
 
     fn pause(&mut self) -> Result<(), LinkFault> {

@@ -3,7 +3,7 @@
 //! A stream reads and writes, or answers that it would block. Contracts see its bytes if they can
 //! be known: those of a socket are unspecified, those of a stream in memory are known. What stands
 //! above is proved for any stream, and `io_stream.rt` has the stream of a socket.
-ghost use Rattle.std.specs.Prelude.{◌≡◌, ◌↔◌, ◌++◌, IsTrue};
+ghost use Rattle.std.specs.Prelude.{◌≡◌, ◌+◌, ◌-◌, ◌^◌, ◌≤◌, ◌↔◌, ◌++◌, min, length, IsTrue};
 ghost use Rattle.mc_sockets.specs.Streams.{MovesIn, MovesOut, IsReadAgain, IsWrittenAgain};
 
 /// How often a call that a signal interrupts is made again at once.
@@ -87,11 +87,26 @@ pub trait Stream {
         ensures ends { result ≡ Received.End →
             IfSome (flow self.old).left (λ left. left ≡ []) };
 
-    /// Writes a front of two texts, one after the other, in one call.
-    fn send(&mut self, first: &[u8], second: &[u8]) -> Sent
-        ensures answers { sends self.old (first.now ++ second.now) result self.new }
-        ensures moves { MovesOut (flow self.old) (first.now ++ second.now) result
+    /// Writes a front of three texts, one after another, in one call.
+    fn send(&mut self, first: &[u8], second: &[u8], third: &[u8]) -> Sent
+        ensures answers { sends self.old (first.now ++ (second.now ++ third.now)) result
+            self.new }
+        ensures moves { MovesOut (flow self.old) (first.now ++ (second.now ++ third.now)) result
             (flow self.new) };
+}
+
+/// Returns the number of bytes of three texts.
+pub(crate) fn len_of_all(first: &[u8], second: &[u8], third: &[u8]) -> usize
+    ensures least { length first.now ≤ result }
+    ensures next { length second.now ≤ result }
+    ensures most { result ≤ length first.now + (length second.now + length third.now) }
+    ensures all { result ≡ min (length first.now + (length second.now + length third.now))
+        (2 ^ 64 - 1) }
+{
+    first
+        .len()
+        .saturating_add(second.len())
+        .saturating_add(third.len())
 }
 
 /// Reads from a stream, and again if a signal interrupts the call.
@@ -108,18 +123,18 @@ pub fn receive_again<S: Stream>(stream: &mut S, piece: &mut [u8]) -> Received
     stream.receive(piece)
 }
 
-/// Writes two texts to a stream, and again if a signal interrupts the call.
-pub fn send_again<S: Stream>(stream: &mut S, first: &[u8], second: &[u8]) -> Sent
-    ensures answers { IsWrittenAgain S.sends (first.now ++ second.now) stream.old result
-        stream.new }
-    ensures moves { MovesOut (S.flow stream.old) (first.now ++ second.now) result
+/// Writes three texts to a stream, and again if a signal interrupts the call.
+pub fn send_again<S: Stream>(stream: &mut S, first: &[u8], second: &[u8], third: &[u8]) -> Sent
+    ensures answers { IsWrittenAgain S.sends (first.now ++ (second.now ++ third.now)) stream.old
+        result stream.new }
+    ensures moves { MovesOut (S.flow stream.old) (first.now ++ (second.now ++ third.now)) result
         (S.flow stream.new) }
 {
     for _interruption in 0..INTERRUPTIONS {
-        let answer = stream.send(first, second);
+        let answer = stream.send(first, second, third);
         if !answer.is_interrupted() {
             return answer;
         }
     }
-    stream.send(first, second)
+    stream.send(first, second, third)
 }

@@ -149,7 +149,7 @@ fn a_header_is_known_with_its_last_byte(rt: HostRuntime) -> Result<(), Fail> {
 fn a_screen_writes_and_pauses_as_its_link_does(rt: HostRuntime) -> Result<(), Fail> {
     let mut screen = Screen::new(Spoken::new(b"", 1));
     assert!(rt; matches!(screen.try_write(b"a"), Ok(Took::Later)));
-    assert!(rt; matches!(screen.try_write_both(b"a", b"b"), Ok(Took::Later)));
+    assert!(rt; matches!(screen.try_write_all(b"a", b"b", b""), Ok(Took::Later)));
     assert!(rt; screen.pause().is_ok());
     screen.send_soon();
     screen.refused();

@@ -6,5 +6,5 @@ use Rattle.mc_sockets.proofs.stream.send_again.Given as goal
 
 abbrev pub invariant-loop-interruption : goal.invariant-loop-interruption
 invariant-loop-interruption g l =
-    AreInterrupted (λ old answer new. g.S.Stream.sends old (l.first ++ l.second) answer new) (Hindered Interrupted) l._interruption l.fn.stream l.stream
+    AreInterrupted (λ old answer new. g.S.Stream.sends old (l.first ++ (l.second ++ l.third)) answer new) (Hindered Interrupted) l._interruption l.fn.stream l.stream
     × (g.S.Stream.flow l.stream ≡ g.S.Stream.flow l.fn.stream)
