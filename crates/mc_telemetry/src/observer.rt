@@ -3,7 +3,7 @@
 //! The sums are of counters of any kind (`values_of`): those that threads share show no number to
 //! contracts.
 
-ghost use Rattle.std.specs.Prelude.{◌≡◌, ◌<◌, ◌*◌, ℕ, IfOk, All, length, slice_index};
+ghost use Rattle.std.specs.Prelude.{◌≡◌, ◌<◌, ◌*◌, ℕ, IfOk, All, slice_index};
 ghost use Rattle.std.specs.Arc.{arc_value};
 ghost use Rattle.mc_metrics.specs.Sums.{IsSum, Counts, Refuses};
 
