@@ -1,5 +1,5 @@
 -- What becomes of one guest when others wake, sleep, go, or are tried again: it stands yet, or it had ended.
-use Rattle.std.specs.Prelude.{slice_get, swap, nat_le, if◌then◌else◌}
+use Rattle.std.specs.Prelude.{slice_get, swap, nat_le, count_by, if◌then◌else◌}
 use Rattle.std.proofs.Common.{◌≡◌, ◌⊎◌, inl, inr, ℕ, zero, suc, ◌+◌, ◌-◌, ◌<◌, ◌≤◌, Bool, true, false, List, [], ◌∷◌, ◌++◌, length, Option, Some, None, refl, sym, ap, ◌∙◌, subst, arith, IsTrue}
 use Rattle.std.proofs.Common.{length-append, append_assoc, append-nil}
 use Rattle.std.proofs.Common.{leb-true}
@@ -10,6 +10,8 @@ use Rattle.mc_time.specs.Chains.{Repeats, none_yet, one_more}
 use Rattle.mc_guests.specs.Budgets.{is_retry_due}
 use Rattle.mc_guests.specs.Guests.{GuestState, RowGuest, newcomer, has_ended, is_to_sleep, is_stray, in_line, reads_left}
 use Rattle.mc_guests.specs.Books.{RowState, BooksState, woken, put_behind, queued_up, LinesUp, let_gone, let_in, with_guest, Wakes, Settles, SettlesBefore, SetsTicks, took_ending, took_judging}
+use Rattle.mc_guests.specs.Leaving.{gone_at, all_gone}
+use Rattle.mc_guests.specs.Links.{LinkState}
 use Rattle.mc_guests.specs.Judging.{judged}
 use Rattle.mc_guests.specs.Retries.{lined, tried_again, promised_to, turn_passed, struck_out, first_dropped, first_behind, room_kept, strays, stray_tried, strays_tried, all_strays_tried, begun_anew}
 use Rattle.mc_guests.specs.Retries.{TakesTurn, goes_on as turn_goes, is_gone as turn_gone, EndsTurns, nobody_waits as turn_none, finds_none as turn_lacks}
@@ -21,7 +23,7 @@ use Rattle.mc_guests.proofs.JudgeLemmas.{length_changed}
 use Rattle.mc_guests.proofs.LeftLemmas.{same_long}
 use Rattle.mc_workers.specs.Room.{EndsOne, JudgesOne, MakesRoom}
 use Rattle.mc_worker_laws.specs.Traces.{AreCounted}
-use Rattle.mc_worker_laws.proofs.CountLemmas.{counts_end, counts_on}
+use Rattle.mc_worker_laws.proofs.CountLemmas.{many_of, with_link, many_more, links_more, counts_end, counts_on}
 use Rattle.mc_worker_laws.proofs.RowLemmas.{Moves, moves_none, moves_then, moves_changed, moves_left, moves_swapped, moves_gone}
 
 either_way : (b : Bool) → (b ≡ true) ⊎ (b ≡ false)
@@ -165,9 +167,9 @@ lets_on_carries old new lets = elim (either_way (is_retry_due old.budget)) [
 
 -- ---- after a round
 
-gone_carries : (at : ℕ) (old : BooksState) (budget : Budget) (it : RowGuest) → slice_get old.row.guests at ≡ Some it → IsTrue (has_ended it.guest.last)
-    → Carries (it.guest ∷ []) old (record (let_gone at old) { budget = budget })
-gone_carries at old budget it here ended =
+gone_carries : (at : ℕ) (old : BooksState) (budget : Budget) (gone : ℕ) (it : RowGuest) → slice_get old.row.guests at ≡ Some it → IsTrue (has_ended it.guest.last)
+    → Carries (it.guest ∷ []) old (record (let_gone at old) { budget = budget; gone = gone })
+gone_carries at old budget gone it here ended =
     let within : at < length old.row.guests = slice_get_within old.row.guests at it here in
     let long = length-swap old.row.guests at (old.awake - 1) in
     let long_too = length-swap (swap old.row.guests at (old.awake - 1)) (old.awake - 1) (length old.row.guests - 1) in record {
@@ -197,18 +199,31 @@ pub counts_none : (before after : WorkEnd) → after ≡ before → CountsGone [
 counts_none before after same gone at_door c =
     subst (λ (l : List GuestState). AreCounted l at_door after) (sym (append-nil gone)) (subst (AreCounted gone at_door) (sym same) c)
 
--- what was settled: who went, and what is counted of them
-abbrev pub Leaves : (old new : BooksState) (before after : WorkEnd) → Type 0
-Leaves old new before after = (went : List GuestState) × Carries went old new × CountsGone went before after
+-- these are the links of those that went
+abbrev pub AreLinksOf : (went : List GuestState) (links : List LinkState) → Type 0
+AreLinksOf went links = (counts : LinkState → Bool) → count_by counts links ≡ many_of (with_link counts) went
 
-settles_leave : (at : ℕ) (old new : BooksState) (before after : WorkEnd) → Settles at old new before after → Leaves old new before after
+-- what was settled: who went, what is counted of them, and which links were let go
+abbrev pub Leaves : (links : List LinkState) (old new : BooksState) (before after : WorkEnd) → Type 0
+Leaves links old new before after = (went : List GuestState) × Carries went old new × CountsGone went before after × AreLinksOf went links
+
+gone_links : (guest : GuestState) (b : Bool) → b ≡ true → AreLinksOf (guest ∷ []) (if b then guest.link ∷ [] else [])
+gone_links guest true is counts = refl
+gone_links guest false is counts = absurd (cc)
+
+no_links : (link : LinkState) (b : Bool) → b ≡ false → AreLinksOf [] (if b then link ∷ [] else [])
+no_links link true is counts = absurd (cc)
+no_links link false is counts = refl
+
+settles_leave : (at : ℕ) (old new : BooksState) (before after : WorkEnd) → (s : Settles at old new before after) → Leaves (gone_at s) old new before after
 settles_leave at old new before after s =
     let within : at < length old.row.guests = slice_get_within old.row.guests at s.guest s.stands in
     elim (either_way (has_ended s.guest.guest.last)) [
       | inl ended ↦ (let goes = s.goes ended in (
         s.guest.guest ∷ [],
-        carries_to (gone_carries at old new.budget s.guest s.stands ended) goes.books,
+        carries_to (gone_carries at old new.budget new.gone s.guest s.stands ended) goes.books,
         λ gone at_door c. subst (AreCounted (gone ++ s.guest.guest ∷ []) at_door) (sym s.counts) (counts_end gone at_door s.guest.guest s.guest.guest.last before ended refl c),
+        gone_links s.guest.guest (has_ended s.guest.guest.last) ended,
       ))
       | inr on ↦ (
         [],
@@ -220,17 +235,25 @@ settles_leave at old new before after s =
           ]
         ],
         counts_none before after (s.counts ∙ counts_on s.guest.guest.last before on),
+        no_links s.guest.guest.link (has_ended s.guest.guest.last) on,
       )
     ]
 
-pub all_leave : (count : ℕ) (old new : ℕ × BooksState × WorkEnd) → Repeats SettlesBefore count old new → Leaves old.1 new.1 old.2 new.2
-all_leave total old new none_yet = ([], carries_none old.1, counts_none old.2 old.2 refl)
+pub all_leave : (count : ℕ) (old new : ℕ × BooksState × WorkEnd) → (settles : Repeats SettlesBefore count old new) → Leaves (all_gone settles) old.1 new.1 old.2 new.2
+all_leave total old new none_yet = ([], carries_none old.1, counts_none old.2 old.2 refl, λ counts. refl)
 all_leave total old new (one_more {count = count} {mid = mid} front last) =
     let f = all_leave count old mid front in
     let l = settles_leave new.0 mid.1 new.1 mid.2 new.2 last.settles in (
       f.0 ++ l.0,
       carries_then old.1 mid.1 new.1 f.1 l.1,
       λ gone at_door c. subst (λ (g : List GuestState). AreCounted g at_door new.2) (append_assoc gone f.0 l.0) (l.2 (gone ++ f.0) at_door (f.2 gone at_door c)),
+      λ counts. (
+          let p = f.3 counts in
+          let q = l.3 counts in
+          let r = many_more (with_link counts) f.0 l.0 in
+          let s = links_more counts (all_gone front) (gone_at last.settles) in
+          omega (arith, p, q, r, s)
+          ),
     )
 
 -- ---- ended for what has left the store, and judged

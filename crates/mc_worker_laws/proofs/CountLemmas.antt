@@ -1,28 +1,34 @@
--- How many guests ended so, and how many links were refused, beside what a worker counts.
-use Rattle.std.specs.Prelude.{slice_get, swap, cond}
+-- How many guests ended so, and how many links were refused and let go, beside what a worker counts.
+use Rattle.std.specs.Prelude.{slice_get, swap, cond, count_by}
 use Rattle.std.specs.List.{sum_by}
 use Rattle.std.proofs.Common.{◌≡◌, ℕ, zero, suc, ◌+◌, ◌<◌, Bool, List, [], ◌∷◌, ◌++◌, length, map, take, Option, Some, None, refl, ap, ◌∙◌, arith, IsTrue, IsFalse}
 use Rattle.std.proofs.lemmas.List.Sums.{sum_by-cons, sum_by-append}
 use Rattle.std.proofs.lemmas.List.Sorted.{sum_by-IsPermutation, IsPermutation-swap}
 use Rattle.std.proofs.lemmas.Option.{none-some, same_Some}
+use Rattle.mc_guests.specs.Links.{LinkState}
 use Rattle.mc_guests.specs.Guests.{GuestState, RowGuest, has_ended}
+use Rattle.mc_guests.specs.Arrivals.{Arrival, turned_away}
 use Rattle.mc_guests.specs.Books.{changed, counted, one_more}
 use Rattle.mc_guests.specs.declared.guest.Visit.{Visit}
 use Rattle.mc_guests.specs.declared.guest.Visit.TheVariants.{Wrote, Turned, Read, Later, Served, Broken, Refused}
 use Rattle.mc_guests.specs.declared.guests.WorkEnd.{WorkEnd}
+use Rattle.mc_guests.proofs.ArrivalLemmas.{away_both}
 use Rattle.mc_worker_laws.specs.Traces.{is_served, is_broken, is_refused, how_many, AreCounted}
 
--- which answers are counted
+-- which guests are counted
 abbrev pub Answers : Type 0
-Answers = Option Visit → Bool
+Answers = GuestState → Bool
 
 abbrev pub one_of : Answers → GuestState → ℕ
-one_of ended guest = cond (ended guest.last) 1 0
+one_of counts guest = cond (counts guest) 1 0
+
+abbrev pub many_of : Answers → List GuestState → ℕ
+many_of counts guests = count_by counts guests
 
 abbrev pub one_in_row : Answers → RowGuest → ℕ
-one_in_row ended guest = one_of ended guest.guest
+one_in_row counts guest = one_of counts guest.guest
 
--- how many guests of a row ended so
+-- how many guests of a row are counted
 abbrev pub how_many_stand : Answers → List RowGuest → ℕ
 how_many_stand ended row = sum_by (one_in_row ended) row
 
@@ -59,14 +65,27 @@ module _ {A : Type 0} (w : A → ℕ) where
       let d = sum_by-cons w x rest in
       omega (arith, a, b, c, d)
 
-pub many_none : (ended : Answers) → how_many ended [] ≡ 0
-many_none ended = refl
+pub many_none : (counts : Answers) → many_of counts [] ≡ 0
+many_none counts = refl
 
-pub many_more : (ended : Answers) (xs ys : List GuestState) → how_many ended (xs ++ ys) ≡ how_many ended xs + how_many ended ys
-many_more ended xs ys = sum_by-append (one_of ended) xs ys
+pub many_more : (counts : Answers) (xs ys : List GuestState) → many_of counts (xs ++ ys) ≡ many_of counts xs + many_of counts ys
+many_more counts xs ys = sum_by-append (one_of counts) xs ys
 
-pub many_one : (ended : Answers) (g : GuestState) → how_many ended (g ∷ []) ≡ one_of ended g
-many_one ended g = let a = sum_by-cons (one_of ended) g [] in omega (arith, a)
+pub many_one : (counts : Answers) (g : GuestState) → many_of counts (g ∷ []) ≡ one_of counts g
+many_one counts g = let a = sum_by-cons (one_of counts) g [] in omega (arith, a)
+
+-- ---- which links were let go
+
+-- the guests whose links are counted
+abbrev pub with_link : (LinkState → Bool) → Answers
+with_link counts guest = counts guest.link
+
+pub links_more : (counts : LinkState → Bool) (xs ys : List LinkState) → count_by counts (xs ++ ys) ≡ count_by counts xs + count_by counts ys
+links_more counts xs ys = sum_by-append (λ (link : LinkState). cond (counts link) 1 0) xs ys
+
+pub away_counts : (counts : LinkState → Bool) (came more : List Arrival)
+    → count_by counts (turned_away (came ++ more)) ≡ count_by counts (turned_away came) + count_by counts (turned_away more)
+away_counts counts came more = ap (count_by counts) (away_both came more) ∙ links_more counts (turned_away came) (turned_away more)
 
 -- ---- what is counted
 
@@ -75,11 +94,11 @@ module _ (gone : List GuestState) (at_door : ℕ) (guest : GuestState) where
   abbrev now_gone : List GuestState
   now_gone = gone ++ guest ∷ []
 
-  grows : (ended : Answers) → how_many ended now_gone ≡ how_many ended gone + one_of ended guest
-  grows ended = let a = many_more ended gone (guest ∷ []) in let b = many_one ended guest in omega (arith, a, b)
+  grows : (counts : Answers) → many_of counts now_gone ≡ many_of counts gone + one_of counts guest
+  grows counts = let a = many_more counts gone (guest ∷ []) in let b = many_one counts guest in omega (arith, a, b)
 
-  same_as : (ended : Answers) (last : Option Visit) → guest.last ≡ last → how_many ended now_gone ≡ how_many ended gone + cond (ended last) 1 0
-  same_as ended last is = grows ended ∙ ap (λ (o : Option Visit). how_many ended gone + cond (ended o) 1 0) is
+  same_as : (ended : Option Visit → Bool) (last : Option Visit) → guest.last ≡ last → how_many ended now_gone ≡ how_many ended gone + cond (ended last) 1 0
+  same_as ended last is = grows (λ (g : GuestState). ended g.last) ∙ ap (λ (o : Option Visit). how_many ended gone + cond (ended o) 1 0) is
 
   pub counts_end : (last : Option Visit) (before : WorkEnd) → IsTrue (has_ended last) → guest.last ≡ last → AreCounted gone at_door before → AreCounted now_gone at_door (counted last before)
   counts_end None before ended is c = absurd (cc)

@@ -13,8 +13,7 @@ use Rattle.mc_guests.specs.Books.{RowState, SameButLeft, changed}
 use Rattle.mc_guests.proofs.JudgeLemmas.{length_changed}
 use Rattle.mc_guests.proofs.LeftLemmas.{same_long}
 use Rattle.mc_guests.proofs.SwapLemmas.{place, place_back, place_one, swap_reads, changed_here, changed_other}
-use Rattle.mc_worker_laws.specs.Traces.{how_many}
-use Rattle.mc_worker_laws.proofs.CountLemmas.{Answers, one_of, one_in_row, how_many_stand, sum_kept, sum_mapped, sum_swapped, sum_cut, many_none, many_more, many_one}
+use Rattle.mc_worker_laws.proofs.CountLemmas.{Answers, many_of, one_of, one_in_row, how_many_stand, sum_kept, sum_mapped, sum_swapped, sum_cut, many_none, many_more, many_one}
 
 module _ {A : Type 0} where
   pub get_left : (xs ys : List A) (i : ℕ) (x : A) → slice_get xs i ≡ Some x → slice_get (xs ++ ys) i ≡ Some x
@@ -60,13 +59,13 @@ module _ {A : Type 0} where
   get_swapped xs one other k x first second is = swap_reads xs one other (place one other k) first second ∙ ap (slice_get xs) (place_back one other k) ∙ is
 
 -- One row of guests became another, and these went: whose place in the one each place of the other has, and that each is there or had ended.
--- Of those that ended so, as many as before stand or went.
+-- Of those that are counted, as many as before stand or went.
 pub record Moves (went : List GuestState) (old new : List RowGuest) : Type 0 where
   pub from : ℕ → ℕ
   pub came : (k : ℕ) (x : RowGuest) → slice_get new k ≡ Some x → (y : RowGuest) × (slice_get old (from k) ≡ Some y) × (y.guest ≡ x.guest)
   pub one : (j k : ℕ) → j < length new → k < length new → from j ≡ from k → j ≡ k
   pub all : (k : ℕ) (y : RowGuest) → slice_get old k ≡ Some y → ((j : ℕ) × (j < length new) × (from j ≡ k)) ⊎ IsTrue (has_ended y.guest.last)
-  pub many : (ended : Answers) → how_many_stand ended old ≡ how_many_stand ended new + how_many ended went
+  pub many : (ended : Answers) → how_many_stand ended old ≡ how_many_stand ended new + many_of ended went
 
 pub moves_none : (xs : List RowGuest) → Moves [] xs xs
 moves_none xs = record {

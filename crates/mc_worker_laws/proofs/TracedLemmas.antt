@@ -14,8 +14,8 @@ use Rattle.mc_guests.specs.Visits.{OneByOne}
 use Rattle.mc_guests.specs.declared.budget.Budget.{Budget}
 use Rattle.mc_guests.proofs.SwapLemmas.{changed_here, changed_other, changed_sum}
 use Rattle.mc_workers.specs.Rounds.{as_caller}
-use Rattle.mc_worker_laws.specs.Traces.{how_many, Trace, comes, visits, waits}
-use Rattle.mc_worker_laws.proofs.CountLemmas.{Answers, one_of, one_in_row, how_many_stand, sum_mid, many_more}
+use Rattle.mc_worker_laws.specs.Traces.{Trace, comes, visits, waits}
+use Rattle.mc_worker_laws.proofs.CountLemmas.{Answers, many_of, one_of, one_in_row, how_many_stand, sum_mid, many_more}
 use Rattle.mc_worker_laws.proofs.RowLemmas.{get_left, get_some, get_end, get_last, Moves}
 
 -- a row in whose middle one stands
@@ -35,8 +35,8 @@ module _ {A : Type 0} where
   long_mid (z ∷ front) rest x y = ap (λ (n : ℕ). suc n) (long_mid front rest x y)
 
 module _ {K : Type 0} (hash_of : K → List ℕ → ℕ) (may_give : ℕ → Type 0) (begin : AskingState K) where
-  -- There is a trace, and each guest of the row is one of its guests, each another. Those that aren't in the row have ended. Of those that ended so,
-  -- as many stand in the row or are gone.
+  -- There is a trace, and each guest of the row is one of its guests, each another. Those that aren't in the row have ended. Of those that are
+  -- counted, as many stand in the row or are gone.
   pub record Traced (links : List (ℕ × LinkState)) (gone : List GuestState) (row : List RowGuest) (a : AskingState K) : Type 0 where
     pub guests : List GuestState
     pub trace : Trace hash_of may_give begin links guests a
@@ -44,7 +44,7 @@ module _ {K : Type 0} (hash_of : K → List ℕ → ℕ) (may_give : ℕ → Typ
     pub here : (k : ℕ) (x : RowGuest) → slice_get row k ≡ Some x → slice_get guests (id k) ≡ Some x.guest
     pub one : (j k : ℕ) → j < length row → k < length row → id j ≡ id k → j ≡ k
     pub all : (i : ℕ) (g : GuestState) → slice_get guests i ≡ Some g → ((k : ℕ) × (k < length row) × (id k ≡ i)) ⊎ IsTrue (has_ended g.last)
-    pub many : (ended : Answers) → how_many ended guests ≡ how_many_stand ended row + how_many ended gone
+    pub many : (ended : Answers) → many_of ended guests ≡ how_many_stand ended row + many_of ended gone
 
   pub traced_moved : (links : List (ℕ × LinkState)) (gone went : List GuestState) (old new : List RowGuest) (a : AskingState K) → Moves went old new → Traced links gone old a
       → Traced links (gone ++ went) new a
@@ -76,7 +76,7 @@ module _ {K : Type 0} (hash_of : K → List ℕ → ℕ) (may_give : ℕ → Typ
   module _ (links : List (ℕ × LinkState)) (gone : List GuestState) (front rest : List RowGuest) (o n : RowGuest) (a b : AskingState K) (t : Traced links gone (front ++ o ∷ rest) a)
       (later : List GuestState) (trace : Trace hash_of may_give begin links later b) (it : slice_get later (t.id (length front)) ≡ Some n.guest)
       (off : (j : ℕ) → j ≢ t.id (length front) → slice_get later j ≡ slice_get t.guests j)
-      (one_changed : (ended : Answers) → how_many ended later + one_of ended o.guest ≡ how_many ended t.guests + one_of ended n.guest) where
+      (one_changed : (ended : Answers) → many_of ended later + one_of ended o.guest ≡ many_of ended t.guests + one_of ended n.guest) where
     place_within : length front < length (front ++ o ∷ rest)
     place_within = slice_get_within (front ++ o ∷ rest) (length front) o (get_mid front rest o)
 

@@ -1,6 +1,6 @@
 -- What becomes of one guest of a worker, from its welcome to its end.
 use Rattle.std.specs.Prelude.{slice_get}
-use Rattle.std.proofs.Common.{◌≡◌, inl, inr, ℕ, zero, suc, ◌+◌, ◌-◌, ◌≤◌, ◌%◌, Bool, true, false, List, [], ◌∷◌, ◌++◌, length, take, drop, Some, refl, sym, ap, ◌∙◌, subst, arith, IsTrue, take-append-drop}
+use Rattle.std.proofs.Common.{◌≡◌, inl, inr, ℕ, zero, suc, ◌+◌, ◌-◌, ◌≤◌, ◌%◌, Bool, true, false, List, [], ◌∷◌, ◌++◌, length, take, drop, Some, append_assoc, append-nil, refl, sym, ap, ◌∙◌, subst, arith, IsTrue, take-append-drop}
 use Rattle.std.specs.Prelude.{nat_lt}
 use Rattle.std.proofs.lemmas.List.{length-take-le}
 use Rattle.std.proofs.lemmas.Option.{none-some}
@@ -15,10 +15,12 @@ use Rattle.mc_guests.specs.Turns.{VisitsAwake}
 use Rattle.mc_guests.specs.declared.guests.WorkEnd.{WorkEnd}
 use Rattle.mc_workers.specs.Tending.{TidiesNext, TidiesInTurn, asked_by, tidied_by}
 use Rattle.mc_workers.specs.Rounds.{as_caller, WorkState, RoundState, begins, VisitsAndSettles, MakesFurtherRound, MakesRounds, WorksOnce, WorksOn, WorksToEnd}
-use Rattle.mc_worker_laws.specs.Traces.{begun, purged, AreAnswered, all_links, counter, is_served, is_broken, is_refused, how_many, AreCounted}
+use Rattle.mc_worker_laws.specs.Traces.{begun, purged, AreAnswered, all_links, counter, is_served, is_broken, is_refused, AreCounted, AreAllOf}
 use Rattle.mc_guests.specs.Arrivals.{Arrival, admitted, turned_away, came_between}
+use Rattle.mc_guests.specs.Links.{LinkState}
 use Rattle.mc_workers.specs.Came.{came_since, all_came}
-use Rattle.mc_worker_laws.proofs.CountLemmas.{Answers, how_many_stand}
+use Rattle.mc_workers.specs.Gone.{gone_after, gone_further, gone_in_rounds, gone_once, gone_since, all_let_go}
+use Rattle.mc_worker_laws.proofs.CountLemmas.{Answers, many_of, with_link, how_many_stand}
 use Rattle.mc_worker_laws.proofs.LifeLemmas.{is_answered}
 use Rattle.mc_worker_laws.proofs.TraceLemmas.{trace_lives, trace_long}
 use Rattle.mc_worker_laws.proofs.TracedLemmas.{Traced, turns_traced}
@@ -33,9 +35,14 @@ take_short (suc n) (x ∷ xs) = let e = take_short n xs in omega (arith, e)
 
 module _ {K : Type 0} (hash_of : K → List ℕ → ℕ) (may_give : ℕ → Type 0) (begin : AskingState K) where
   module _ (now : ℕ) (gives : may_give now) (came : List Arrival) where
-    awake_traced : (old new : BooksState) (before after : AskingState K) (end : WorkEnd) → VisitsAwake (as_caller hash_of) now old new before after
-        → BooksTraced hash_of may_give begin came old before end → BooksTraced hash_of may_give begin came new after end
-    awake_traced old new before after end v t = record {
+    -- the links that were let go before, and then
+    both_gone : (links first more : List LinkState) (books : BooksState) (a : AskingState K) (end : WorkEnd) → BooksTraced hash_of may_give begin came ((links ++ first) ++ more) books a end
+        → BooksTraced hash_of may_give begin came (links ++ (first ++ more)) books a end
+    both_gone links first more books a end t = subst (λ (l : List LinkState). BooksTraced hash_of may_give begin came l books a end) (append_assoc links first more) t
+
+    awake_traced : (links : List LinkState) (old new : BooksState) (before after : AskingState K) (end : WorkEnd) → VisitsAwake (as_caller hash_of) now old new before after
+        → BooksTraced hash_of may_give begin came links old before end → BooksTraced hash_of may_give begin came links new after end
+    awake_traced links old new before after end v t = record {
       sound =
           let long : length (take old.awake new.row.guests) ≡ length (take old.awake old.row.guests) = v.turns.0 in
           let front = length-take-le old.awake old.row.guests t.sound in
@@ -50,29 +57,36 @@ module _ {K : Type 0} (hash_of : K → List ℕ → ℕ) (may_give : ℕ → Typ
           subst (λ (l : List RowGuest). Traced hash_of may_give begin (admitted came) t.gone l after)
           (ap (λ (l : List RowGuest). take old.awake new.row.guests ++ l) (sym v.keeps.asleep) ∙ take-append-drop old.awake new.row.guests) turned;
       counted = t.counted;
+      let_go = t.let_go;
     }
 
-    round_traced : (old new : RoundState K) → VisitsAndSettles hash_of now old new → BooksTraced hash_of may_give begin came old.1 old.0 old.2
-        → BooksTraced hash_of may_give begin came new.1 new.0 new.2
-    round_traced old new r t =
-        traced_left hash_of may_give begin came r.visited new.1 new.0 old.2 new.2 (all_leave r.settles.0 (r.visited.awake, r.visited, old.2) (0, new.1, new.2) r.settles.1)
-        (awake_traced r.visits.between r.visited old.0 new.0 old.2 r.visits.visits
-        (traced_carried hash_of may_give begin came old.1 r.visits.between old.0 old.2 (lets_on_carries old.1 r.visits.between r.visits.wakes) t))
+    round_traced : (links : List LinkState) (old new : RoundState K) → (round : VisitsAndSettles hash_of now old new) → BooksTraced hash_of may_give begin came links old.1 old.0 old.2
+        → BooksTraced hash_of may_give begin came (links ++ gone_after hash_of round) new.1 new.0 new.2
+    round_traced links old new r t =
+        traced_left hash_of may_give begin came links (gone_after hash_of r) r.visited new.1 new.0 old.2 new.2 (all_leave r.settles.0 (r.visited.awake, r.visited, old.2) (0, new.1, new.2) r.settles.1)
+        (awake_traced links r.visits.between r.visited old.0 new.0 old.2 r.visits.visits
+        (traced_carried hash_of may_give begin came links old.1 r.visits.between old.0 old.2 (lets_on_carries old.1 r.visits.between r.visits.wakes) t))
 
-    further_traced : (count : ℕ) (old new : ℕ × RoundState K) → Repeats (MakesFurtherRound hash_of now) count old new
-        → BooksTraced hash_of may_give begin came old.1.1 old.1.0 old.1.2 → BooksTraced hash_of may_give begin came new.1.1 new.1.0 new.1.2
-    further_traced total old new none_yet t = t
-    further_traced total old new (one_more {count = count} {mid = mid} front last) t = round_traced mid.1 new.1 last.round (further_traced count old mid front t)
+    further_traced : (links : List LinkState) (count : ℕ) (old new : ℕ × RoundState K) → (further : Repeats (MakesFurtherRound hash_of now) count old new)
+        → BooksTraced hash_of may_give begin came links old.1.1 old.1.0 old.1.2
+        → BooksTraced hash_of may_give begin came (links ++ gone_further hash_of further) new.1.1 new.1.0 new.1.2
+    further_traced links total old new none_yet t =
+        subst (λ (l : List LinkState). BooksTraced hash_of may_give begin came l old.1.1 old.1.0 old.1.2) (sym (append-nil links)) t
+    further_traced links total old new (one_more {count = count} {mid = mid} front last) t =
+        both_gone links (gone_further hash_of front) (gone_after hash_of last.round) new.1.1 new.1.0 new.1.2
+        (round_traced (links ++ gone_further hash_of front) mid.1 new.1 last.round (further_traced links count old mid front t))
 
-    rounds_traced : (old new : RoundState K) → MakesRounds hash_of now old new → BooksTraced hash_of may_give begin came old.1 old.0 old.2
-        → BooksTraced hash_of may_give begin came new.1 new.0 new.2
-    rounds_traced old new r t = further_traced r.count (64 - old.1.awake, r.first) (r.left, new) r.further (round_traced old r.first r.round t)
+    rounds_traced : (links : List LinkState) (old new : RoundState K) → (rounds : MakesRounds hash_of now old new) → BooksTraced hash_of may_give begin came links old.1 old.0 old.2
+        → BooksTraced hash_of may_give begin came (links ++ gone_in_rounds hash_of rounds) new.1 new.0 new.2
+    rounds_traced links old new r t =
+        both_gone links (gone_after hash_of r.round) (gone_further hash_of r.further) new.1 new.0 new.2
+        (further_traced (links ++ gone_after hash_of r.round) r.count (64 - old.1.awake, r.first) (r.left, new) r.further (round_traced links old r.first r.round t))
 
-    purges_traced : (books : BooksState) (end : WorkEnd) (count : ℕ) (old new : ℕ × AskingState K) → Repeats (TidiesNext hash_of now) count old new
-        → BooksTraced hash_of may_give begin came books old.1 end → BooksTraced hash_of may_give begin came books new.1 end
-    purges_traced books end total old new none_yet t = t
-    purges_traced books end total old new (one_more {count = count} {mid = mid} front last) t =
-        let u = purges_traced books end count old mid front t in record {
+    purges_traced : (links : List LinkState) (books : BooksState) (end : WorkEnd) (count : ℕ) (old new : ℕ × AskingState K) → Repeats (TidiesNext hash_of now) count old new
+        → BooksTraced hash_of may_give begin came links books old.1 end → BooksTraced hash_of may_give begin came links books new.1 end
+    purges_traced links books end total old new none_yet t = t
+    purges_traced links books end total old new (one_more {count = count} {mid = mid} front last) t =
+        let u = purges_traced links books end count old mid front t in record {
           sound = u.sound;
           gone = u.gone;
           traced = record {
@@ -85,26 +99,32 @@ module _ {K : Type 0} (hash_of : K → List ℕ → ℕ) (may_give : ℕ → Typ
             many = u.traced.many;
           };
           counted = u.counted;
+          let_go = u.let_go;
         }
 
-    tidies_traced : (books : BooksState) (end : WorkEnd) (risen : Bool) (turn next : ℕ) (old new : AskingState K) → TidiesInTurn hash_of risen now turn next old new
-        → BooksTraced hash_of may_give begin came books old end → BooksTraced hash_of may_give begin came books new end
-    tidies_traced books end risen turn next old new tidies t =
-        purges_traced books end (tidied_by risen tidies.lacks old.began.settings.shelves) (turn % old.began.settings.shelves, old) (next, new) tidies.tidied t
+    tidies_traced : (links : List LinkState) (books : BooksState) (end : WorkEnd) (risen : Bool) (turn next : ℕ) (old new : AskingState K) → TidiesInTurn hash_of risen now turn next old new
+        → BooksTraced hash_of may_give begin came links books old end → BooksTraced hash_of may_give begin came links books new end
+    tidies_traced links books end risen turn next old new tidies t =
+        purges_traced links books end (tidied_by risen tidies.lacks old.began.settings.shelves) (turn % old.began.settings.shelves, old) (next, new) tidies.tidied t
 
   -- from one opening of the door to the next
-  once_traced : (came : List Arrival) (old new : WorkState K) (goes_on : Bool) (w : WorksOnce hash_of may_give old new goes_on)
-      → BooksTraced hash_of may_give begin came old.books old.asking old.end → BooksTraced hash_of may_give begin (came ++ came_between w.opens) new.books new.asking new.end
-  once_traced came old new goes_on w t =
-      all_traced hash_of may_give begin new.asking came w.opens
-      (traced_carried hash_of may_give begin came w.settled w.roomy new.asking w.counted (room_carries w.settled w.roomy w.judges)
-      (rounds_traced new.moment w.given came (w.tidied, old.books, old.end) (new.asking, w.settled, w.counted) w.rounds
-      (tidies_traced new.moment w.given came old.books old.end (nat_lt old.moment new.moment) old.turn new.turn old.asking w.tidied w.tidies t)))
+  once_traced : (came : List Arrival) (links : List LinkState) (old new : WorkState K) (goes_on : Bool) (w : WorksOnce hash_of may_give old new goes_on)
+      → BooksTraced hash_of may_give begin came links old.books old.asking old.end
+      → BooksTraced hash_of may_give begin (came ++ came_between w.opens) (links ++ gone_once hash_of may_give w) new.books new.asking new.end
+  once_traced came links old new goes_on w t =
+      subst (λ (l : List LinkState). BooksTraced hash_of may_give begin (came ++ came_between w.opens) l new.books new.asking new.end)
+      (append_assoc links (gone_in_rounds hash_of w.rounds) (turned_away (came_between w.opens)))
+      (all_traced hash_of may_give begin new.asking came (links ++ gone_in_rounds hash_of w.rounds) w.opens
+      (traced_carried hash_of may_give begin came (links ++ gone_in_rounds hash_of w.rounds) w.settled w.roomy new.asking w.counted (room_carries w.settled w.roomy w.judges)
+      (rounds_traced new.moment w.given came links (w.tidied, old.books, old.end) (new.asking, w.settled, w.counted) w.rounds
+      (tidies_traced new.moment w.given came links old.books old.end (nat_lt old.moment new.moment) old.turn new.turn old.asking w.tidied w.tidies t))))
 
   since_traced : (count : ℕ) (old new : WorkState K) → (works : Repeats (WorksOn hash_of may_give) count old new)
-      → BooksTraced hash_of may_give begin [] old.books old.asking old.end → BooksTraced hash_of may_give begin (came_since hash_of may_give works) new.books new.asking new.end
+      → BooksTraced hash_of may_give begin [] [] old.books old.asking old.end
+      → BooksTraced hash_of may_give begin (came_since hash_of may_give works) (gone_since hash_of may_give works) new.books new.asking new.end
   since_traced total old new none_yet t = t
-  since_traced total old new (one_more {count = count} {mid = mid} front last) t = once_traced (came_since hash_of may_give front) mid new true last (since_traced count old mid front t)
+  since_traced total old new (one_more {count = count} {mid = mid} front last) t =
+      once_traced (came_since hash_of may_give front) (gone_since hash_of may_give front) mid new true last (since_traced count old mid front t)
 
 -- the only row without a guest
 none_stands : (row : List RowGuest) → length row ≡ 0 → row ≡ []
@@ -117,7 +137,7 @@ module _ {K : Type 0} (law : OneSpelling) (hash_of : K → List ℕ → ℕ) (ma
   abbrev pub came : List Arrival
   came = all_came hash_of may_give works
 
-  nobody : BooksTraced hash_of may_give (asked_by began caller) [] (begins first share began caller works.since.moment).books (asked_by began caller)
+  nobody : BooksTraced hash_of may_give (asked_by began caller) [] [] (begins first share began caller works.since.moment).books (asked_by began caller)
       (begins first share began caller works.since.moment).end
   nobody = record {
     sound = omega arith;
@@ -132,10 +152,11 @@ module _ {K : Type 0} (law : OneSpelling) (hash_of : K → List ℕ → ℕ) (ma
       many = λ ended. refl;
     };
     counted = record { served = refl; broken = refl; refused = refl };
+    let_go = λ counts. refl;
   }
 
-  all : BooksTraced hash_of may_give (asked_by began caller) came works.final.books works.final.asking works.final.end
-  all = once_traced hash_of may_give (asked_by began caller) (came_since hash_of may_give works.since.works) works.last works.final false works.ends
+  all : BooksTraced hash_of may_give (asked_by began caller) came (all_let_go hash_of may_give works) works.final.books works.final.asking works.final.end
+  all = once_traced hash_of may_give (asked_by began caller) (came_since hash_of may_give works.since.works) (gone_since hash_of may_give works.since.works) works.last works.final false works.ends
       (since_traced hash_of may_give (asked_by began caller) works.since.count (begins first share began caller works.since.moment) works.last works.since.works nobody)
 
   gone : (at : ℕ) (guest : GuestState) → slice_get all.traced.guests at ≡ Some guest → IsTrue (has_ended guest.last)
@@ -145,14 +166,14 @@ module _ {K : Type 0} (law : OneSpelling) (hash_of : K → List ℕ → ℕ) (ma
   ]
 
   -- all that ever were are gone
-  all_gone : (ended : Answers) → how_many ended all.traced.guests ≡ how_many ended all.gone
+  all_gone : (ended : Answers) → many_of ended all.traced.guests ≡ many_of ended all.gone
   all_gone ended =
       let many = all.traced.many ended in
       let none : how_many_stand ended works.final.books.row.guests ≡ 0 = ap (how_many_stand ended) (none_stands works.final.books.row.guests (all_over works.ends.opens refl)) in
       omega (arith, many, none)
 
   pub links_answered : (answered : AreAnswered hash_of may_give (all_links hash_of may_give works) (asked_by began caller) works.final.asking)
-      × AreCounted answered.guests (length (turned_away came)) back.1
+      × AreCounted answered.guests (length (turned_away came)) back.1 × AreAllOf answered.guests (turned_away came) (all_let_go hash_of may_give works)
   links_answered = (
     record {
       greatest_is = λ at greatest link is.
@@ -170,8 +191,9 @@ module _ {K : Type 0} (law : OneSpelling) (hash_of : K → List ℕ → ℕ) (ma
           (life.0, life.1, is_answered hash_of may_give law greatest link (asked_by began caller) works.final.asking _ life.0 life.2 (gone at life.0 life.1));
     },
     record {
-      served = ap (λ (e : WorkEnd). e.served) works.end ∙ all.counted.served ∙ ap counter (sym (all_gone is_served));
-      broken = ap (λ (e : WorkEnd). e.broken) works.end ∙ all.counted.broken ∙ ap counter (sym (all_gone is_broken));
-      refused = ap (λ (e : WorkEnd). e.refused) works.end ∙ all.counted.refused ∙ ap (λ (n : ℕ). counter (n + length (turned_away came))) (sym (all_gone is_refused));
+      served = ap (λ (e : WorkEnd). e.served) works.end ∙ all.counted.served ∙ ap counter (sym (all_gone (λ (g : GuestState). is_served g.last)));
+      broken = ap (λ (e : WorkEnd). e.broken) works.end ∙ all.counted.broken ∙ ap counter (sym (all_gone (λ (g : GuestState). is_broken g.last)));
+      refused = ap (λ (e : WorkEnd). e.refused) works.end ∙ all.counted.refused ∙ ap (λ (n : ℕ). counter (n + length (turned_away came))) (sym (all_gone (λ (g : GuestState). is_refused g.last)));
     },
+    λ counts. (let p = all.let_go counts in let q = all_gone (with_link counts) in omega (arith, p, q)),
   )

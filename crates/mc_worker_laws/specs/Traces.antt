@@ -49,6 +49,12 @@ pub record AreCounted (guests : List GuestState) (at_door : ℕ) (end : WorkEnd)
   pub broken : end.broken ≡ counter (how_many is_broken guests)
   pub refused : end.refused ≡ counter (how_many is_refused guests + at_door)
 
+-- Links were let go: those of these guests, as they are, and those that were refused at the door,
+-- each once, and no other. Whatever is counted of links, as many were let go as there are.
+abbrev pub AreAllOf : (guests : List GuestState) (refused links : List LinkState) → Type 0
+AreAllOf guests refused links = (counts : LinkState → Bool) → count_by counts links
+    ≡ count_by (λ guest. counts guest.link) guests + count_by counts refused
+
 -- The hash of keys, and the moments of the clock.
 module _ {K : Type 0} (hash_of : K → List ℕ → ℕ) (may_give : ℕ → Type 0) where
   -- all links that a worker admitted, in order, each with the greatest charge of an item

@@ -13,7 +13,8 @@ ghost use Rattle.mc_workers.specs.Rounds.{WorksToEnd};
 ghost use Rattle.mc_workers.specs.Tending.{asked_by};
 ghost use Rattle.mc_guests.specs.Arrivals.{turned_away};
 ghost use Rattle.mc_workers.specs.Came.{all_came};
-ghost use Rattle.mc_worker_laws.specs.Traces.{AreAnswered, AreCounted, all_links};
+ghost use Rattle.mc_workers.specs.Gone.{all_let_go};
+ghost use Rattle.mc_worker_laws.specs.Traces.{AreAnswered, AreCounted, AreAllOf, all_links};
 ghost use Rattle.mc_worker_laws.specs.Calls.{AreAnsweredAmong};
 
 use mc_guests::WorkEnd;
@@ -32,8 +33,10 @@ use mc_time::Clock;
 ///
 /// Each link that came was admitted, and has a guest, or was refused at the door. The worker
 /// returns how many guests were served, how many lost their links, and how many were refused memory
-/// or at the door; a counter stops at its greatest number. Which links come is a clause of `work`.
-/// The law doesn't state that a link that is closed to make room fails.
+/// or at the door; a counter stops at its greatest number. The links that were let go are those of
+/// the guests, as each was when its guest left, and those that were refused, each once. Which links
+/// come, and that these went to `let_go` in this order, are clauses of `work`. The law doesn't
+/// state that a link that is closed to make room fails.
 pub fn a_worker_answers_its_links<K: KeyHash, C: Clock>()
     ensures { (hash_of : K → List ℕ → ℕ) (clock : C) (first share : ℕ) (began : StoreState K)
         (caller : CallerState) (back : CallerState × WorkEnd)
@@ -41,7 +44,9 @@ pub fn a_worker_answers_its_links<K: KeyHash, C: Clock>()
         (answered : AreAnswered hash_of (C.may_give clock) (all_links hash_of (C.may_give clock)
         works) (asked_by began caller) works.final.asking)
         × AreCounted answered.guests
-        (length (turned_away (all_came hash_of (C.may_give clock) works))) back.1 }
+        (length (turned_away (all_came hash_of (C.may_give clock) works))) back.1
+        × AreAllOf answered.guests (turned_away (all_came hash_of (C.may_give clock) works))
+        (all_let_go hash_of (C.may_give clock) works) }
 {
     no_spelling_begins_another();
 }

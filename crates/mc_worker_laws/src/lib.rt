@@ -3,8 +3,8 @@
 //! `Worker::work` promises what a worker does in its rounds, and a law of `mc_guests` states how
 //! one guest's link is answered. The first law joins the two: all that a worker does is one trace,
 //! in which each call of its caller is a purge or belongs to one link, and each link is answered by
-//! its own turns. The counts that the worker returns are those of its links. The law speaks of no
-//! rows, places or numbers of guests. The second law puts the calls
+//! its own turns. The counts that the worker returns are those of its links, each of which was let
+//! go. The law speaks of no rows, places or numbers of guests. The second law puts the calls
 //! of all workers into one list, which the plain machine answers as their callers were answered.
 //! Each law is the contract of a function that does nothing. No code of another crate uses them.
 //!
