@@ -1,13 +1,12 @@
 -- What becomes of the books when one guest wakes, sleeps or goes.
-use Rattle.std.proofs.Common.{◌≡◌, inl, inr, ℕ, ◌<◌, ◌≤◌, ◌+◌, ◌-◌, Bool, true, false, length, Option, Some, None, refl, sym, ap, ◌∙◌, subst, arith, IsTrue, IsFalse}
+use Rattle.std.proofs.Common.{◌≡◌, inl, inr, ℕ, ◌<◌, ◌≤◌, ◌-◌, Bool, true, false, length, Option, Some, None, refl, sym, ap, ◌∙◌, subst, arith, IsTrue, IsFalse}
 use Rattle.std.proofs.lemmas.Bool.{cases_lt}
 use Rattle.std.proofs.lemmas.List.{length-take-le}
 use Rattle.std.proofs.lemmas.List.Edits.{length-swap}
 use Rattle.mc_guests.specs.Budgets.{AreSums}
 use Rattle.mc_guests.specs.Guests.{has_ended, is_to_sleep, is_stray}
 use Rattle.mc_guests.specs.Books.{RowState, BooksState, HasNumber, SleepsAt, Wakes, woken, put_behind, LetsGo}
-use Rattle.mc_guests.specs.Books.{is_over, is_asleep, is_to_queue, LinesUp, IsFateOf, Settles, SettlesFrom, swapped, cut}
-use Rattle.mc_time.specs.Chains.{none_yet, one_more}
+use Rattle.mc_guests.specs.Books.{is_over, is_asleep, is_to_queue, LinesUp, IsFateOf, Settles, swapped, cut}
 use Rattle.mc_guests.proofs.BudgetLemmas.{counts_swapped}
 use Rattle.mc_guests.specs.declared.guests.NextState.{NextState}
 use Rattle.mc_guests.specs.declared.guests.WorkEnd.{WorkEnd}
@@ -160,14 +159,3 @@ module _ (at awake end count : ℕ) (row second third fourth : RowState) (within
         let a : swapped (awake - 1) (length row.guests - 1) (swapped at (awake - 1) row) ≡ third =
         ap (λ (n : ℕ). swapped (awake - 1) n (swapped at (awake - 1) row)) last ∙ ap (swapped (awake - 1) count) (sym swaps) ∙ sym swaps_end in
         ap (λ (n : ℕ). cut n (swapped (awake - 1) (length row.guests - 1) (swapped at (awake - 1) row))) gone ∙ ap (cut (length third.guests - 1)) a ∙ sym cuts
-
--- nobody was settled yet
-pub settles_nobody : (awake : ℕ) (books : BooksState) (count : WorkEnd) → books.awake ≡ awake → SettlesFrom awake books books count count × (awake ≤ books.awake)
-settles_nobody awake books count is = subst (λ (n : ℕ). SettlesFrom n books books count count × (n ≤ books.awake)) is ((0, none_yet), omega arith)
-
--- one more was settled
-pub settles_more : (at : ℕ) (old mid new : BooksState) (before between after : WorkEnd) → 0 < at → SettlesFrom at old mid before between × (at ≤ mid.awake)
-    → Settles (at - 1) mid new between after → SettlesFrom (at - 1) old new before after × (at - 1 ≤ new.awake)
-settles_more at old mid new before between after some front one =
-    let e : at - 1 + 1 ≡ at = omega arith in
-    ((front.0.0 + 1, one_more front.0.1 (record { place = sym e; settles = one })), awake_before (at - 1) mid new between after (omega arith) one)

@@ -1,15 +1,15 @@
 -- Links that are let go, one after another.
 use Rattle.std.specs.Prelude.{slice_get, nat_le, if◌then◌else◌}
-use Rattle.std.proofs.Common.{◌≡◌, ◌⊎◌, inl, inr, ℕ, zero, suc, ◌+◌, ◌-◌, ◌<◌, ◌≤◌, Bool, true, false, List, [], ◌∷◌, ◌++◌, length, Option, Some, None, refl, sym, ap, ◌∙◌, subst, arith, IsTrue, IsFalse}
+use Rattle.std.proofs.Common.{◌≡◌, ◌⊎◌, inl, inr, ℕ, zero, suc, ◌+◌, ◌-◌, ◌<◌, ◌≤◌, Bool, true, false, List, [], ◌∷◌, ◌++◌, length, Some, refl, sym, ap, ◌∙◌, subst, arith}
 use Rattle.std.proofs.lemmas.List.{length-append}
 use Rattle.std.proofs.lemmas.Option.{same_Some}
 use Rattle.mc_time.specs.Chains.{Repeats, none_yet, one_more}
 use Rattle.mc_protocol.specs.declared.step.Steps.{Ghosts as Relations}
 use Rattle.mc_guests.specs.Links.{LinkState}
-use Rattle.mc_guests.specs.Guests.{GuestState, RowGuest, has_ended, is_stray}
+use Rattle.mc_guests.specs.Guests.{RowGuest, has_ended}
 use Rattle.mc_guests.specs.Budgets.{is_retry_due}
-use Rattle.mc_guests.specs.Books.{RowState, BooksState, StandsAt, LetsGo, LinesUp, put_behind, woken, swapped, Wakes, is_over, IsFateOf, Settles, SettlesBefore, SettlesFrom}
-use Rattle.mc_guests.specs.Retries.{lined, tried_again, promised_to, turn_passed, struck_out, first_dropped, strays, stray_tried, strays_tried, all_strays_tried, begun_anew}
+use Rattle.mc_guests.specs.Books.{RowState, BooksState, StandsAt, LinesUp, woken, swapped, Wakes, is_over, IsFateOf, Settles, SettlesFrom}
+use Rattle.mc_guests.specs.Retries.{lined, tried_again, promised_to, turn_passed, struck_out, first_dropped, strays, strays_tried, all_strays_tried, begun_anew}
 use Rattle.mc_guests.specs.Retries.{TakesTurn, goes_on as turn_goes, is_gone as turn_gone, EndsTurns, nobody_waits as turn_none, finds_none as turn_lacks}
 use Rattle.mc_guests.specs.Retries.{LooksAtFirst, goes_on, is_gone, nobody_waits, finds_none, GoInTurn, GoBeside, LetsOnAll, LetsOn}
 use Rattle.mc_guests.specs.Turns.{VisitsAll}

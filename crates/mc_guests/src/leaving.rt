@@ -1,9 +1,14 @@
 //! Links that are let go.
+//!
+//! A worker lets each link go once, as its guest left or it was refused. Its number of such links
+//! shows that: each call of `let_go` takes a link and this number, and returns the next number,
+//! under a relation that nothing else gives. A call `close` of `Links` doesn't serve: a default
+//! body that drops the link can't keep a clause on which links came back.
 ghost use Rattle.std.specs.Prelude.{◌≡◌, ◌+◌, ◌%◌, ◌^◌};
 
 use mc_links::Link;
 
-/// A link that is let go, as its guest left or it was refused. Each link that may be dropped is one.
+/// A link that is let go once. Each link that may be dropped is one.
 ///
 /// Contracts know nothing of `leaves` but what `let_go` ensures. So guests that keep a link, or
 /// forget it, prove nothing.

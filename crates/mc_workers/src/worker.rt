@@ -54,17 +54,17 @@ impl<'a, G: Gate, T: Tally, C: RereadClock> Worker<'a, G, T, C> {
     ///
     /// It makes rounds of the guests that are awake until none is, or 64 visits were made, and then
     /// admits up to 32 new links. The clock is read anew before these rounds, and all of their
-    /// visits have its moment. When it has risen, the dead items of the next shelf in turn are dropped
-    /// first; with more than 64 shelves it takes several, so that 64 risings reach all shelves.
-    /// Since a write found no chunk, one more for each 16 shelves is taken before each of the next
-    /// 16 series of rounds. Each step is followed by the growth of its key's shelf by 8 entries.
+    /// visits have its moment. When it has risen, the dead items of the next shelf in turn are
+    /// dropped first; with more than 64 shelves it takes several, so that 64 risings reach all
+    /// shelves. Since a write found no chunk, one more for each 16 shelves is taken before each of
+    /// the next 16 series of rounds. Each step is followed by the growth of its key's shelf by 8
+    /// entries.
     ///
     /// The caller is returned with further calls in its past and nothing else, each at a moment
     /// that the clock may give; there is a legal history that keeps this past. A fault of one link,
     /// or one session's want of memory, ends only that session. If the links that are to come are
-    /// known, these came, in order, and all of them. The links that were let go are those of the
-    /// guests that left, after the rounds in which they ended, and those that were refused, and no
-    /// other.
+    /// known, these came, in order, and all of them. The links that were let go are those of guests
+    /// that ended, after the round in which they did, and those that were refused.
     pub fn work<R: Wait, K: KeyHash + Drop, L: LeavingLink + Drop, Q: Links<L>>(
         &self,
         rt: &R,
