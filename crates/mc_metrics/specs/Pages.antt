@@ -4,8 +4,6 @@ use Rattle.std.specs.Borrow.{Bor}
 use Rattle.std.specs.List.{flat_map}
 use Rattle.mc_metrics.specs.Places.{place_of}
 use Rattle.mc_metrics.specs.declared.counts.Counted.{Counted}
-use Rattle.mc_metrics.specs.declared.counts.Counted.TheVariants.{SetStored, SetNotStored, CasHit}
-use Rattle.mc_metrics.specs.declared.family.Family.{Family}
 use Rattle.mc_metrics.specs.declared.family.Kind.{Kind}
 use Rattle.mc_metrics.specs.declared.family.Kind.TheVariants.{Counter, Gauge}
 use Rattle.mc_metrics.specs.declared.family.Samples.{Samples}
@@ -46,8 +44,7 @@ figure_of reading figure.One = 1
 figure_of reading figure.Zero = 0
 figure_of reading figure.Uptime = reading.uptime
 figure_of reading (figure.Count counted) = number_at reading.counts (place_of counted)
-figure_of reading figure.Sets = both reading.counts SetStored SetNotStored
-figure_of reading figure.Stored = both reading.counts SetStored CasHit
+figure_of reading (figure.Both one other) = both reading.counts one other
 figure_of reading figure.Connections = reading.connections
 figure_of reading figure.Lingering = reading.lingering
 figure_of reading figure.Accepted = reading.accepted
@@ -180,20 +177,24 @@ abbrev pub hundredths_text : (name : List ℕ) → Option ℕ → List ℕ
 hundredths_text name None = []
 hundredths_text name (Some number) = hundredths_line name number
 
--- the samples of a family
-abbrev pub samples_text : PageValues → (name : List ℕ) → Samples → List ℕ
-samples_text reading name (One told) = sample_text name [] (figure_of reading told)
-samples_text reading name (Each rows) = each_text reading name rows.now
-samples_text reading name (Slabs told) = slabs_text told name reading.slabs.items
-samples_text reading name Refused = refused_text name reading.refused.items
-samples_text reading name (Process told) = known_text name (process_figure_of reading.process told)
-samples_text reading name (Numbers rows) = numbers_text reading name rows.now
-samples_text reading name (Hundredths told) = hundredths_text name (process_figure_of reading.process told)
+-- the samples of a family with these labels
+abbrev pub samples_text : PageValues → (name : List ℕ) → Samples → List (Bor (List ℕ) × Figure) → List ℕ
+samples_text reading name (One told) rows = sample_text name [] (figure_of reading told)
+samples_text reading name Each rows = each_text reading name rows
+samples_text reading name (Slabs told) rows = slabs_text told name reading.slabs.items
+samples_text reading name Refused rows = refused_text name reading.refused.items
+samples_text reading name (Process told) rows = known_text name (process_figure_of reading.process told)
+samples_text reading name Numbers rows = numbers_text reading name rows
+samples_text reading name (Hundredths told) rows = hundredths_text name (process_figure_of reading.process told)
 
--- a family
+-- a family: its type, its name, its help, its samples, and their labels
+abbrev pub Family : Type 0
+Family = Kind × Bor (List ℕ) × Bor (List ℕ) × Samples × Bor (List (Bor (List ℕ) × Figure))
+
+-- the text of a family
 abbrev pub family_text : PageValues → Family → List ℕ
 family_text reading family =
-    head_text family.0 family.1.now family.2.now ++ samples_text reading family.1.now family.3
+    head_text family.0 family.1.now family.2.now ++ samples_text reading family.1.now family.3 family.4.now
 
 -- families, one after another
 abbrev pub families_text : PageValues → List Family → List ℕ

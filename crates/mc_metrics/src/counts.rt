@@ -5,6 +5,7 @@
 ghost use Rattle.std.specs.Prelude.{ℕ, ◌<◌, slice_index};
 ghost use Rattle.std.specs.Arc.{arc_value};
 ghost use Rattle.mc_metrics.specs.Sums.{IsCountAt, IsSum, Counts, Refuses};
+ghost use Rattle.mc_metrics.specs.declared.counts.TheConstants.{COUNTED};
 
 use std::array;
 use std::sync::Arc;
@@ -38,7 +39,8 @@ pub trait SharedCount {
 impl SharedCount for AtomicU64 {
     ghost use Rattle.std.specs.Prelude.{⊤};
 
-    // Contracts promise nothing of a number that other threads change.
+    // Contracts promise nothing of a number that other threads change. One thread adds to it, so it
+    // stores the sum: no other addition is between, and none locks the cache line.
     ghost was_added = { λ _ _ _. ⊤ };
 
     ghost was_read = { λ _ _. ⊤ };
@@ -49,17 +51,19 @@ impl SharedCount for AtomicU64 {
 
     #[inline]
     fn add(&self, count: u64) -> u64 {
-        self.fetch_add(count, Ordering::SeqCst)
+        let before = self.load(Ordering::Relaxed);
+        self.store(before.wrapping_add(count), Ordering::Release);
+        before
     }
 
     #[inline]
     fn set(&self, number: u64) {
-        self.store(number, Ordering::SeqCst);
+        self.store(number, Ordering::Release);
     }
 
     #[inline]
     fn get(&self) -> u64 {
-        self.load(Ordering::SeqCst)
+        self.load(Ordering::Acquire)
     }
 }
 
@@ -99,18 +103,19 @@ pub enum Counted {
 impl Counted {
     ghost use Rattle.std.specs.Prelude.{◌≡◌, ◌<◌};
     ghost use Rattle.mc_metrics.specs.Places.{place_of};
+    ghost use Rattle.mc_metrics.specs.declared.counts.TheConstants.{COUNTED};
 
     /// Returns its index.
     pub fn place(self) -> usize
         ensures value { result ≡ place_of self }
-        ensures within { result < 20 }
+        ensures within { result < COUNTED }
     {
         self as usize
     }
 }
 
-/// The number of counters.
-pub const COUNTED: usize = 20;
+/// The number of counters, of which `Sent` is the last.
+pub const COUNTED: usize = Counted::Sent as usize + 1;
 
 /// The number of counters of refused steps: one for each class of chunks at its number, and one at
 /// 0 for steps whose class isn't known.
@@ -221,7 +226,7 @@ pub fn count_at<C: SharedCount>(counts: &[C], place: usize) -> u64
 
 /// Returns the sums of the workers' counters, each modulo 2^64. Each counter is read once.
 pub fn sums_of<C: SharedCount + Drop>(workers: &[Arc<CountersOf<C>>]) -> [u64; COUNTED]
-    ensures { (place : ℕ) → place < 20 → IsSum (λ worker.
+    ensures { (place : ℕ) → place < COUNTED → IsSum (λ worker.
         Counts C.was_read place (arc_value worker)) workers.now (slice_index result place) }
 {
     let mut sums = [0u64; COUNTED];

@@ -1,4 +1,4 @@
-//! Families of samples.
+//! The metrics of a page, each a row of a table.
 
 use crate::reading::{Figure, ProcessFigure, SlabFigure};
 
@@ -14,8 +14,8 @@ pub enum Kind {
 pub enum Samples {
     /// One sample without labels.
     One(Figure),
-    /// One sample for each of these labels.
-    Each(&'static [(&'static str, Figure)]),
+    /// One sample for each of the family's labels.
+    Each,
     /// One sample for each class of chunks that has a page.
     Slabs(SlabFigure),
     /// One sample for each class of chunks: its refused steps.
@@ -25,9 +25,13 @@ pub enum Samples {
     /// The same in hundredths, as a number with two decimals.
     Hundredths(ProcessFigure),
     /// One sample that is 1 and has numbers as labels: the text before each, and the number.
-    Numbers(&'static [(&'static str, Figure)]),
+    Numbers,
 }
 
-/// A family of samples: its kind, its name, its help, and its samples.
-#[derive(Clone, Copy)]
-pub struct Family(pub Kind, pub &'static str, pub &'static str, pub Samples);
+/// Labels, each with its number.
+pub type Labels = &'static [(&'static str, Figure)];
+
+/// A family of samples: its type, its name, its help, its samples, and their labels.
+///
+/// A tuple, because definitions read no constant of a struct that borrows.
+pub type Family = (Kind, &'static str, &'static str, Samples, Labels);

@@ -35,7 +35,7 @@ pub use answer::{HttpAnswer, HttpReply, NO_MEMORY, response};
 pub use counts::{
     COUNTED, Counted, Counters, CountersOf, REFUSED, SharedCount, count_at, refused_sum, sums_of,
 };
-pub use family::{Family, Kind, Samples};
+pub use family::{Family, Kind, Labels, Samples};
 pub use page::page_of;
 pub use reading::{
     BuffersReading, Figure, PageValues, ProcessFigure, ProcessReading, RefusedReading,

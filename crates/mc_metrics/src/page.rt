@@ -47,7 +47,7 @@ fn put_family(page: &mut Vec<u8>, family: &Family, reading: &PageValues) -> Resu
     ensures { OnOk result (page.new.items ≡ page.old.items ++ family_text reading.now family.now) }
 {
     put_head(page, family.0, family.1, family.2)?;
-    put_samples(page, family.1, family.3, reading)
+    put_samples(page, family.1, family.3, family.4, reading)
 }
 
 /// Appends the samples of a family.
@@ -55,19 +55,20 @@ fn put_samples(
     page: &mut Vec<u8>,
     name: &str,
     samples: Samples,
+    rows: &[(&str, Figure)],
     reading: &PageValues,
 ) -> Result<(), AllocError>
     ensures { OnOk result (page.new.items
-        ≡ page.old.items ++ samples_text reading.now name.now samples) }
+        ≡ page.old.items ++ samples_text reading.now name.now samples rows.now) }
 {
     match samples {
         Samples::One(figure) => put_sample(page, name, "", reading.figure(figure)),
-        Samples::Each(rows) => put_each(page, name, rows, reading),
+        Samples::Each => put_each(page, name, rows, reading),
         Samples::Slabs(figure) => put_slabs(page, name, figure, reading.slabs.as_slice()),
         Samples::Refused => put_refused(page, name, reading.refused.as_slice()),
         Samples::Process(figure) => put_known(page, name, reading.process.figure(figure)),
         Samples::Hundredths(figure) => put_hundredths(page, name, reading.process.figure(figure)),
-        Samples::Numbers(rows) => put_numbers(page, name, rows, reading),
+        Samples::Numbers => put_numbers(page, name, rows, reading),
     }
 }
 

@@ -125,10 +125,8 @@ pub enum Figure {
     Uptime,
     /// This counter.
     Count(Counted),
-    /// The storage commands other than `cas` that found room, whether their condition held or not.
-    Sets,
-    /// The items that were stored.
-    Stored,
+    /// The sum of two counters.
+    Both(Counted, Counted),
     /// The open connections that count in `-c`.
     Connections,
     /// The open connections that linger behind their last answer.
@@ -199,8 +197,7 @@ impl PageValues {
             Figure::Zero => 0,
             Figure::Uptime => self.uptime,
             Figure::Count(counted) => number_at(&self.counts, counted.place()),
-            Figure::Sets => self.both(Counted::SetStored, Counted::SetNotStored),
-            Figure::Stored => self.both(Counted::SetStored, Counted::CasHit),
+            Figure::Both(one, other) => self.both(one, other),
             Figure::Connections => self.connections,
             Figure::Lingering => self.lingering,
             Figure::Accepted => self.accepted,

@@ -62,8 +62,8 @@ pub enum CloseReason {
     OtherProtocol,
 }
 
-/// The number of reasons.
-pub const PARTINGS: usize = 14;
+/// The number of reasons, of which `OtherProtocol` is the last.
+pub const PARTINGS: usize = CloseReason::OtherProtocol as usize + 1;
 
 /// The reply to a line that is too long. Nothing is sent behind it.
 const TOO_LONG: &[u8] = b"CLIENT_ERROR line too long\r\n";
