@@ -35,7 +35,7 @@ LIBRARIES = {
     "memchr": "finds line ends and word ends", "itoa": "prints numbers", "byteorder": "reads and writes an item's header",
     "thiserror": "makes error types", "clap": "parses the command line (brings `strsim`)", "mio": "polls sockets",
     "crossbeam_queue": "hands connections to the workers (brings `crossbeam_utils`)", "slab": "keeps the places of links", "httparse": "parses the head of an HTTP request",
-    "atomic_table": "has the atomic steps of threads", "core": "",
+    "atomic_table": "has the atomic steps of threads", "os": "names a thread", "core": "",
 }
 # Of these documents the names in code spans are looked up, too; the others name what clients and systems have.
 INSIDE = ("README.md", "CONTRIBUTING.md", *(f"docs/{name}.md" for name in "ARCHITECTURE DECISIONS FIRST-CHANGE GAPS PROVING THEOREM".split()))

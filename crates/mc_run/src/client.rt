@@ -3,25 +3,23 @@
 //! A thread's caller and its store are one value whose invariant ties them, so closures and loops
 //! that pass callers on need no clauses.
 ghost use Rattle.std.specs.Prelude.{◌≡◌};
+ghost use Rattle.mc_shared.specs.History.{start_of};
+ghost use Rattle.mc_shared.specs.Steps.{Agrees};
+ghost use Rattle.mc_run.specs.Runs.{hash_of};
+ghost use Rattle.mc_run.specs.Clients.{caller_of, client_of, maker, newcomer, joined};
 
-use mc_guests::Tally;
 use mc_hop::Fnv;
 use mc_metrics::TablesReading;
 use mc_shared::{Caller, Shared};
 use mc_sizes::{Account, Class};
-use mc_sockets::ClosingLinks;
-use mc_telemetry::StoreStats;
-use mc_time::Clock;
-use mc_workers::{NoGate, Worker};
-use std::alloc::Global;
 use std::marker::Model;
 use std::sync::Wait;
-use std::time;
 
 /// The homes of a shelf's first table. Each growth doubles them.
 const FIRST_HOMES: u64 = 64;
 
-/// A caller of a store, with the store. Contracts see the settings that the store began with.
+/// A caller of a store, with the store. Contracts see what the store began with, which store it is,
+/// and the caller's past.
 #[derive(Drop)]
 pub struct StoreClient<'a> {
     shared: &'a Shared<Fnv>,
@@ -30,11 +28,18 @@ pub struct StoreClient<'a> {
 
 impl<'a> Model for StoreClient<'a> {
     ghost use Rattle.std.specs.Prelude.{◌≡◌};
-    ghost use Rattle.mc_sizes.specs.declared.settings.Settings.{Settings};
+    ghost use Rattle.mc_run.specs.Clients.{ClientState, coded_client};
 
-    ghost Value = { Settings };
+    ghost Value = { ClientState };
 
-    ghost view = { λ a. a.shared.now.began.settings };
+    ghost coded = { coded_client };
+
+    ghost view = { λ a. record {
+      began = a.shared.now.began;
+      table = a.caller.table;
+      past =
+          a.caller.past;
+    } };
 
     ghost invariant = { λ a. a.caller.table ≡ a.shared.now.table };
 }
@@ -43,24 +48,76 @@ impl<'a> StoreClient<'a> {
     /// Returns a client over this store and one of its callers.
     pub fn new(shared: &'a Shared<Fnv>, caller: Caller) -> StoreClient<'a>
         requires { caller.table ≡ shared.now.table }
-        ensures { result ≡ shared.now.began.settings }
+        ensures { result ≡ client_of shared.entry.now.began caller }
     {
         StoreClient { shared, caller }
     }
 
-    /// Returns another client of the same store. It takes no memory.
-    pub fn another(&mut self) -> StoreClient<'a>
-        ensures another { result ≡ self.old }
-        ensures same { self.new ≡ self.old }
+    /// Takes the client apart.
+    pub fn into_parts(self) -> (&'a Shared<Fnv>, Caller)
+        ensures began { result.0.now.began ≡ self.entry.began }
+        ensures table { result.0.now.table ≡ self.entry.table }
+        ensures caller { result.1 ≡ caller_of self.entry }
     {
-        StoreClient {
-            shared: self.shared,
-            caller: self.shared.caller(&mut self.caller),
+        let StoreClient { shared, caller } = self;
+        (shared, caller)
+    }
+
+    /// Returns the store.
+    pub fn store(&self) -> &'a Shared<Fnv>
+        ensures began { result.now.began ≡ self.now.began }
+        ensures table { result.now.table ≡ self.now.table }
+    {
+        self.shared
+    }
+
+    /// Makes another caller of the same store. It takes no memory.
+    pub fn caller(&mut self) -> Caller
+        ensures caller { result ≡ newcomer self.old }
+        ensures maker { self.new ≡ maker self.old }
+        ensures agrees { Agrees (start_of hash_of self.new.began) self.new.past }
+    {
+        self.shared.caller(&mut self.caller)
+    }
+
+    /// Joins a caller of the same store into the client's. It takes no memory.
+    pub fn join(&mut self, other: Caller)
+        requires { other.table ≡ self.old.table }
+        ensures joined { self.new ≡ joined self.old other }
+        ensures agrees { Agrees (start_of hash_of self.new.began) self.new.past }
+    {
+        self.shared.join(&mut self.caller, other);
+    }
+
+    /// Returns the number of shelves.
+    pub fn shelves(&self) -> u32
+        ensures { result ≡ self.now.began.settings.shelves }
+    {
+        self.shared.shelves()
+    }
+
+    /// Returns what the tables of all shelves hold.
+    pub fn tables<R: Wait>(&mut self, rt: &R) -> TablesReading
+        ensures { self.new ≡ self.old }
+    {
+        let mut tables = TablesReading::NONE;
+        for shelf in 0..self.shared.shelves() {
+            tables = tables.with(self.table_of(rt, shelf));
         }
+        tables
+    }
+
+    /// Returns the pages of a class, and how many of its chunks items use.
+    pub fn account<R: Wait>(&mut self, rt: &R, class: Class) -> Account
+        ensures { self.new ≡ self.old }
+    {
+        self.shared.account(rt, &mut self.caller, class)
     }
 
     /// Returns what the table of a shelf holds; nothing if there is no such shelf.
-    fn table_of<R: Wait>(&mut self, rt: &R, shelf: u32) -> TablesReading {
+    fn table_of<R: Wait>(&mut self, rt: &R, shelf: u32) -> TablesReading
+        ensures { self.new ≡ self.old }
+    {
         if shelf >= self.shared.shelves() {
             return TablesReading::NONE;
         }
@@ -75,35 +132,5 @@ impl<'a> StoreClient<'a> {
             strays: counts.strays,
             reclaimed,
         }
-    }
-
-    /// Serves links by the worker until none comes and all sessions have ended.
-    pub fn work<R: Wait + time::Clock, T: Tally, C: Clock>(
-        self,
-        rt: &R,
-        alloc: Global,
-        links: &mut ClosingLinks<'_, R>,
-        worker: &Worker<'_, NoGate, T, C>,
-    ) {
-        let StoreClient { shared, caller } = self;
-        let _ = worker.work(rt, alloc, shared, caller, links);
-    }
-}
-
-impl StoreStats for StoreClient<'_> {
-    fn shelves(&self) -> u32 {
-        self.shared.shelves()
-    }
-
-    fn tables<R: Wait>(&mut self, rt: &R) -> TablesReading {
-        let mut tables = TablesReading::NONE;
-        for shelf in 0..self.shared.shelves() {
-            tables = tables.with(self.table_of(rt, shelf));
-        }
-        tables
-    }
-
-    fn account<R: Wait>(&mut self, rt: &R, class: Class) -> Account {
-        self.shared.account(rt, &mut self.caller, class)
     }
 }

@@ -24,11 +24,15 @@
 
 mod client;
 mod clock;
+mod crew;
+mod laws;
 mod listening;
 mod plan;
+mod reader;
 mod running;
 mod serving;
 mod threads;
 
+pub use laws::one_list_answers_all_links;
 pub use running::run;
 pub use serving::a_new_store_answers_the_stream;

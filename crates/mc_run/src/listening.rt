@@ -3,9 +3,10 @@
 //! Each listener has a thread that accepts. Shutting a listener's socket down ends its wait, so no
 //! thread polls. One descriptor is kept spare: it is freed to accept and close a connection when
 //! the system has none left.
-ghost use Rattle.std.specs.Prelude.{◌≡◌, IfOk};
-ghost use Rattle.mc_protocol.specs.Plain.{opening};
+ghost use Rattle.std.specs.Prelude.{◌≡◌, [], IfOk, OnOk};
+ghost use Rattle.mc_shared.specs.Past.{spent, start};
 ghost use Rattle.mc_host.specs.Ends.{EndsListening};
+ghost use Rattle.mc_run.specs.Served.{IsNewStore, HasServed, EndsServing};
 
 use crate::client::StoreClient;
 use crate::plan::{Bound, make_plan};
@@ -28,11 +29,15 @@ use std::time;
 ///
 /// Its workers' clocks stand at the options' moment, or are the system's clock. It answers scrapes
 /// if that is an option. It ends at once if it can't listen at an endpoint, or memory is refused.
+///
+/// After it has served, the callers of all its threads are joined into one, whose past is whole.
+/// Each worker's links are answered within this past.
 pub fn listen<R, S>(rt: &R, diagnostics: Diagnostics, options: Options, system: &S) -> End
 where
     R: Net + Files + AllocGlobal + Wait + Threads + time::Clock + Sync,
     S: Clock + Sync,
-    ensures { EndsListening options.endpoints options.scrapes options.may_quit result }
+    ensures ends { EndsListening options.endpoints options.scrapes options.may_quit result }
+    ensures serves { EndsServing options (S.may_give system.now) result }
 {
     let door = match open_door(rt, rt.alloc(), options.scrapes) {
         Ok(door) => door,
@@ -76,6 +81,7 @@ fn begin<R, S>(
 where
     R: Net + Files + AllocGlobal + Wait + Threads + time::Clock + Sync,
     S: Clock + Sync,
+    ensures { OnOk result (HasServed options.entry.now (S.may_give system.now)) }
 {
     let (shared, caller) = make_store(rt.alloc(), options)?;
     let client = StoreClient::new(&shared, caller);
@@ -86,15 +92,14 @@ where
 ///
 /// The only error is a refused allocation.
 fn make_store(alloc: Global, options: &Options) -> Result<(Shared<Fnv>, Caller), AllocError>
-    ensures settings { IfOk result (λ made. made.0.began.settings ≡ options.entry.now.settings) }
-    ensures empty { IfOk result (λ made. made.0.began.plain
-        ≡ opening options.entry.now.settings.pages options.entry.now.settings.greatest) }
+    ensures new { IfOk result (λ made. IsNewStore options.entry.now made.0.began) }
     ensures caller { IfOk result (λ made. made.1.table ≡ made.0.table) }
+    ensures first { IfOk result (λ made. made.1.past ≡ start [] spent) }
 {
     Shared::new(alloc, options.settings, Fnv)
 }
 
-/// Serves over a store that the options ask for. Returns whether the server was asked to end, or
+/// Serves over a new store, by its first caller. Returns whether the server was asked to end, or
 /// what was wanting.
 fn serve_over<R, S>(
     rt: &R,
@@ -107,10 +112,13 @@ fn serve_over<R, S>(
 where
     R: Net + Files + AllocGlobal + Wait + Threads + time::Clock + Sync,
     S: Clock + Sync,
-    requires { client ≡ options.now.settings }
+    requires new { IsNewStore options.now client.began }
+    requires first { client.past ≡ start [] spent }
+    ensures { OnOk result (HasServed options.entry.now (S.may_give system.now)) }
 {
     let (plan, common) = make_plan(rt, diagnostics, options, bound)?;
-    match serve(rt, plan, client, &common, system) {
+    let (_caller, served) = serve(rt, plan, client, &common, system);
+    match served {
         Ok(()) => Ok(common.arrivals.is_over_as_asked()),
         Err(wanting) => Err(wanting),
     }

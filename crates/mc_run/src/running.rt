@@ -3,6 +3,7 @@ ghost use Rattle.std.specs.Prelude.{◌≡◌, true, false};
 ghost use Rattle.mc_host.specs.Ends.{EndsListening};
 ghost use Rattle.mc_host.specs.Clocks.{moments};
 ghost use Rattle.mc_run.specs.Runs.{IsProgramMoment, EndsServed};
+ghost use Rattle.mc_run.specs.Served.{EndsServing};
 ghost use Rattle.mc_time.specs.declared.reading.Reading.{Reading};
 
 use crate::listening::listen;
@@ -22,7 +23,8 @@ use std::time;
 ///
 /// With `--stdin` it serves one session over the reader and the writer, by the options' clock.
 /// Without, it listens at the endpoints, answers scrapes if that is an option, and ends if it is
-/// asked to and may be; it neither reads nor writes here.
+/// asked to and may be; it neither reads nor writes here. After it has served, the callers of all
+/// its threads are joined into one, within whose past each worker's links are answered.
 pub fn run<H, R, W>(
     rt: &H,
     diagnostics: Diagnostics,
@@ -40,6 +42,8 @@ where
         (W.contents writer.old) (W.contents writer.new) result }
     ensures listens { options.stdin ≡ false
         → EndsListening options.endpoints options.scrapes options.may_quit result }
+    ensures answers { options.stdin ≡ false → (start : Reading)
+        × EndsServing options (IsProgramMoment start) result }
     ensures reads_nothing { options.stdin ≡ false → reader.new ≡ reader.old }
     ensures writes_nothing { options.stdin ≡ false → writer.new ≡ writer.old }
 {

@@ -1,15 +1,17 @@
-use denote.Param.{param}
-use denote.Param.Send.{IsSync, param_sync, sendable}
-use Rattle.std.proofs.Common.{rules}
-use Rattle.mc_shared.proofs.Sent.{tuple_send, lent}
-use Rattle.mc_run.proofs.Sent.{client_send, common_lent}
-use Rattle.mc_run.proofs.plan.WorkerPlan.TheSendSync as plan
+use Rattle.std.proofs.Common.{List, subst}
+use Rattle.mc_run.specs.Meetings.{IsCrew}
+use Rattle.mc_run.specs.declared.plan.WorkerPlan.{WorkerPlan}
+use Rattle.mc_run.proofs.MeetLemmas.{crew_grows, owed_grows}
 use Rattle.mc_run.proofs.threads.start_workers.Goals as goal
 
-pub start-requires-send-F : goal.start-requires-send-F
-start-requires-send-F g c κs within =
-    let runtime : IsSync g.row.R = search (rules, c.requires) parts 8 in
-    let clock : IsSync g.row.S = search (rules, c.requires) parts 8 in
-    let runtime_lent = lent (param 1 g.row.R) (param_sync 1 g.row.R runtime) in
-    let clock_lent = lent (param 2 g.row.S) (param_sync 2 g.row.S clock) in
-    search (tuple_send, runtime_lent, clock_lent, client_send, common_lent, plan.the_send, sendable) depth 60 fits 20000
+pub loop-plan-preserved : goal.loop-plan-preserved
+loop-plan-preserved g c =
+    let was = c.loop-plan.invariant in
+    let old = c.loop-plan.crew in
+    let new = c.start_worker.new.crew in
+    let rest = c.next.new.self.rest.items in
+    let starts = c.in_default.ensures.started in
+    let system = c.args.system.now in (
+      crew_grows system c.args.plans.items rest c.in-Some.plan c.args.client old new starts (subst (λ (l : List WorkerPlan). IsCrew system c.args.plans.items l c.args.client old) c.in-Some.ensures.steps.0 was.0),
+      owed_grows system c.args.plans.items rest c.in-Some.plan c.args.client old new starts was.1,
+    )
