@@ -38,11 +38,9 @@ module _ (options : Options) (may_give : ℕ → Type 0) (served : HasServed opt
         each_answers calls among plans (All-tail (IsWorkerOf options) plan plans all) each.1,
       )
 
-  pub all_answered : (calls : List HistoryEntry) (left : Plain) → AreAnswered (start_of hash_of served.began) served.past calls left → Among calls options.now → AreAllAnswered options may_give served
+  pub all_answered : (calls : List HistoryEntry) (left : Plain) → AreAnswered (start_of hash_of served.began) served.past calls left → Among calls options.now → AreAllAnswered options may_give served calls
   all_answered calls left answers among = record {
-    calls = calls;
     left = left;
     answers = answers;
-    exactly = answers.exactly served.whole;
     links = each_answers calls among served.workers served.plans.each served.each;
   }

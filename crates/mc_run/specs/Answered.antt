@@ -1,11 +1,10 @@
 -- One list of calls that answers all links of a server that has served.
 use Rattle.std.specs.Prelude.{ℕ, List, [], ◌∷◌}
-use Rattle.std.specs.List.Sorted.{IsPermutation}
 use Rattle.mc_protocol.specs.Plain.{Plain}
 use Rattle.mc_hop.specs.declared.hash.Fnv.{Fnv}
 use Rattle.mc_shelf.specs.Stores.{StoreState}
 use Rattle.mc_shared.specs.History.{HistoryEntry, start_of}
-use Rattle.mc_shared.specs.Past.{Past, held}
+use Rattle.mc_shared.specs.Past.{Past}
 use Rattle.mc_laws.specs.Together.{AreAnswered}
 use Rattle.mc_workers.specs.Tending.{asked_by}
 use Rattle.mc_worker_laws.specs.Traces.{all_links}
@@ -31,13 +30,12 @@ AnswersWithin may_give began past calls plan joined =
     (all_links hash_of (moments plan.now may_give) joined.worked.works)
     (asked_by began joined.caller) joined.worked.works.final.asking
 
--- One list has exactly the calls of all threads. The plain machine takes them in order, from the
--- empty store, and gives each reply. The links of each worker are answered within this list.
-pub record AreAllAnswered (options : Options) (may_give : ℕ → Type 0) (served : HasServed options may_give) : Type 0
+-- The plain machine takes these calls in order, from the empty store, and gives each reply. The
+-- links of each worker are answered within them.
+pub record AreAllAnswered (options : Options) (may_give : ℕ → Type 0) (served : HasServed options may_give)
+    (calls : List HistoryEntry) : Type 0
   where
-    pub calls : List HistoryEntry
     pub left : Plain
     pub answers : AreAnswered (start_of hash_of served.began) served.past calls left
-    pub exactly : IsPermutation (held served.past) calls
     pub links : EachBy (AnswersWithin may_give served.began served.past calls) served.workers
         served.each

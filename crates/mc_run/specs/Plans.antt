@@ -1,8 +1,9 @@
 -- What a server is to serve with, by its options, before its first thread starts.
-use Rattle.std.specs.Prelude.{◌≡◌, ◌≤◌, ℕ, ◌*◌, ◌/◌, max, List, length, sum_by, All, Option, Some, None}
+use Rattle.std.specs.Prelude.{◌≡◌, ◌≤◌, ℕ, ◌*◌, ◌/◌, max, List, length, sum_by, All, Option, Some, None, ⊤}
 use Rattle.std.specs.Arc.{arc_value}
 use Rattle.mc_metrics.specs.declared.reading.SettingsReading.{SettingsReading}
 use Rattle.mc_options.specs.declared.options.Options.{Options}
+use Rattle.mc_telemetry.specs.declared.scrape.MetricsServer.{MetricsServer}
 use Rattle.mc_sockets.specs.ConnectionLimits.{most_of}
 use Rattle.mc_sockets.specs.declared.connection.ConnectionLimit.{ConnectionLimit}
 use Rattle.mc_run.specs.declared.plan.Entrance.{Entrance}
@@ -50,8 +51,29 @@ IsOneAcceptor crowd (Accept entrance) None = arc_value entrance.crowd ≡ crowd
 IsOneAcceptor crowd (AnswerScrapes server) (Some entrance) = arc_value entrance.crowd ≡ crowd
 IsOneAcceptor crowd _ _ = ⊥
 
--- a server's workers are by the options, and all its listeners count connections in one crowd of -c at most
+-- a peer may end the server if the options say so, and the page has their settings, their limits and this crowd
+pub record ReportsOf (options : Options) (crowd : ConnectionLimit) (server : MetricsServer) : Type 0 where
+  pub may_quit : server.may_quit ≡ options.may_quit
+  pub settings : server.observer.settings ≡ settings_of options
+  pub pages : server.observer.pages ≡ options.settings.pages
+  pub buffers : server.observer.buffers ≡ options.buffers * mib
+  pub connections : arc_value server.observer.crowd ≡ crowd
+
+-- if the program's own thread answers scrapes, it does so by the options
+abbrev pub ScrapesBy : (options : Options) (crowd : ConnectionLimit) → OwnTask → Type 0
+ScrapesBy options crowd (Accept entrance) = ⊤
+ScrapesBy options crowd (AnswerScrapes server) = ReportsOf options crowd server
+
+-- the program's own thread answers scrapes by this server, if there is one
+abbrev pub IsOwnTask : Option MetricsServer → OwnTask → Type 0
+IsOwnTask None (Accept entrance) = ⊤
+IsOwnTask (Some metrics) (AnswerScrapes server) = server ≡ metrics
+IsOwnTask _ _ = ⊥
+
+-- a server's workers are by the options, all its listeners count connections in one crowd of -c at most, and it ends and
+-- reports by the options
 pub record IsPlanOf (options : Options) (plan : ServerPlan) : Type 0 where
   pub workers : ArePlansOf options plan.threads.workers.items
   pub connections : most_of (arc_value plan.threads.crowd) ≡ options.connections
   pub first : IsOneAcceptor (arc_value plan.threads.crowd) plan.own plan.threads.first
+  pub scrapes : ScrapesBy options (arc_value plan.threads.crowd) plan.own

@@ -1,4 +1,7 @@
 //! What follows of what a server has served, as the contract of a function that does nothing.
+ghost use Rattle.std.specs.Prelude.{List, IsPermutation};
+ghost use Rattle.mc_shared.specs.History.{HistoryEntry};
+ghost use Rattle.mc_shared.specs.Past.{held};
 ghost use Rattle.mc_run.specs.Served.{HasServed};
 ghost use Rattle.mc_run.specs.Answered.{AreAllAnswered};
 
@@ -17,7 +20,8 @@ use mc_worker_laws::all_workers_answer_their_links;
 pub fn one_list_answers_all_links<C: Clock>()
     ensures { (options : Options) (clock : C)
         (served : HasServed options (C.may_give clock)) →
-        AreAllAnswered options (C.may_give clock) served }
+        (calls : List HistoryEntry) × IsPermutation (held served.past) calls
+        × AreAllAnswered options (C.may_give clock) served calls }
 {
     all_workers_answer_their_links::<Fnv, AskedClock<C>>();
 }

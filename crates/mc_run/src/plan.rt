@@ -3,11 +3,11 @@
 //! All that can be refused is requested here: descriptors, memory, polls. So a server that reports
 //! that it listens has what its threads need, but for the threads themselves.
 
-ghost use Rattle.std.specs.Prelude.{◌≡◌, ◌+◌, length, IfOk, OnOk, All};
+ghost use Rattle.std.specs.Prelude.{◌≡◌, ◌+◌, ◌*◌, length, IfOk, IfSome, OnOk, All};
 ghost use Rattle.std.specs.Arc.{arc_value};
 ghost use Rattle.mc_sockets.specs.ConnectionLimits.{most_of};
 ghost use Rattle.mc_run.specs.Plans.{IsPlanOf, IsWorkerOf, IsOneAcceptor, ArePlansOf};
-ghost use Rattle.mc_run.specs.Plans.{held_of, settings_of};
+ghost use Rattle.mc_run.specs.Plans.{held_of, mib, settings_of, ReportsOf, IsOwnTask};
 
 use mc_host::{
     Diagnostics, Listeners, ScrapeListener, Wanting, look_for_descriptors, most_descriptors,
@@ -129,6 +129,7 @@ pub fn make_plan<'a, R: Net + Files + AllocGlobal + Clock>(
 }
 
 /// Returns the plan of a server with these workers, and what its threads borrow.
+#[tactic(auto, using(crate::proofs::PlanLemmas::scrapes_by))]
 fn plan_with<'a, R: AllocGlobal + Files + Clock>(
     rt: &R,
     notice: StartLines<'a>,
@@ -167,7 +168,8 @@ fn share_out(
     listener: TcpListener,
     crowd: &Arc<ConnectionLimit>,
 ) -> Result<(OwnTask, Option<Entrance>), AllocError>
-    ensures { IfOk result (λ tasks. IsOneAcceptor (arc_value crowd.now) tasks.0 tasks.1) }
+    ensures accepts { IfOk result (λ tasks. IsOneAcceptor (arc_value crowd.now) tasks.0 tasks.1) }
+    ensures own { IfOk result (λ tasks. IsOwnTask metrics tasks.0) }
 {
     let entrance = Entrance {
         listener,
@@ -219,7 +221,10 @@ fn make_metrics<R: AllocGlobal + Files + Clock>(
     door: Option<ScrapeListener>,
     crowd: &Arc<ConnectionLimit>,
     counts: Vec<Arc<Counters>>,
-) -> Result<Option<MetricsServer>, AllocError> {
+) -> Result<Option<MetricsServer>, AllocError>
+    ensures { IfOk result (λ metrics. IfSome metrics (λ server.
+        ReportsOf notice.entry.options.now (arc_value crowd.now) server)) }
+{
     let Some(door) = door else {
         return Ok(None);
     };
@@ -227,7 +232,7 @@ fn make_metrics<R: AllocGlobal + Files + Clock>(
         crowd: crowd.clone().map_err(|_| AllocError)?,
         counts,
         pages: notice.options.settings.pages,
-        buffers: u64::from(notice.options.buffers).saturating_mul(MIB as u64),
+        buffers: buffers_of(notice.options),
         settings: settings_of(notice.options),
         since: Instant::now(rt).ok(),
         started: process_start(rt),
@@ -235,6 +240,13 @@ fn make_metrics<R: AllocGlobal + Files + Clock>(
     };
     let server = MetricsServer::new(rt.alloc(), door, observer, notice.options.may_quit);
     Ok(Some(server))
+}
+
+/// Returns how many bytes the buffers of all connections may hold.
+fn buffers_of(options: &Options) -> u64
+    ensures { result ≡ options.entry.now.buffers * mib }
+{
+    options.buffers as u64 * MIB as u64
 }
 
 /// Returns the settings that the page of metrics has.

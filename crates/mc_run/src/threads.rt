@@ -296,7 +296,7 @@ where
     };
     match scope.spawn_with(promise, working) {
         Ok(thread) => crew.add(thread),
-        Err(_) => Err(Wanting::Thread),
+        Err(_refused) => Err(Wanting::Thread),
     }
 }
 
