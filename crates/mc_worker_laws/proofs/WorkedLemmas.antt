@@ -80,7 +80,7 @@ module _ {K : Type 0} (hash_of : K → List ℕ → ℕ) (may_give : ℕ → Typ
         → BooksTraced hash_of may_give begin came (links ++ gone_in_rounds hash_of rounds) new.1 new.0 new.2
     rounds_traced links old new r t =
         both_gone links (gone_after hash_of r.round) (gone_further hash_of r.further) new.1 new.0 new.2
-        (further_traced (links ++ gone_after hash_of r.round) r.count (64 - old.1.awake, r.first) (r.left, new) r.further (round_traced links old r.first r.round t))
+        (further_traced (links ++ gone_after hash_of r.round) r.count (256 - old.1.awake, r.first) (r.left, new) r.further (round_traced links old r.first r.round t))
 
     purges_traced : (links : List LinkState) (books : BooksState) (end : WorkEnd) (count : ℕ) (old new : ℕ × AskingState K) → Repeats (TidiesNext hash_of now) count old new
         → BooksTraced hash_of may_give begin came links books old.1 end → BooksTraced hash_of may_give begin came links books new.1 end

@@ -41,10 +41,10 @@ module _ (leaves : LinkState → (before after : ℕ) → Type 0) where
     abbrev pub RoundsTo : (old new : RoundState K) → Type 0
     RoundsTo old new = (rounds : MakesRounds hash_of now old new) × AreLetGo leaves (gone_in_rounds hash_of rounds) old.1.gone new.1.gone
 
-    pub one_round : (old new : RoundState K) (left : ℕ) → left ≡ 64 - old.1.awake → RoundTo old new → (rounds : RoundsTo old new) × (rounds.0.left ≡ left)
+    pub one_round : (old new : RoundState K) (left : ℕ) → left ≡ 256 - old.1.awake → RoundTo old new → (rounds : RoundsTo old new) × (rounds.0.left ≡ left)
     one_round old new left is round = (
       (
-        record { first = new; round = round.0; count = 0; left = 64 - old.1.awake; further = none_yet },
+        record { first = new; round = round.0; count = 0; left = 256 - old.1.awake; further = none_yet },
         go_then leaves (gone_after hash_of round.0) [] old.1.gone new.1.gone new.1.gone round.1 refl,
       ),
       sym is,

@@ -50,7 +50,7 @@ module _ {K : Type 0} (hash_of : K → List ℕ → ℕ) where
     pub visits : VisitsAll (as_caller hash_of) now old.1 visited old.0 new.0
     pub settles : SettlesFrom 0 visited new.1 old.2 new.2
 
-  -- A further round is made only while some of 64 visits are left and a guest is awake. It takes a visit for each guest
+  -- A further round is made only while some of 256 visits are left and a guest is awake. It takes a visit for each guest
   -- that was awake before it. The visits that are left stand beside what rounds change.
   pub record MakesFurtherRound (now : ℕ) (old new : ℕ × RoundState K) : Type 0 where
     pub some : 0 < old.0
@@ -64,7 +64,7 @@ module _ {K : Type 0} (hash_of : K → List ℕ → ℕ) where
     pub round : VisitsAndSettles now old first
     pub count : ℕ
     pub left : ℕ
-    pub further : Repeats (MakesFurtherRound now) count (64 - old.1.awake, first) (left, new)
+    pub further : Repeats (MakesFurtherRound now) count (256 - old.1.awake, first) (left, new)
 
   -- From one opening of the door to the next, at a moment that the clock may give: dead items are dropped when the clock had
   -- risen or writes lack chunks, rounds are made, the slowest are ended or judged, and the door is opened for those that wait.

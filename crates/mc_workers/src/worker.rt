@@ -29,7 +29,7 @@ use std::alloc::Global;
 use std::sync::Wait;
 
 /// After this many visits the links look for events, even if a guest is awake.
-const VISITS: usize = 64;
+const VISITS: usize = 256;
 
 /// The settings of a worker's loop.
 #[derive(Drop)]
@@ -52,7 +52,7 @@ pub struct Worker<'a, G: Gate, T: Tally, C: Clock> {
 impl<'a, G: Gate, T: Tally, C: RereadClock> Worker<'a, G, T, C> {
     /// Serves links until no link comes any more and all sessions have ended.
     ///
-    /// It makes rounds of the guests that are awake until none is, or 64 visits were made, and then
+    /// It makes rounds of the guests that are awake until none is, or 256 visits were made, and then
     /// admits up to 32 new links. The clock is read anew before these rounds, and all of their
     /// visits have its moment. When it has risen, the dead items of the next shelf in turn are
     /// dropped first; with more than 64 shelves it takes several, so that 64 risings reach all
@@ -152,7 +152,7 @@ pub fn work<
     worker.work(rt, alloc, shared, caller, links)
 }
 
-/// Makes a round at a moment, and further ones as long as a guest is awake, fewer than 64 visits
+/// Makes a round at a moment, and further ones as long as a guest is awake, fewer than 256 visits
 /// were made, and the links aren't due.
 ///
 /// A request takes four visits, and the links have nothing to add between them.

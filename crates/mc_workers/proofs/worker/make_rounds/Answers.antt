@@ -7,7 +7,7 @@ pub loop-init : goal.loop-init
 loop-init g c =
     let rounds =
     one_round _ g.K.KeyHash.hash_of c.args.now (c.args.counting.now, c.args.guests.now, c.args.end.now) (c.make_round.new.counting, c.make_round.new.guests, c.make_round.new.end) _
-    (c.saturating_sub-left.ensures ∙ ap (λ (n : ℕ). 64 - n) c.awake.ensures) c.make_round.ensures.round in
+    (c.saturating_sub-left.ensures ∙ ap (λ (n : ℕ). 256 - n) c.awake.ensures) c.make_round.ensures.round in
     (c.make_round.ensures.further, rounds.0, rounds.1)
 
 pub loop-preserved : goal.loop-preserved
