@@ -9,15 +9,17 @@
 //! With `--stdin` a run serves one session over standard input and output (`serving.rt`); otherwise
 //! it listens (`listening.rt`). Connections are accepted, dealt to workers and made links by
 //! `mc_sockets`. Metrics and the lines on standard error are in `mc_telemetry`. This crate has what
-//! is made before the first thread starts (`plan.rt`), the threads (`threads.rt`), and a thread's
-//! caller of the store (`client.rt`).
+//! is made before the first thread starts (`plan.rt`), the threads (`threads.rt`), a thread's caller
+//! of the store (`client.rt`, `reader.rt`), and how the callers of all threads are joined at the end
+//! (`crew.rt`).
 //!
 //! A socket's bytes and the scheduling of threads are unspecified, so contracts cover the rest:
-//! that a server is planned by its options, and ends only as they let it; and that `--stdin` serves
-//! a session of a new world. The rest is tested over sockets (tests/sockets); docs/GAPS.md lists
-//! what isn't proved.
+//! that a server is planned by its options, and ends only as they let it; that it has then answered
+//! all links that its workers admitted by one list of calls (`laws.rt`); and that `--stdin` serves a
+//! session of a new world. The rest is tested over sockets (tests/sockets); docs/GAPS.md lists what
+//! isn't proved.
 //!
-//! Begin with `running.rt`, `serving.rt` and `listening.rt`.
+//! Begin with `running.rt`, `serving.rt`, `listening.rt` and `laws.rt`.
 //!
 //! Tests: mc_server_tests, src/tests/tcp_tests.rt.
 #![tactic(auto)]
