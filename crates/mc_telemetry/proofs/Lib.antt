@@ -1,5 +1,4 @@
 pub mod LabelLemmas
 pub mod ListingLemmas
-pub mod PageLemmas
 pub mod WordsLemmas
 pub mod ScrapeLemmas
