@@ -39,8 +39,7 @@ pub trait SharedCount {
 impl SharedCount for AtomicU64 {
     ghost use Rattle.std.specs.Prelude.{⊤};
 
-    // Contracts promise nothing of a number that other threads change. One thread adds to it, so it
-    // stores the sum: no other addition is between, and none locks the cache line.
+    // Contracts promise nothing of a number that other threads change.
     ghost was_added = { λ _ _ _. ⊤ };
 
     ghost was_read = { λ _ _. ⊤ };
@@ -51,19 +50,17 @@ impl SharedCount for AtomicU64 {
 
     #[inline]
     fn add(&self, count: u64) -> u64 {
-        let before = self.load(Ordering::Relaxed);
-        self.store(before.wrapping_add(count), Ordering::Release);
-        before
+        self.fetch_add(count, Ordering::SeqCst)
     }
 
     #[inline]
     fn set(&self, number: u64) {
-        self.store(number, Ordering::Release);
+        self.store(number, Ordering::SeqCst);
     }
 
     #[inline]
     fn get(&self) -> u64 {
-        self.load(Ordering::Acquire)
+        self.load(Ordering::SeqCst)
     }
 }
 
