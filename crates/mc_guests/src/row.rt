@@ -360,7 +360,7 @@ fn push_behind<L: Link + Drop>(
     }
 }
 
-/// Returns the link of a guest that isn't put into the row, which is recorded there.
+/// Records at a guest's link that memory was refused, and returns the link.
 fn turned_away<L: Link + Drop>(mut guest: Guest<L>) -> L
     ensures { L.shown result ≡ guest.link }
 {
