@@ -6,6 +6,7 @@
 //! because its queue doubles its memory there: a line takes at most `OWN` bytes.
 ghost use Rattle.std.specs.Prelude.{◌≡◌, ◌↔◌, ◌<◌, ◌≤◌, ◌+◌, ℕ, List, length, option_copied, IfOk, IfSome, Some, None, [], IsTrue, IsFalse};
 ghost use Rattle.mc_protocol.specs.Commands.{longest_key};
+ghost use Rattle.mc_parse.specs.Announcing.{Announces};
 ghost use Rattle.mc_session.specs.Resting.{resting};
 ghost use Rattle.mc_guests.specs.Guests.{welcomed, has_ended, ends, IsWaiting};
 ghost use Rattle.mc_guests.specs.Links.{IsRoom};
@@ -269,7 +270,9 @@ impl<L: Link + Drop> Guest<L> {
     ///
     /// It counts bytes that haven't arrived too.
     pub(crate) fn unit(&self) -> usize
-        ensures { self.now.session.unread.bytes ≡ [] → result ≡ 0 }
+        ensures exact { Announces self.now.session.unread.greatest self.now.session.unread.bytes
+            result }
+        ensures none { self.now.session.unread.bytes ≡ [] → result ≡ 0 }
     {
         self.session.announced_bytes()
     }
@@ -278,6 +281,8 @@ impl<L: Link + Drop> Guest<L> {
     ///
     /// It counts bytes that haven't arrived too.
     pub(crate) fn announced_bytes(&self) -> usize
+        ensures exact { self.now.session.out ≡ [] → Announces self.now.session.unread.greatest
+            self.now.session.unread.bytes result }
         ensures unread { self.now.session.unread.bytes ≡ [] → result ≡ 0 }
         ensures out { (self.now.session.out ≡ [] → ⊥) → result ≡ 0 }
     {
