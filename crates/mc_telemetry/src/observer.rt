@@ -6,6 +6,7 @@
 ghost use Rattle.std.specs.Prelude.{◌≡◌, ◌<◌, ◌*◌, ℕ, IfOk, All, slice_index};
 ghost use Rattle.std.specs.Arc.{arc_value};
 ghost use Rattle.mc_metrics.specs.Sums.{IsSum, Counts, Refuses};
+ghost use Rattle.mc_metrics.specs.declared.counts.TheConstants.{COUNTED};
 
 use crate::process::process_now;
 use crate::stats::StoreStats;
@@ -89,7 +90,7 @@ fn values_of<C: SharedCount + Drop, R: Files + AllocGlobal + Wait + Clock, S: St
     rt: &R,
     stats: &mut S,
 ) -> Result<PageValues, AllocError>
-    ensures counts { IfOk result (λ values. (place : ℕ) → place < 20 → IsSum (λ worker.
+    ensures counts { IfOk result (λ values. (place : ℕ) → place < COUNTED → IsSum (λ worker.
         Counts C.was_read place (arc_value worker)) workers.now
         (slice_index values.counts place)) }
     ensures refused { IfOk result (λ values. All (λ row. IsSum (λ worker.
