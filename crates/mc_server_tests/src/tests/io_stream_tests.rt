@@ -60,7 +60,12 @@ fn a_stream_takes_two_texts_in_one_call(rt: HostRuntime) -> Result<(), Fail> {
         reader,
         writer: Vec::new(rt.alloc()),
     });
-    assert!(rt; matches!(stream.send(b"VALUE a 0 1\r\n", b"x", b"\r\n"), Sent::Bytes(16)));
+    assert!(rt;
+        matches!(
+            stream.send(b"VALUE a 0 1\r\n", b"x", b"\r\n"),
+            Sent::Bytes(16)
+        )
+    );
     assert!(rt; matches!(stream.send(b"", b"END\r\n", b""), Sent::Bytes(5)));
     assert!(rt; matches!(stream.send(b"STORED\r\n", b"", b""), Sent::Bytes(8)));
     let taken = stream.get().writer.as_slice();
