@@ -73,7 +73,7 @@ IsOwnTask _ _ = ⊥
 -- a server's workers are by the options, all its listeners count connections in one crowd of -c at most, and it ends and
 -- reports by the options
 pub record IsPlanOf (options : Options) (plan : ServerPlan) : Type 0 where
-  pub workers : ArePlansOf options plan.threads.workers.items
-  pub connections : most_of (arc_value plan.threads.crowd) ≡ options.connections
-  pub first : IsOneAcceptor (arc_value plan.threads.crowd) plan.own plan.threads.first
-  pub scrapes : ScrapesBy options (arc_value plan.threads.crowd) plan.own
+  pub workers : ArePlansOf options plan.threads.tasks.workers.items
+  pub connections : most_of (arc_value plan.threads.tasks.crowd) ≡ options.connections
+  pub first : IsOneAcceptor (arc_value plan.threads.tasks.crowd) plan.own plan.threads.tasks.first
+  pub scrapes : ScrapesBy options (arc_value plan.threads.tasks.crowd) plan.own

@@ -28,18 +28,13 @@ pub struct StoreClient<'a> {
 
 impl<'a> Model for StoreClient<'a> {
     ghost use Rattle.std.specs.Prelude.{◌≡◌};
-    ghost use Rattle.mc_run.specs.Clients.{ClientState, coded_client};
+    ghost use Rattle.mc_run.specs.Clients.{ClientState, client_of, coded_client};
 
     ghost Value = { ClientState };
 
     ghost coded = { coded_client };
 
-    ghost view = { λ a. record {
-      began = a.shared.now.began;
-      table = a.caller.table;
-      past =
-          a.caller.past;
-    } };
+    ghost view = { λ a. client_of a.shared.now.began a.caller };
 
     ghost invariant = { λ a. a.caller.table ≡ a.shared.now.table };
 }

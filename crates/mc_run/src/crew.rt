@@ -55,7 +55,7 @@ pub type ReaderThread = PromisedHandle<Caller, ReaderPromise>;
 #[derive(Drop)]
 pub struct Crew<'c, S: Clock> {
     pub client: StoreClient<'c>,
-    pub workers: Vec<PromisedHandle<(Caller, WorkEnd), WorkerPromise<S>>>,
+    pub workers: Vec<WorkerThread<S>>,
 }
 
 impl<'c, S: Clock> Crew<'c, S> {

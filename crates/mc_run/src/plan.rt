@@ -60,17 +60,32 @@ pub struct Entrance {
     pub crowd: Arc<ConnectionLimit>,
 }
 
-/// What the threads beside the program's own are to own.
+/// What the threads beside the program's own are to own, and what they are to report.
 #[derive(Drop)]
 pub struct ThreadPlan<'a> {
+    pub tasks: ThreadTasks,
+    pub options: &'a Options,
+}
+
+/// What the threads beside the program's own are to own.
+#[derive(Drop)]
+pub struct ThreadTasks {
     pub workers: Vec<WorkerPlan>,
     /// The first listener, unless the program's own thread accepts there.
     pub first: Option<Entrance>,
     /// One listener for each further thread that accepts.
     pub listeners: Vec<TcpListener>,
     pub crowd: Arc<ConnectionLimit>,
-    pub notice: StartLines<'a>,
-    /// Where the logger writes.
+    pub logger: LoggerTask,
+}
+
+/// What the thread of the logger is to own.
+#[derive(Drop)]
+pub struct LoggerTask {
+    pub diagnostics: Diagnostics,
+    /// How many descriptors the process may have, if the system reports it.
+    pub descriptors: Option<u64>,
+    /// Where it writes.
     pub outlet: ErrorOutput,
 }
 
@@ -150,13 +165,21 @@ fn plan_with<'a, R: AllocGlobal + Files + Clock>(
     let metrics = make_metrics(rt, notice, bound.door, &crowd, counts)?;
     let Listeners { first, others } = bound.listeners;
     let (own, first) = share_out(metrics, first, &crowd)?;
-    let threads = ThreadPlan {
+    let logger = LoggerTask {
+        diagnostics: notice.diagnostics,
+        descriptors: notice.descriptors,
+        outlet,
+    };
+    let tasks = ThreadTasks {
         workers: plans,
         first,
         listeners: others,
         crowd,
-        notice,
-        outlet,
+        logger,
+    };
+    let threads = ThreadPlan {
+        tasks,
+        options: notice.options,
     };
     Ok((ServerPlan { own, threads }, common))
 }

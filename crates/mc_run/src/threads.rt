@@ -18,9 +18,11 @@ ghost use Rattle.mc_run.specs.Meetings.{HasWorked, StartsOne, StartsNone, IsCrew
 use crate::client::StoreClient;
 use crate::clock::SharedClock;
 use crate::crew::{Crew, ReaderPromise, ReaderThread, WorkerPromise, join_readers, join_workers};
-use crate::plan::{Common, Entrance, OwnTask, ServerPlan, ThreadPlan, WorkerPlan};
+use crate::plan::{
+    Common, Entrance, LoggerTask, OwnTask, ServerPlan, ThreadPlan, ThreadTasks, WorkerPlan,
+};
 use crate::reader::{Origin, Reader};
-use mc_host::{AskedClock, Diagnostics, Wanting};
+use mc_host::{AskedClock, Wanting};
 use mc_options::Options;
 use mc_shared::Caller;
 use mc_sockets::{
@@ -41,14 +43,6 @@ use std::time;
 /// The name of the thread that writes to standard error.
 const LOGGER: &[u8] = b"logger";
 
-/// What the thread of the logger is to own.
-#[derive(Drop)]
-struct LoggerTask {
-    diagnostics: Diagnostics,
-    descriptors: Option<u64>,
-    outlet: ErrorOutput,
-}
-
 /// Serves connections until no more are accepted. Returns the client's caller, and what was wanting
 /// if a thread couldn't be started.
 ///
@@ -64,55 +58,25 @@ pub fn serve<R, S>(
 where
     R: Files + AllocGlobal + Wait + Threads + time::Clock + Sync,
     S: Clock + Sync,
-    ensures { Meet (S.may_give system.now) plan.entry.threads.workers.items client.entry.began
+    ensures { Meet (S.may_give system.now) plan.entry.threads.tasks.workers.items client.entry.began
         (caller_of client.entry) result }
 {
     let (shared, caller) = client.into_parts();
     let ServerPlan { own, threads } = plan;
-    let ThreadPlan {
-        workers,
-        first,
-        listeners,
-        crowd,
-        notice,
-        outlet,
-    } = threads;
-    let StartLines {
-        diagnostics,
-        options,
-        descriptors,
-    } = notice;
+    let ThreadPlan { tasks, options } = threads;
     // a closure that holds a struct with references would have no contract
     thread::scope(
         thread::scope_env(),
         rt,
         move |scope| -> (Caller, Result<(), Wanting>)
             requires { caller.table ≡ shared.now.table }
-            ensures { Meet (S.may_give system.entry.now) workers.items shared.entry.now.began
-                caller result }
+            ensures { Meet (S.may_give system.entry.now) tasks.workers.items
+                shared.entry.now.began caller result }
         {
-            let notice = StartLines {
-                diagnostics,
-                options,
-                descriptors,
-            };
-            let threads = ThreadPlan {
-                workers,
-                first,
-                listeners,
-                crowd,
-                notice,
-                outlet,
-            };
+            let threads = ThreadPlan { tasks, options };
             let plan = ServerPlan { own, threads };
-            serve_in(
-                scope,
-                rt,
-                plan,
-                StoreClient::new(shared, caller),
-                common,
-                system,
-            )
+            let client = StoreClient::new(shared, caller);
+            serve_in(scope, rt, plan, client, common, system)
         },
     )
 }
@@ -129,7 +93,7 @@ fn serve_in<'s, 'a: 's, 'b: 's, 'c: 's, 'd: 's, 'e: 's, E, R, S>(
 where
     R: Files + AllocGlobal + Wait + Threads + time::Clock + Sync,
     S: Clock + Sync,
-    ensures { Meet (S.may_give system.entry.now) plan.entry.threads.workers.items
+    ensures { Meet (S.may_give system.entry.now) plan.entry.threads.tasks.workers.items
         client.entry.began (caller_of client.entry) result }
 {
     let ServerPlan { own, threads } = plan;
@@ -186,20 +150,20 @@ fn start_all<'s, 'a: 's, 'b: 's, 'c: 's, 'd: 's, 'e: 's, E, R, S>(
 where
     R: AllocGlobal + Wait + Threads + time::Clock + Sync,
     S: Clock + Sync,
-    ensures some { (rest : _) × IsCrew system.entry.now plan.entry.workers.items rest
+    ensures some { (rest : _) × IsCrew system.entry.now plan.entry.tasks.workers.items rest
         (maker client.entry) result.0 }
-    ensures all { OnOk result.1 (IsCrew system.entry.now plan.entry.workers.items []
+    ensures all { OnOk result.1 (IsCrew system.entry.now plan.entry.tasks.workers.items []
         (maker client.entry) result.0 × IsOwed (maker client.entry) result.0) }
     ensures logger { IfOk result.1 (λ thread. thread.promise.0.value ≡ newcomer client.entry) }
 {
-    let ThreadPlan {
+    let ThreadPlan { tasks, options } = plan;
+    let ThreadTasks {
         workers,
         first,
         listeners,
         crowd,
-        notice,
-        outlet,
-    } = plan;
+        logger: task,
+    } = tasks;
     let mut client = client;
     let logger = client.caller();
     let logger = StoreClient::new(client.store(), logger);
@@ -210,10 +174,7 @@ where
     if let Err(wanting) = start_accepting(scope, rt, first, listeners, &crowd, common) {
         return (crew, Err(wanting));
     }
-    (
-        crew,
-        start_logger(scope, rt, notice, outlet, logger, common),
-    )
+    (crew, start_logger(scope, rt, options, task, logger, common))
 }
 
 /// Starts a thread for each listener at which the program's own thread doesn't accept.
@@ -350,8 +311,8 @@ where
 fn start_logger<'s, 'a: 's, 'b: 's, 'c: 's, 'd: 's, E, R>(
     scope: &Scope<'s, E>,
     rt: &'a R,
-    notice: StartLines<'b>,
-    outlet: ErrorOutput,
+    options: &'b Options,
+    task: LoggerTask,
     client: StoreClient<'c>,
     common: &'d Common,
 ) -> Result<ReaderThread, Wanting>
@@ -359,16 +320,6 @@ where
     R: AllocGlobal + Wait + Threads + time::Clock + Sync,
     ensures { IfOk result (λ thread. thread.promise.0.value ≡ caller_of client.entry) }
 {
-    let StartLines {
-        diagnostics,
-        options,
-        descriptors,
-    } = notice;
-    let task = LoggerTask {
-        diagnostics,
-        descriptors,
-        outlet,
-    };
     let (shared, caller) = client.into_parts();
     let promise = ReaderPromise(Snapshot::of(&caller));
     let writing = move || -> Caller

@@ -5,7 +5,7 @@ use Rattle.mc_shared.proofs.Sent.{tuple_send, lent, shared_lent, caller_send}
 use Rattle.mc_run.proofs.Sent.{common_lent, hasher_sync}
 use Rattle.mc_options.specs.contracts.options.Options as options
 use Rattle.mc_options.proofs.options.Options.TheSendSync as options_sent
-use Rattle.mc_run.proofs.threads.LoggerTask.TheSendSync as task
+use Rattle.mc_run.proofs.plan.LoggerTask.TheSendSync as task
 use Rattle.mc_run.proofs.threads.start_logger.Goals as goal
 
 pub spawn_with-requires-send-F : goal.spawn_with-requires-send-F
