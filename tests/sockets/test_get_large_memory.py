@@ -1,7 +1,6 @@
 """Large items that are sent from where they lie: what that saves, what it costs at most, and that no write is refused for it."""
 import contextlib
 import random
-import time
 
 from tests.lib.abuse import GIVEN_BACK, LITTLE, MB, costs
 from tests.lib.case import ProgramCase
@@ -17,54 +16,10 @@ READERS, SHARED = 40, 5 * MB
 LENGTHS = [480_000, 500_000, 1_000_000, 7_900_000]
 # Lengths of blocks, how many of them a page has, and how often each is written.
 CHUNKS = [(1_000_000, 1, 3), (300_000, 3, 2), (120_000, 8, 1), (40_000, 24, 1)]
-# Pages of a store, the limit of buffers in MiB, and what the program may have beside both.
-PAGES, LIMIT, BESIDE = 8, 32, 10 * MB
+# Pages of a store, and what the program may have beside them.
+PAGES, BESIDE = 8, 10 * MB
 # Who waits for room in the buffers has it in so many seconds.
 LET_ON = 60
-# So few bytes of an answer are left with the server when a client stops reading. It looks after so many bytes, and tries that so often.
-FEW, STEP, TRIES = 250_000, 8192, 8
-
-
-def set_anew(told, length):
-    """Has other items in all pages, so that each page is written again, and the item in another one."""
-    for number in range(PAGES):
-        told.asks(setting(b"new%d" % number, block(number, length)))
-    told.asks(b"".join(b"delete new%d\r\n" % number for number in range(PAGES)))
-    told.asks(setting(b"old", block(0, length)))
-
-
-def append(told, length):
-    """Writes to the page where it lies; a small request waits for nobody."""
-    told.asks(b"append old 0 0 16\r\n%s\r\n" % block(0, 16))
-
-
-def reads_nothing(reader, asked, length):
-    """Leaves all of the answer."""
-
-
-def leaves_the_last(reader, asked, length):
-    """Reads all of the answer but a few bytes, which the server still has."""
-    for _ in range(TRIES):
-        while (left := kept_bytes([reader], [length])[0]) > FEW:
-            upto, end = len(reader.got) + STEP, time.monotonic() + reader.seconds
-            while len(reader.got) < upto and reader.more(end):
-                pass
-        if left > 0:
-            return
-        reader.exactly(length)
-        reader.send(asked)
-        reader.begins()
-
-
-# How long the item is, how it is changed behind each reader, how many readers there are at most, and how far they read.
-BOUNDED = [
-    ("a page that is set anew", 1_000_000, set_anew, 22, reads_nothing),
-    ("a page that is appended to", 900_000, append, 80, reads_nothing),
-    ("half a page that is appended to", 494_000, append, 80, reads_nothing),
-    ("a chunk of 202,152 bytes that is appended to", 200_000, append, 100, reads_nothing),
-    ("a page, read but for its end", 900_000, append, 80, leaves_the_last),
-    ("half a page, read but for its end", 494_000, append, 80, leaves_the_last),
-]
 
 
 class GetLargeMemory(ProgramCase):
@@ -141,29 +96,6 @@ class GetLargeMemory(ProgramCase):
         if act < 0.8:
             return told.asks(b"touch %s %d\r\n" % (key, chance.choice([0, 100])))
         return told.asks(b"delete %s\r\n" % key)
-
-    def test_readers_of_items_that_are_written_again(self):
-        """Clients have parts of an item that is changed behind each of them: memory is bound by pages and the limit of buffers.
-
-        Who has the last bytes of a page has a page. Beyond the limit the slowest are closed."""
-        for name, length, change, count, reads in BOUNDED:
-            with self.subTest(name), StillServer(pages=PAGES, workers=1, buffers=LIMIT) as server, Peer(server.port, LET_ON) as peer:
-                told, readers, before = Told(peer, PAGES, MB), [], server.memory()
-                told.asks(setting(b"old", block(0, length)))
-                with contextlib.ExitStack() as closing:
-                    while len(readers) < count and all(it.got for it in readers):
-                        readers.append(closing.enter_context(Unread(server.port, b"get old\r\n")))
-                        if readers[-1].begins(0.5):
-                            reads(readers[-1], b"get old\r\n", len(told.answer(b"get old\r\n")))
-                        change(told, length)
-                    for _ in range(20):
-                        append(told, length)
-                    came = sum(bool(it.got) for it in readers)
-                    print(f"    {name}: {server.memory() - before >> 20} MB, {came} readers")
-                    self.assertGreaterEqual(came, count // 2, "readers that came")
-                    # the slowest of those that hold what has left are closed, at most 16 in a quarter of a second
-                    most = before + PAGES * MB + LIMIT * MB + BESIDE
-                    self.assertTrue(until(lambda: server.memory() <= most, 5), f"{server.memory() >> 20} MB, and {most >> 20} are meant to do")
 
     def test_each_chunk_is_written_while_it_is_read(self):
         """Each chunk of a store is written while a client reads it, and again: what was reserved for copies isn't in memory afterwards."""

@@ -53,7 +53,7 @@ LIES = {
         "test_idle_timeout.IdleTimeout.test_those_that_do_not_read",
         "test_idle_timeout.IdleTimeout.test_the_place_of_one_comes_back",
         f"{LENT_MEMORY}.test_readers_share_an_item",
-        f"{LENT_MEMORY}.test_readers_of_items_that_are_written_again",
+        "test_get_large_changed.GetLargeChanged.test_readers_of_items_that_are_written_again",
     ],
     "reads as it sends": [
         f"{LENT}.test_an_item_that_changes_while_it_is_read",
