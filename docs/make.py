@@ -23,7 +23,7 @@ import style  # noqa: E402
 from tests.lib import bodies, counts, examples  # noqa: E402
 
 # The run that README.md, docs/BENCHMARKS.md and both charts show.
-RUN = "bench/results/2026-12-01-211ab182.json"
+RUN = "bench/results/2026-12-01-60493260.json"
 # The workloads of README.md's table, and of its chart.
 SHOWN = ["get", "set", "get-32", "set-1m"]
 DRAWN = ["get", "set", "get-32", "set-32", "get-100-keys", "idle-1000", "get-100k", "set-1m"]
